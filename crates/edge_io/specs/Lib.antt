@@ -1,0 +1,4 @@
+pub mod Causes
+pub mod Content
+pub mod Sends
+pub mod Sending

@@ -1,0 +1,6 @@
+pub mod FieldLemmas
+pub mod HeadLemmas
+pub mod InboxLemmas
+pub mod ReadingLemmas
+pub mod Unique
+pub mod Ends

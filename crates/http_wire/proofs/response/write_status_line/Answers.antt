@@ -1,0 +1,32 @@
+use Rattle.std.proofs.lemmas.Result.{err_from_is_err_and}
+use Rattle.http_wire.specs.Response.{status_line}
+use Rattle.edge_io.specs.Sending.{adds_more, adds_fewer, sends_more}
+use Rattle.http_wire.proofs.response.write_status_line.Goals as goal
+
+pub returns-in_err-send-clause-sent : goal.returns-in_err-send-clause-sent
+unfolding status_line
+returns-in_err-send-clause-sent g c =
+    let p = err_from_is_err_and c.from_residual.result c.from_residual.ensures.1 in
+    rw p.1 (adds_fewer _ _ _ _ c.in_err-send.ensures.sent)
+
+pub returns-in_err-send_code-clause-sent : goal.returns-in_err-send_code-clause-sent
+unfolding status_line
+returns-in_err-send_code-clause-sent g c =
+    let p = err_from_is_err_and c.from_residual-in_err-send_code.result c.from_residual-in_err-send_code.ensures.1 in
+    rw p.1 (adds_more _ _ _ _ _ c.in_ok-send.ensures.sent (adds_fewer _ _ _ _ c.in_err-send_code.ensures.sent))
+
+pub returns-in_err-send-2-clause-sent : goal.returns-in_err-send-2-clause-sent
+unfolding status_line
+returns-in_err-send-2-clause-sent g c =
+    let p = err_from_is_err_and c.from_residual-in_err-send-2.result c.from_residual-in_err-send-2.ensures.1 in
+    rw p.1 (adds_more _ _ _ _ _ c.in_ok-send.ensures.sent (adds_more _ _ _ _ _ c.in_ok-send_code.ensures.sent (adds_fewer _ _ _ _ c.in_err-send-2.ensures.sent)))
+
+pub returns-in_err-send_phrase-clause-sent : goal.returns-in_err-send_phrase-clause-sent
+unfolding status_line
+returns-in_err-send_phrase-clause-sent g c =
+    let p = err_from_is_err_and c.from_residual-in_err-send_phrase.result c.from_residual-in_err-send_phrase.ensures.1 in
+    rw p.1 (adds_more _ _ _ _ _ c.in_ok-send.ensures.sent (adds_more _ _ _ _ _ c.in_ok-send_code.ensures.sent (adds_more _ _ _ _ _ c.in_ok-send-2.ensures.sent (adds_fewer _ _ _ _ c.in_err-send_phrase.ensures.sent))))
+
+pub returns-clause-sent : goal.returns-clause-sent
+unfolding status_line
+returns-clause-sent g c = sends_more _ _ _ _ _ _ c.in_ok-send.ensures.sent (sends_more _ _ _ _ _ _ c.in_ok-send_code.ensures.sent (sends_more _ _ _ _ _ _ c.in_ok-send-2.ensures.sent (sends_more _ _ _ _ _ _ c.in_ok-send_phrase.ensures.sent (c.send-3.ensures.sent))))

@@ -1,0 +1,160 @@
+//! The bytes that were read and not yet used.
+ghost use Rattle.std.specs.Prelude.{◌≡◌, ◌<◌, ◌≤◌, ◌+◌, ◌-◌, ◌++◌, [], List, ℕ, length, take, drop, slice_range, vec_len, IfOk, MatchResult};
+ghost use Rattle.std.specs.Io.KnownBytes.{prepend_known, IsAtEnd};
+ghost use Rattle.edge_io.specs.Causes.{HasCause, Rose};
+ghost use Rattle.http_wire.specs.declared.inbox.TheConstants.{ROOM};
+ghost use Rattle.http_wire.specs.Inboxes.{Held, LiesIn, part_of};
+
+use crate::Span;
+use edge_io::{Failed, Source};
+use kj_value::NoMemory;
+use std::alloc::Global;
+use std::marker::Model;
+
+/// Room for one head and one body.
+pub const ROOM: usize = 1_064_960;
+
+/// Bytes that were read, in the order in which they came. The last request that was read stays at their front until it
+/// is used.
+#[derive(Drop)]
+pub struct Inbox {
+    bytes: Vec<u8>,
+    start: usize,
+    end: usize,
+    request: usize,
+}
+
+impl Model for Inbox {
+    ghost Value = { Held };
+
+    ghost view = { λ i. record { bytes = slice_range i.bytes.items i.start i.end; request = i.request } };
+
+    ghost invariant = { λ i. (i.start ≤ i.end) × (i.end ≤ length i.bytes.items) × (length i.bytes.items ≡ ROOM) × (i.request ≤ i.end - i.start) };
+}
+
+// Reads behind the first `at` bytes.
+fn read_behind<S: Source>(bytes: &mut [u8], at: usize, input: &mut S) -> Result<usize, Failed>
+    requires { at < length bytes.old }
+    ensures kept { take at bytes.new ≡ take at bytes.old }
+    ensures bytes { MatchResult result
+        (λ n. S.left input.old ≡ prepend_known (take n (drop at bytes.new)) (S.left input.new))
+        (λ _. S.left input.new ≡ S.left input.old) }
+    ensures within { IfOk result (λ n. at + n ≤ length bytes.new) }
+    ensures end { IfOk result (λ n. n ≡ 0 → IsAtEnd (S.left input.new)) }
+    ensures cause { HasCause (S.faults input.old) (S.faults input.new) result }
+{
+    input.read(&mut bytes[at..])
+}
+
+// Makes room behind the bytes from `start` to `end`, and answers where they begin then. They are moved only where no
+// room is left, so that the bytes of a request are moved at most once.
+fn make_room(bytes: &mut [u8], start: usize, end: usize) -> usize
+    requires ordered { start ≤ end }
+    requires within { end ≤ length bytes.old }
+    ensures same { slice_range bytes.new result (result + (end - start)) ≡ slice_range bytes.old start end }
+    ensures room { end - start < length bytes.old → result + (end - start) < length bytes.new }
+    ensures within { result + (end - start) ≤ length bytes.new }
+{
+    if start == end {
+        return 0;
+    }
+    if end < bytes.len() {
+        return start;
+    }
+    bytes.copy_within(start..end, 0);
+    0
+}
+
+// Where the bytes that are held begin after a refill, and how many were read behind them.
+#[derive(Clone, Copy, Drop)]
+struct Refilled {
+    start: usize,
+    count: Result<usize, Failed>,
+}
+
+// Reads behind the bytes from `start` to `end`, and moves these where no room is left behind them.
+fn refill<S: Source>(bytes: &mut [u8], start: usize, end: usize, input: &mut S) -> Refilled
+    requires ordered { start ≤ end }
+    requires within { end ≤ length bytes.old }
+    requires room { end - start < length bytes.old }
+    ensures kept { slice_range bytes.new result.start (result.start + (end - start)) ≡ slice_range bytes.old start end }
+    ensures bytes { MatchResult result.count
+        (λ n. (bs : List ℕ) × (slice_range bytes.new result.start (result.start + (end - start) + n) ≡ slice_range bytes.old start end ++ bs)
+        × (S.left input.old ≡ prepend_known bs (S.left input.new)))
+        (λ _. S.left input.new ≡ S.left input.old) }
+    ensures behind { result.start + (end - start) ≤ length bytes.new }
+    ensures more { IfOk result.count (λ n. result.start + (end - start) + n ≤ length bytes.new) }
+    ensures end { IfOk result.count (λ n. n ≡ 0 → IsAtEnd (S.left input.new)) }
+    ensures cause { HasCause (S.faults input.old) (S.faults input.new) result.count }
+{
+    let at = make_room(bytes, start, end);
+    let count = read_behind(bytes, at + (end - start), input);
+    Refilled { start: at, count }
+}
+
+impl Inbox {
+    /// An empty inbox. It takes all its room now.
+    pub fn open(alloc: Global) -> Result<Inbox, NoMemory>
+        ensures { IfOk result (λ inbox. inbox ≡ record { bytes = []; request = 0 }) }
+    {
+        match vec![in alloc; 0u8; ROOM] {
+            Ok(bytes) => Ok(Inbox {
+                bytes,
+                start: 0,
+                end: 0,
+                request: 0,
+            }),
+            Err(_) => Err(NoMemory),
+        }
+    }
+
+    /// A part of what is held.
+    pub fn part(&self, span: Span) -> &[u8]
+        requires { LiesIn (length self.now.bytes) span }
+        ensures { result.now ≡ part_of self.now.bytes span }
+    {
+        let start = span.start as usize;
+        &self.held()[start..start + span.len as usize]
+    }
+
+    /// Drops the request that was read.
+    pub fn used(&mut self)
+        ensures { self.new ≡ record { bytes = drop self.old.request self.old.bytes; request = 0 } }
+    {
+        self.start += self.request;
+        self.request = 0;
+    }
+
+    /// The bytes that are held.
+    pub(crate) fn held(&self) -> &[u8]
+        ensures { result.now ≡ self.now.bytes }
+    {
+        &self.bytes[self.start..self.end]
+    }
+
+    /// Notes how many bytes the request has that was read.
+    pub(crate) fn note(&mut self, request: usize)
+        requires { request ≤ length self.old.bytes }
+        ensures { self.new ≡ record { bytes = self.old.bytes; request = request } }
+    {
+        self.request = request;
+    }
+
+    /// Reads some more bytes, and answers how many: none at the end of the input.
+    pub(crate) fn fill<S: Source>(&mut self, input: &mut S) -> Result<usize, Failed>
+        requires { length self.old.bytes < ROOM }
+        ensures bytes { prepend_known self.new.bytes (S.left input.new) ≡ prepend_known self.old.bytes (S.left input.old) }
+        ensures more { IfOk result (λ n. length self.new.bytes ≡ length self.old.bytes + n) }
+        ensures front { take (length self.old.bytes) self.new.bytes ≡ self.old.bytes }
+        ensures room { length self.new.bytes ≤ ROOM }
+        ensures end { IfOk result (λ n. n ≡ 0 → IsAtEnd (S.left input.new)) }
+        ensures cause { HasCause (S.faults input.old) (S.faults input.new) result }
+    {
+        let found = refill(&mut self.bytes, self.start, self.end, input);
+        self.end = found.start + (self.end - self.start);
+        self.start = found.start;
+        let count = found.count?;
+        self.end += count;
+        Ok(count)
+    }
+}
