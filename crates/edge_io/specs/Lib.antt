@@ -1,4 +1,13 @@
 pub mod Causes
 pub mod Content
+pub mod Connections
+pub mod Files
+pub mod Calls
+pub mod Memory
+pub mod MemoryFiles
+pub mod MemoryEars
+pub mod Numbered
+pub mod Returned
+pub mod Stamps
 pub mod Sends
 pub mod Sending

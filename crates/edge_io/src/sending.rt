@@ -9,6 +9,7 @@ use crate::{Failed, Sink};
 pub fn send<K: Sink>(out: &mut K, piece: &[u8]) -> Result<(), Failed>
     ensures sent { Sends (K.written out.old) (K.written out.new) piece.now result }
     ensures cause { HasCause (K.faults out.old) (K.faults out.new) result }
+    ensures number { K.number out.new ≡ K.number out.old }
 {
     let mut sent = 0;
     while sent < piece.len() {

@@ -1,4 +1,4 @@
-use Rattle.std.proofs.Common.{arith}
+use Rattle.std.proofs.Common.{arith, ◌∙◌}
 use Rattle.std.proofs.lemmas.Result.{err_from_is_err_and}
 use Rattle.edge_io.specs.Sending.{added_further, adds_front}
 use Rattle.edge_io.proofs.sending.send.Goals as goal
@@ -13,4 +13,5 @@ loop-sent-preserved g c = record {
   within = omega (arith, c.in_ok-count.ensures.bound);
   wrote = added_further _ _ _ _ _ _ _ c.loop-sent.invariant.wrote c.in_ok-count.ensures.bytes (omega (arith, c.in_ok-count.ensures.bound));
   later = omega (arith, c.in_ok-count.ensures.cause.later);
+  number = c.in_ok-count.ensures.number ∙ c.loop-sent.invariant.number;
 }

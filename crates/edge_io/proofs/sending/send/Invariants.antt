@@ -8,6 +8,7 @@ invariant-loop-sent g l = record {
   within : l.sent ≤ length l.piece;
   wrote : g.K.Sink.written l.out ≡ append_known (g.K.Sink.written l.fn.out) (take l.sent l.piece);
   later : g.K.Sink.faults l.fn.out ≤ g.K.Sink.faults l.out;
+  number : g.K.Sink.number l.out ≡ g.K.Sink.number l.fn.out;
 }
 
 abbrev pub decreases-loop-sent : goal.decreases-loop-sent
