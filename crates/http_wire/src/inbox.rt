@@ -3,19 +3,21 @@ ghost use Rattle.std.specs.Prelude.{◌≡◌, ◌<◌, ◌≤◌, ◌+◌, ◌-
 ghost use Rattle.std.specs.Io.KnownBytes.{prepend_known, IsAtEnd};
 ghost use Rattle.edge_io.specs.Causes.{HasCause, Rose};
 ghost use Rattle.http_wire.specs.declared.inbox.TheConstants.{ROOM};
+ghost use Rattle.http_wire.specs.Head.{HasNoWhole};
 ghost use Rattle.http_wire.specs.Inboxes.{Held, LiesIn, part_of};
 
 use crate::Span;
+use crate::limits::{MOST_BODY_BYTES, MOST_HEAD_BYTES};
 use edge_io::{Failed, Source};
 use kj_value::NoMemory;
 use std::alloc::Global;
 use std::marker::Model;
 
-/// Room for one head and one body.
-pub const ROOM: usize = 1_064_960;
+/// The bytes of one head and one body.
+pub const ROOM: usize = MOST_HEAD_BYTES + MOST_BODY_BYTES as usize;
 
 /// Bytes that were read, in the order in which they came. The last request that was read stays at their front until it
-/// is used.
+/// is used. Contracts see the bytes, and how many of them that request has: none before a read and after a fault.
 #[derive(Drop)]
 pub struct Inbox {
     bytes: Vec<u8>,
@@ -93,22 +95,20 @@ fn refill<S: Source>(bytes: &mut [u8], start: usize, end: usize, input: &mut S) 
 }
 
 impl Inbox {
-    /// An empty inbox. It takes all its room now.
+    /// An empty inbox. It takes all its memory now, some 1 MiB, so that no read takes any.
     pub fn open(alloc: Global) -> Result<Inbox, NoMemory>
         ensures { IfOk result (λ inbox. inbox ≡ record { bytes = []; request = 0 }) }
     {
-        match vec![in alloc; 0u8; ROOM] {
-            Ok(bytes) => Ok(Inbox {
-                bytes,
-                start: 0,
-                end: 0,
-                request: 0,
-            }),
-            Err(_) => Err(NoMemory),
-        }
+        let bytes = vec![in alloc; 0u8; ROOM]?;
+        Ok(Inbox {
+            bytes,
+            start: 0,
+            end: 0,
+            request: 0,
+        })
     }
 
-    /// A part of what is held.
+    /// A part of what is held, as one of the last request's parts.
     pub fn part(&self, span: Span) -> &[u8]
         requires { LiesIn (length self.now.bytes) span }
         ensures { result.now ≡ part_of self.now.bytes span }
@@ -117,7 +117,7 @@ impl Inbox {
         &self.held()[start..start + span.len as usize]
     }
 
-    /// Drops the request that was read.
+    /// Drops the request that was read. The bytes behind it stay.
     pub fn used(&mut self)
         ensures { self.new ≡ record { bytes = drop self.old.request self.old.bytes; request = 0 } }
     {
@@ -140,9 +140,11 @@ impl Inbox {
         self.request = request;
     }
 
-    /// Reads some more bytes, and answers how many: none at the end of the input.
+    /// Reads some more bytes, and answers how many: none at the end of the input. This is the one place where the input
+    /// is read, and nothing is read once a whole request is held.
     pub(crate) fn fill<S: Source>(&mut self, input: &mut S) -> Result<usize, Failed>
-        requires { length self.old.bytes < ROOM }
+        requires room { length self.old.bytes < ROOM }
+        requires needed { HasNoWhole self.old.bytes }
         ensures bytes { prepend_known self.new.bytes (S.left input.new) ≡ prepend_known self.old.bytes (S.left input.old) }
         ensures more { IfOk result (λ n. length self.new.bytes ≡ length self.old.bytes + n) }
         ensures front { take (length self.old.bytes) self.new.bytes ≡ self.old.bytes }

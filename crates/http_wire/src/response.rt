@@ -1,4 +1,4 @@
-//! Writing a response.
+//! Writing a response, piece by piece.
 ghost use Rattle.std.specs.Prelude.{◌≡◌, decimal};
 ghost use Rattle.edge_io.specs.Causes.{HasCause};
 ghost use Rattle.edge_io.specs.Sends.{Sends};
@@ -7,6 +7,9 @@ ghost use Rattle.http_wire.specs.Response.{HasPhrase, phrase, status_line, type_
 use edge_io::{Failed, Sink, send};
 use http::StatusCode;
 use itoa::Buffer;
+
+// The status whose response has no type.
+const METHOD_NOT_ALLOWED: u16 = 405;
 
 const VERSION: &[u8] = b"HTTP/1.1 ";
 
@@ -31,7 +34,7 @@ fn phrase_of(code: u16) -> &'static [u8]
 fn type_field(code: u16) -> &'static [u8]
     ensures { result.now ≡ type_field_of code }
 {
-    if code == 405 {
+    if code == METHOD_NOT_ALLOWED {
         b""
     } else {
         b"Content-Type: application/json\r\n"
@@ -107,7 +110,9 @@ fn write_length<K: Sink>(out: &mut K, len: usize) -> Result<(), Failed>
     send(out, LINE_END)
 }
 
-/// Writes a response. After an `Err` a front of it was written. It takes no memory.
+/// Writes the response of this code and body; a 405's body is to be empty. It has the fields `Content-Type:
+/// application/json` (but for a 405), `Content-Length`, and where it is the last one `Connection: close`. At `Failed` a
+/// front of it was written. It takes no memory, and doesn't flush (RFC 9112, section 4).
 pub fn write_response<K: Sink>(
     out: &mut K,
     code: u16,
