@@ -1,0 +1,18 @@
+//! Objects of Kubernetes as values: keys, metadata, names, and the document of an object.
+//!
+//! The crate's one contract: `write_object` answers the document of an object, as `specs/Document.antt` defines it.
+//! It knows nothing of versions, schemas, requests or stores.
+#![tactic(auto)]
+
+mod document;
+mod key;
+mod names;
+mod object;
+
+pub use document::write_object;
+pub use key::{Key, NAME_BYTES, NAMESPACE_BYTES};
+pub use names::{name_ok, namespace_ok};
+pub use object::{Meta, Object};
+
+#[cfg(test)]
+mod tests;

@@ -1,0 +1,31 @@
+//! An object and its metadata.
+use kj_value::{JFields, JItems, Stamp, TextList, TextMap, Txt};
+
+/// The metadata of an object, as far as it is kept: ObjectMeta of meta/v1.
+#[derive(Drop)]
+pub struct Meta {
+    pub name: Txt,
+    pub namespace: Txt,
+    pub labels: TextMap,
+    pub annotations: TextMap,
+    pub finalizers: TextList,
+    /// The `ownerReferences`, which nothing reads.
+    pub owners: JItems,
+    /// The `creationTimestamp`.
+    pub created: Option<Stamp>,
+    /// The `deletionTimestamp`.
+    pub deleted: Option<Stamp>,
+    /// 0 stands for none.
+    pub generation: i64,
+    pub resource_version: Option<Txt>,
+    pub uid: Option<Txt>,
+}
+
+/// An object: `body` has every top name but `apiVersion`, `kind` and `metadata`.
+#[derive(Drop)]
+pub struct Object {
+    pub api_version: Txt,
+    pub kind: Txt,
+    pub meta: Meta,
+    pub body: JFields,
+}
