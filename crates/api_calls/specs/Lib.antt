@@ -1,0 +1,4 @@
+pub mod Refusal
+pub mod Status
+pub mod Reply
+pub mod Uid
