@@ -1,0 +1,65 @@
+//! Answers the requests of standard input on standard output.
+#![tactic(auto)]
+
+use edge_io::{MemEars, RealClock, StdSink, StdSource, SureFiles};
+use kj_value::Txt;
+use kubeconv_cmd::{BAD_WORDS, NO_MEMORY, Words, run};
+use std::env;
+use std::io::{BufReader, BufWriter};
+use std::process::ExitCode;
+use std::time::Clock;
+
+// The words of the command line without the program's name, or the status where they can't be had.
+fn words(rt: &HostRuntime) -> Result<Words, u8> {
+    let mut words = Words::new(rt.alloc());
+    for word in env::args(rt).map_err(|_| BAD_WORDS)?.skip(1) {
+        words.push(Txt::of_string(word)).map_err(|_| NO_MEMORY)?;
+    }
+    Ok(words)
+}
+
+// The number of this start: the nanoseconds since 1970, modulo 2^64, and 0 where the system tells no time.
+fn boot_number(rt: &HostRuntime) -> u64 {
+    match rt.since_1970() {
+        Ok(since) => since
+            .as_secs()
+            .wrapping_mul(1_000_000_000)
+            .wrapping_add(u64::from(since.subsec_nanos())),
+        Err(_) => 0,
+    }
+}
+
+fn main(rt: HostRuntime) -> ExitCode {
+    let alloc = rt.alloc();
+    let words = match words(&rt) {
+        Ok(words) => words,
+        Err(status) => return ExitCode::from(status),
+    };
+    let Ok(reader) = BufReader::new(alloc, rt.stdin()) else {
+        return ExitCode::from(NO_MEMORY);
+    };
+    let Ok(writer) = BufWriter::new(alloc, rt.stdout()) else {
+        return ExitCode::from(NO_MEMORY);
+    };
+    let Ok(mut ears) = MemEars::new(alloc, Vec::new(alloc), Vec::new(alloc)) else {
+        return ExitCode::from(NO_MEMORY);
+    };
+    let boot = boot_number(&rt);
+    let mut files = SureFiles::new(Vec::new(alloc));
+    let mut input = StdSource::new(reader);
+    let mut output = StdSink::new(writer);
+    let mut errors = StdSink::new(rt.stderr());
+    let clock = RealClock::new(&rt);
+    ExitCode::from(run(
+        &rt,
+        alloc,
+        &words,
+        &mut files,
+        &mut input,
+        &mut output,
+        &mut errors,
+        &mut ears,
+        &clock,
+        boot,
+    ))
+}

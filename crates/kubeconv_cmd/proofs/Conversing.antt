@@ -1,0 +1,265 @@
+-- A conversation, step by step.
+use Rattle.std.proofs.Common.{◌≡◌, ◌∙◌, ℕ, ◌+◌, ◌-◌, ◌<◌, ◌≤◌, Bool, true, false, List, [], ◌∷◌, ◌++◌, Option, Some, inr, refl, ap, sym, subst, append_assoc, arith}
+use Rattle.std.proofs.lemmas.List.{append-nil}
+use Rattle.std.specs.Io.KnownBytes.{append_known}
+use Rattle.edge_io.specs.Causes.{Rose}
+use Rattle.edge_io.specs.Sending.{added_both, known_nil}
+use Rattle.kube_meta.specs.Key.{KeyView}
+use Rattle.api_calls.specs.Reply.{ReplyView}
+use Rattle.http_wire.specs.Head.{Request, Reads}
+use Rattle.http_wire.specs.Response.{says}
+use Rattle.http_wire.specs.Stream.{End, Asks, Stops, Follows, closed, closing, spent, torn, refused}
+use Rattle.http_wire.specs.Asking.{asks_more, asks_last, asks_end, asks_spent}
+use Rattle.http_wire.specs.declared.WireFault.{WireFault}
+use Rattle.kubeconv_cmd.specs.Faults.{last_words}
+use Rattle.kubeconv_cmd.specs.History.{Item}
+use Rattle.kubeconv_cmd.specs.Objects.{Stored}
+use Rattle.kubeconv_cmd.specs.Records.{Stands}
+use Rattle.kubeconv_cmd.specs.Replies.{Base, Answers}
+use Rattle.kubeconv_cmd.specs.Talk.{Talks, Conversation}
+use Rattle.kubeconv_cmd.specs.Steps.{AnsweredOne, Ends, Did, Refuses, step_of}
+use Rattle.kubeconv_cmd.specs.Conversed.{Replied, Served, Conversed}
+use Rattle.kubeconv_cmd.specs.declared.conversation.OneEnd.{OneEnd}
+use Rattle.kubeconv_cmd.specs.declared.conversation.OneEnd.TheVariants as steps
+use Rattle.kubeconv_cmd.specs.declared.conversation.PipeEnd.TheVariants.{ReadFault, WriteFault}
+
+-- ---- a conversation from its first step
+
+-- an answer, and then a conversation over the rest, are a conversation
+pub answered_one : (base : Base) (budget : ℕ) (items after : List Item) (bytes rest : List ℕ) (before mid written : Option (List ℕ)) (end : End)
+    → 0 < budget → AnsweredOne base false items after bytes rest before mid
+    → Conversation base (budget - 1) after rest mid written end
+    → Conversation base budget items bytes before written end
+unfolding Talks
+answered_one base budget items after bytes rest before mid written end some one more = record {
+  requests = one.request ∷ more.requests;
+  out = says one.answer.code one.answer.text false ++ more.out;
+  asks = asks_more budget bytes rest one.request more.requests end some one.one.reads one.asked more.asks;
+  talks = (one.answer, after, more.out, one.one.answers, rw one.asked refl, more.talks);
+  wrote = added_both before mid written (says one.answer.code one.answer.text false) more.out one.wrote more.wrote;
+}
+
+-- an answer to a request that asks for closing is the end
+pub answered_last : (base : Base) (budget : ℕ) (items after : List Item) (bytes rest : List ℕ) (before written : Option (List ℕ))
+    → 0 < budget → AnsweredOne base true items after bytes rest before written
+    → Conversation base budget items bytes before written closing
+unfolding Talks last_words
+answered_last base budget items after bytes rest before written some one = record {
+  requests = one.request ∷ [];
+  out = says one.answer.code one.answer.text true ++ [];
+  asks = asks_last budget bytes rest one.request some one.one.reads one.asked;
+  talks = (one.answer, after, [], one.one.answers, rw one.asked refl, refl);
+  wrote = one.wrote ∙ ap (λ (t : List ℕ). append_known before t) (sym (append-nil (says one.answer.code one.answer.text true)));
+}
+
+-- the input ends so
+pub ended_now : (base : Base) (budget : ℕ) (items : List Item) (bytes : List ℕ) (before written : Option (List ℕ)) (end : End)
+    → 0 < budget → Ends bytes before written end → Conversation base budget items bytes before written end
+unfolding Talks
+ended_now base budget items bytes before written end some ends = record {
+  requests = [];
+  out = last_words end;
+  asks = asks_end budget bytes end (ends.stops budget some);
+  talks = refl;
+  wrote = ends.wrote;
+}
+
+-- no more requests are read
+pub spent_now : (base : Base) (budget : ℕ) (items : List Item) (bytes : List ℕ) (before : Option (List ℕ))
+    → budget ≡ 0 → Conversation base budget items bytes before before spent
+unfolding Talks last_words
+spent_now base budget items bytes before none = record {
+  requests = [];
+  out = [];
+  asks = subst (λ (n : ℕ). Asks n bytes [] spent) (sym none) (asks_spent bytes);
+  talks = refl;
+  wrote = known_nil before;
+}
+
+-- ---- the answers so far
+
+follows_more : (b mid rest : List ℕ) (rs : List Request) (r : Request) → Follows b rs mid → Reads mid r rest → Follows b (rs ++ r ∷ []) rest
+unfolding Follows
+follows_more b mid rest [] r so_far reads = (rest, subst (λ (m : List ℕ). Reads m r rest) so_far reads, refl)
+follows_more b mid rest (q ∷ rs) r so_far reads = (so_far.0, so_far.1, follows_more so_far.0 mid rest rs r so_far.2 reads)
+
+replied_more : (base : Base) (items mid later : List Item) (rs : List Request) (r : Request) (a : ReplyView) (out : List ℕ)
+    → Replied base items rs out mid → r.closing ≡ false → Answers base mid r a later
+    → Replied base items (rs ++ r ∷ []) (out ++ says a.code a.text false) later
+unfolding Replied
+replied_more base items mid later [] r a out so_far stays answers = (
+  a,
+  later,
+  [],
+  stays,
+  subst (λ (is : List Item). Answers base is r a later) so_far.1 answers,
+  ap (λ (xs : List ℕ). xs ++ says a.code a.text false) so_far.0 ∙ sym (append-nil (says a.code a.text false)),
+  (refl, refl),
+)
+replied_more base items mid later (q ∷ rs) r a out so_far stays answers = (
+  so_far.0,
+  so_far.1,
+  so_far.2 ++ says a.code a.text false,
+  so_far.3,
+  so_far.4,
+  ap (λ (xs : List ℕ). xs ++ says a.code a.text false) so_far.5 ∙ append_assoc (says so_far.0.code so_far.0.text false) so_far.2 (says a.code a.text false),
+  replied_more base so_far.1 mid later rs r a so_far.2 so_far.6 stays answers,
+)
+
+served_more : (base : Base) (items after later : List Item) (bytes rest left : List ℕ) (before mid written : Option (List ℕ))
+    → Served base items after bytes rest before mid → AnsweredOne base false after later rest left mid written
+    → Served base items later bytes left before written
+served_more base items after later bytes rest left before mid written so_far one = record {
+  requests = so_far.requests ++ one.request ∷ [];
+  out = so_far.out ++ says one.answer.code one.answer.text false;
+  follows = follows_more bytes rest left so_far.requests one.request so_far.follows one.one.reads;
+  replied = replied_more base items after later so_far.requests one.request one.answer so_far.out so_far.replied one.asked one.one.answers;
+  wrote = added_both before mid written so_far.out (says one.answer.code one.answer.text false) so_far.wrote one.wrote;
+}
+
+served_none : (base : Base) (items : List Item) (bytes : List ℕ) (before : Option (List ℕ)) → Served base items items bytes bytes before before
+unfolding Follows Replied
+served_none base items bytes before = record {
+  requests = [];
+  out = [];
+  follows = refl;
+  replied = (refl, refl);
+  wrote = known_nil before;
+}
+
+-- ---- each conversation from here on goes on from a known beginning
+
+pub record GoesOn (base : Base) (budget now : ℕ) (items : List Item) (records : List (KeyView × Stored)) (bytes : List ℕ) (known before mid : Option (List ℕ)) : Type 0 where
+  pub after : List Item
+  pub stands : Stands records after
+  pub rest : List ℕ
+  pub known_is : known ≡ Some rest
+  pub whole : (written : Option (List ℕ)) (end : End)
+      → Conversation base (budget - now) after rest mid written end → Conversation base budget items bytes before written end
+  pub served : Served base items after bytes rest before mid
+
+pub goes_on_from : (base : Base) (budget : ℕ) (items : List Item) (records : List (KeyView × Stored)) (bytes : List ℕ) (known before : Option (List ℕ))
+    → Stands records items → known ≡ Some bytes → GoesOn base budget 0 items records bytes known before before
+goes_on_from base budget items records bytes known before stands is = record {
+  after = items;
+  stands = stands;
+  rest = bytes;
+  known_is = is;
+  whole = λ written end more. (let same : budget - 0 ≡ budget = omega arith in
+      subst (λ (n : ℕ). Conversation base n items bytes before written end) same more);
+  served = served_none base items bytes before;
+}
+
+-- what a step did, from where the conversation stands
+abbrev pub Steps : Base → OneEnd → List (KeyView × Stored) → List (KeyView × Stored) → Option (List ℕ) → Option (List ℕ) → Option (List ℕ) → Option (List ℕ) → Type 0
+Steps base step records later known left before written =
+    (b : List ℕ) (items : List Item) → known ≡ Some b → Stands records items → Did base step items later b left before written
+
+pub goes_on_more : (base : Base) (budget now : ℕ) (items : List Item) (records later : List (KeyView × Stored)) (bytes : List ℕ)
+    (known left before mid next : Option (List ℕ))
+    → now < budget
+    → GoesOn base budget now items records bytes known before mid
+    → Steps base steps.Answered records later known left mid next
+    → GoesOn base budget (now + 1) items later bytes left before next
+goes_on_more base budget now items records later bytes known left before mid next some so_far step =
+    let one = step so_far.rest so_far.after so_far.known_is so_far.stands in
+    record {
+      after = one.0;
+      stands = one.1;
+      rest = one.2;
+      known_is = one.3;
+      whole = λ written end more. so_far.whole written end
+          (answered_one base (budget - now) so_far.after one.0 so_far.rest one.2 mid next written end (omega arith) one.4
+          (let same : budget - (now + 1) ≡ (budget - now) - 1 = omega arith in
+          subst (λ (n : ℕ). Conversation base n one.0 one.2 next written end) same more));
+      served = served_more base items so_far.after one.0 bytes so_far.rest one.2 before mid next so_far.served one.4;
+    }
+
+pub goes_on_to : (base : Base) (budget now : ℕ) (items : List Item) (records : List (KeyView × Stored)) (bytes : List ℕ)
+    (known before mid written : Option (List ℕ)) (end : End)
+    → now < budget
+    → GoesOn base budget now items records bytes known before mid
+    → ((b : List ℕ) (is : List Item) → known ≡ Some b → Stands records is → Ends b mid written end)
+    → Conversation base budget items bytes before written end
+goes_on_to base budget now items records bytes known before mid written end some so_far step =
+    so_far.whole written end
+    (ended_now base (budget - now) so_far.after so_far.rest mid written end (omega arith) (step so_far.rest so_far.after so_far.known_is so_far.stands))
+
+pub goes_on_last : (base : Base) (budget now : ℕ) (items : List Item) (records later : List (KeyView × Stored)) (bytes : List ℕ)
+    (known left before mid written : Option (List ℕ))
+    → now < budget
+    → GoesOn base budget now items records bytes known before mid
+    → Steps base steps.Last records later known left mid written
+    → Conversation base budget items bytes before written closing
+goes_on_last base budget now items records later bytes known left before mid written some so_far step =
+    let one = step so_far.rest so_far.after so_far.known_is so_far.stands in
+    so_far.whole written closing (answered_last base (budget - now) so_far.after one.0 so_far.rest one.2 mid written (omega arith) one.4)
+
+pub goes_on_spent : (base : Base) (budget now : ℕ) (items : List Item) (records : List (KeyView × Stored)) (bytes : List ℕ) (known before mid : Option (List ℕ))
+    → budget ≤ now
+    → GoesOn base budget now items records bytes known before mid → Conversation base budget items bytes before mid spent
+goes_on_spent base budget now items records bytes known before mid done so_far =
+    so_far.whole mid spent (spent_now base (budget - now) so_far.after so_far.rest mid (omega arith))
+
+pub goes_on_unread : (base : Base) (budget now : ℕ) (items : List Item) (records later : List (KeyView × Stored)) (bytes : List ℕ) (known left before mid written : Option (List ℕ))
+    → GoesOn base budget now items records bytes known before mid
+    → Steps base steps.ReadFault records later known left mid written
+    → Conversed base budget items bytes before written ReadFault
+goes_on_unread base budget now items records later bytes known left before mid written so_far step =
+    let same = step so_far.rest so_far.after so_far.known_is so_far.stands in
+    (so_far.after, so_far.rest, subst (λ (w : Option (List ℕ)). Served base items so_far.after bytes so_far.rest before w) (sym same) so_far.served)
+
+pub goes_on_unwritten : (base : Base) (budget now : ℕ) (items : List Item) (records later : List (KeyView × Stored)) (bytes : List ℕ) (known left before mid written : Option (List ℕ))
+    → GoesOn base budget now items records bytes known before mid
+    → Steps base steps.WriteFault records later known left mid written
+    → Conversed base budget items bytes before written WriteFault
+goes_on_unwritten base budget now items records later bytes known left before mid written so_far step =
+    (so_far.after, so_far.rest, mid, so_far.served, step so_far.rest so_far.after so_far.known_is so_far.stands)
+
+-- ---- causes
+
+pub rose_since : (a b c : ℕ) → a ≤ b → Rose b c → Rose a c
+rose_since a b c later rose = omega arith
+
+-- ---- a step
+
+pub did_either : (base : Base) (closes : Bool) (items after : List Item) (records : List (KeyView × Stored)) (bytes rest : List ℕ) (known before written : Option (List ℕ))
+    → Stands records after → known ≡ Some rest → AnsweredOne base closes items after bytes rest before written
+    → Did base (step_of closes) items records bytes known before written
+did_either base true items after records bytes rest known before written stands is one = (after, stands, rest, is, one)
+did_either base false items after records bytes rest known before written stands is one = (after, stands, rest, is, one)
+
+pub did_refuse : (base : Base) (f : WireFault) (step : OneEnd) (items : List Item) (records : List (KeyView × Stored)) (bytes : List ℕ) (known before written : Option (List ℕ))
+    → ((budget : ℕ) → 0 < budget → Stops budget bytes (refused f))
+    → Refuses f before written step
+    → Did base step items records bytes known before written
+unfolding last_words
+did_refuse base f (steps.Refused g) items records bytes known before written stops refuses =
+    subst (λ (h : WireFault). Ends bytes before written (refused h)) refuses.0 (record { stops = stops; wrote = refuses.1 })
+did_refuse base f steps.WriteFault items records bytes known before written stops refuses =
+    inr (record { fault = f; stops = stops; some = refuses })
+did_refuse base f steps.Answered items records bytes known before written stops refuses = absurd refuses
+did_refuse base f steps.Last items records bytes known before written stops refuses = absurd refuses
+did_refuse base f steps.Closed items records bytes known before written stops refuses = absurd refuses
+did_refuse base f (steps.Torn held) items records bytes known before written stops refuses = absurd refuses
+did_refuse base f steps.ReadFault items records bytes known before written stops refuses = absurd refuses
+
+-- the input ended, and nothing more is written
+pub did_close : (bytes : List ℕ) (before : Option (List ℕ)) → ((budget : ℕ) → 0 < budget → Stops budget bytes closed) → Ends bytes before before closed
+unfolding last_words
+did_close bytes before stops = record { stops = stops; wrote = known_nil before }
+
+pub did_tear : (bytes : List ℕ) (before : Option (List ℕ)) (held : ℕ) → ((budget : ℕ) → 0 < budget → Stops budget bytes (torn held)) → Ends bytes before before (torn held)
+unfolding last_words
+did_tear bytes before held stops = record { stops = stops; wrote = known_nil before }
+
+-- a step by a server whose boot number is known under another name
+pub steps_at : (told : Option (List ℕ)) (m n : ℕ) (step : OneEnd) (records later : List (KeyView × Stored)) (known left before written : Option (List ℕ))
+    → m ≡ n → Steps (record { boot = m; told = told }) step records later known left before written
+    → Steps (record { boot = n; told = told }) step records later known left before written
+steps_at told m n step records later known left before written same did = λ b items is stands.
+    subst (λ (k : ℕ). Did (record { boot = k; told = told }) step items later b left before written) same (did b items is stands)
+
+-- no records stand for no items
+pub stands_none : (records : List (KeyView × Stored)) → records ≡ [] → Stands records []
+stands_none records none = subst (λ (es : List (KeyView × Stored)). Stands es []) (sym none) (record { found = λ key. refl; count = refl })
