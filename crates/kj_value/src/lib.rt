@@ -13,6 +13,7 @@ mod error;
 mod laws;
 mod names;
 mod reading;
+mod rule;
 mod stamp;
 mod texts;
 mod txt;
@@ -22,7 +23,9 @@ mod writing;
 
 pub use error::NoMemory;
 pub use laws::{one_reading, one_text, reading_depth, sound, text_reads};
+pub use names::{Named, seek};
 pub use reading::{JsonFault, MAX_LEVELS, read};
+pub use rule::Rule;
 pub use stamp::Stamp;
 pub use texts::{TextField, TextList, TextMap};
 pub use txt::Txt;

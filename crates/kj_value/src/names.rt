@@ -6,16 +6,17 @@ ghost use Rattle.kj_value.specs.Fields.{NamesRise, seek};
 
 use std::cmp::Ordering;
 
-// What stands at a name in an object or a map.
-pub(crate) trait Named {
+/// What stands at a name in an object, or in another list that is sorted by name.
+pub trait Named {
     ghost name_of: { Self → List ℕ };
 
+    /// The name. It takes no memory.
     fn name(&self) -> &str
         ensures { result.now ≡ name_of self.now };
 }
 
-// Where the name stands, or where it would go.
-pub(crate) fn seek<F: Named>(fields: &[F], name: &str) -> Result<usize, usize>
+/// Where the name stands among things whose names strictly rise by bytes, or else where it would go. It takes no memory.
+pub fn seek<F: Named>(fields: &[F], name: &str) -> Result<usize, usize>
     requires { NamesRise (map F.Named.name_of fields.now) }
     ensures { result ≡ seek name.now (map F.Named.name_of fields.now) }
 {
