@@ -1,5 +1,5 @@
 //! Each object once where it works and once where it fails.
-ghost use Rattle.std.specs.Prelude.{◌<◌};
+ghost use Rattle.std.specs.Prelude.{◌≡◌, ◌<◌};
 
 use crate::{
     Clock, Ears, Failed, FileFault, Files, FixedClock, MOST_FILE_BYTES, MemConnection, MemEars,
@@ -127,22 +127,52 @@ fn std_writers(rt: HostRuntime) {
     assert_eq!(rt; send(&mut StdSink::new(Does::One), b"abc"), Ok(()));
 }
 
+// One read: what it puts, or that it fails. The next step knows nothing of it but the origin, so that a test of many steps is
+// proved a step at a time.
+fn one_read<S: Source>(rt: &impl Abort, source: &mut S, want: Option<&[u8]>)
+    ensures { S.origin source.new ≡ S.origin source.old }
+{
+    let mut into = [0; 8];
+    let read = source.read(&mut into);
+    match want {
+        Some(bytes) => {
+            assert_eq!(rt; read, Ok(bytes.len()));
+            assert!(rt; into.starts_with(bytes));
+        }
+        None => assert_eq!(rt; read, Err(Failed)),
+    }
+}
+
+// One write: how much it takes, or that it fails.
+fn one_write<K: Sink>(rt: &impl Abort, sink: &mut K, piece: &[u8], want: Result<usize, Failed>)
+    ensures { K.number sink.new ≡ K.number sink.old }
+{
+    assert_eq!(rt; sink.write(piece), want);
+}
+
+fn one_flush<K: Sink>(rt: &impl Abort, sink: &mut K) {
+    assert_eq!(rt; sink.flush(), Ok(()));
+}
+
 #[test]
 fn sources_in_memory(rt: HostRuntime) -> Result<(), Fail> {
     let alloc = rt.alloc();
     let failing = vec![in alloc; 1u64]?;
     let mut source = MemSource::new(b"abcde".to_vec(alloc)?, 3, failing);
-    let mut into = [0; 8];
-    assert_eq!(rt; source.read(&mut into), Ok(3));
-    assert_eq!(rt; into[..3], b"abc".as_slice()[..]);
-    assert_eq!(rt; source.read(&mut into), Err(Failed));
+    one_read(&rt, &mut source, Some(b"abc"));
+    one_read(&rt, &mut source, None);
     assert_eq!(rt; source.left(), b"de".as_slice());
-    assert_eq!(rt; source.read(&mut into), Ok(2));
-    assert_eq!(rt; source.read(&mut into), Ok(0));
+    one_read(&rt, &mut source, Some(b"de"));
+    one_read(&rt, &mut source, Some(b""));
     assert_eq!(rt; source.calls(), 4);
     assert_eq!(rt; source.faults(), 1);
-    let mut sure = SureSource::new(b"abcde".to_vec(alloc)?);
-    assert_eq!(rt; sure.read(&mut into), Ok(5));
+    Ok(())
+}
+
+#[test]
+fn sure_sources(rt: HostRuntime) -> Result<(), Fail> {
+    let mut sure = SureSource::new(b"abcde".to_vec(rt.alloc())?);
+    one_read(&rt, &mut sure, Some(b"abcde"));
     assert!(rt; sure.left().is_empty());
     Ok(())
 }
@@ -152,29 +182,37 @@ fn sinks_in_memory(rt: HostRuntime) -> Result<(), Fail> {
     let alloc = rt.alloc();
     let failing = vec![in alloc; 0u64]?;
     let mut sink = MemSink::new(alloc, 3, failing)?;
-    assert_eq!(rt; sink.write(b"ab"), Err(Failed));
-    assert_eq!(rt; sink.write(b"ab"), Ok(2));
-    assert_eq!(rt; sink.write(b"cd"), Ok(1));
-    assert_eq!(rt; sink.write(b"d"), Err(Failed));
-    assert_eq!(rt; sink.flush(), Ok(()));
+    one_write(&rt, &mut sink, b"ab", Err(Failed));
+    one_write(&rt, &mut sink, b"ab", Ok(2));
+    one_write(&rt, &mut sink, b"cd", Ok(1));
+    one_write(&rt, &mut sink, b"d", Err(Failed));
+    one_flush(&rt, &mut sink);
     assert_eq!(rt; sink.bytes(), b"abc".as_slice());
     assert_eq!(rt; sink.calls(), 5);
     assert_eq!(rt; sink.faults(), 2);
-    assert_eq!(rt; SureSink.write(b"ab"), Ok(2));
-    assert_eq!(rt; SureSink.flush(), Ok(()));
     Ok(())
+}
+
+#[test]
+fn sure_sinks(rt: HostRuntime) {
+    one_write(&rt, &mut SureSink, b"ab", Ok(2));
+    one_flush(&rt, &mut SureSink);
 }
 
 fn named(alloc: Global, path: &str, bytes: Vec<u8>) -> Result<MemFile, Fail> {
     Ok(MemFile::new(Txt::of(alloc, path)?, bytes))
 }
 
-// What a path is read as: the number of bytes, or the fault.
-fn read_len<F: Files>(alloc: Global, files: &mut F, path: &str) -> Result<usize, FileFault> {
-    match files.read_file(alloc, path) {
-        Ok(text) => Ok(text.as_str().len()),
-        Err(fault) => Err(fault),
-    }
+// One look at a path: how many bytes it is read as, or the fault.
+fn has_len<F: Files>(
+    rt: &impl Abort,
+    alloc: Global,
+    files: &mut F,
+    path: &str,
+    want: Result<usize, FileFault>,
+) {
+    let read = files.read_file(alloc, path).map(|text| text.as_str().len());
+    assert_eq!(rt; read, want);
 }
 
 #[test]
@@ -186,18 +224,12 @@ fn files_in_memory(rt: HostRuntime) -> Result<(), Fail> {
     list.push(named(alloc, "long", vec![in alloc; 255u8; MOST_FILE_BYTES + 1]?)?)?;
     list.push(named(alloc, "bytes", vec![in alloc; 255u8]?)?)?;
     let mut files = MemFiles::new(list, vec![in alloc; 1u64]?);
-    assert_eq!(rt; read_len(alloc, &mut files, "a"), Ok(4));
-    assert_eq!(rt; read_len(alloc, &mut files, "a"), Err(FileFault::Failed));
-    assert_eq!(rt; read_len(alloc, &mut files, "full"), Ok(MOST_FILE_BYTES));
-    assert_eq!(rt;
-        read_len(alloc, &mut files, "long"),
-        Err(FileFault::TooLong)
-    );
-    assert_eq!(rt;
-        read_len(alloc, &mut files, "bytes"),
-        Err(FileFault::NotText)
-    );
-    assert_eq!(rt; read_len(alloc, &mut files, "b"), Err(FileFault::Failed));
+    has_len(&rt, alloc, &mut files, "a", Ok(4));
+    has_len(&rt, alloc, &mut files, "a", Err(FileFault::Failed));
+    has_len(&rt, alloc, &mut files, "full", Ok(MOST_FILE_BYTES));
+    has_len(&rt, alloc, &mut files, "long", Err(FileFault::TooLong));
+    has_len(&rt, alloc, &mut files, "bytes", Err(FileFault::NotText));
+    has_len(&rt, alloc, &mut files, "b", Err(FileFault::Failed));
     assert!(rt; files.bytes("a").is_some());
     assert_eq!(rt; files.calls(), 6);
     assert_eq!(rt; files.faults(), 2);
@@ -210,8 +242,8 @@ fn sure_files(rt: HostRuntime) -> Result<(), Fail> {
     let mut list = Vec::new(alloc);
     list.push(named(alloc, "a", b"text".to_vec(alloc)?)?)?;
     let mut files = SureFiles::new(list);
-    assert_eq!(rt; read_len(alloc, &mut files, "a"), Ok(4));
-    assert_eq!(rt; read_len(alloc, &mut files, "b"), Ok(0));
+    has_len(&rt, alloc, &mut files, "a", Ok(4));
+    has_len(&rt, alloc, &mut files, "b", Ok(0));
     Ok(())
 }
 
@@ -226,9 +258,8 @@ fn ears_in_memory(rt: HostRuntime) -> Result<(), Fail> {
     assert_eq!(rt; ears.listen("here"), Ok(()));
     assert!(rt; ears.next().is_err());
     let (mut input, mut output) = ears.next()?;
-    let mut into = [0; 8];
-    assert_eq!(rt; input.read(&mut into), Ok(2));
-    assert_eq!(rt; output.write(b"xyz"), Ok(3));
+    one_read(&rt, &mut input, Some(b"ab"));
+    one_write(&rt, &mut output, b"xyz", Ok(3));
     let ended = MemEars::shut(input, output);
     assert_eq!(rt; ended.written(), b"xyz".as_slice());
     ears.back(ended);
