@@ -4,3 +4,9 @@ pub mod Names
 pub mod View
 pub mod Document
 pub mod Following
+pub mod Plan
+pub mod PlanLaws
+pub mod Window
+pub mod WindowLaws
+pub mod WindowPairs
+pub mod Page

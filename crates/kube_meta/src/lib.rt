@@ -6,13 +6,17 @@
 
 mod document;
 mod key;
+mod limits;
 mod names;
 mod object;
+mod spot;
 
 pub use document::write_object;
 pub use key::{Key, NAME_BYTES, NAMESPACE_BYTES};
+pub use limits::{Condition, Limits, Room, RoomKind};
 pub use names::{name_ok, namespace_ok};
 pub use object::{Meta, Object};
+pub use spot::{KeySpot, NameSpot};
 
 #[cfg(test)]
 mod tests;

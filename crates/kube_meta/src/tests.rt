@@ -1,4 +1,7 @@
-use crate::{Key, Meta, Object, name_ok, namespace_ok, write_object};
+use crate::{
+    Key, KeySpot, Meta, NAME_BYTES, NAMESPACE_BYTES, NameSpot, Object, name_ok, namespace_ok,
+    write_object,
+};
 use kj_value::{
     JFields, JItems, JVal, MAX_LEVELS, NoMemory, Stamp, TextList, TextMap, Txt, depth, write,
 };
@@ -58,6 +61,57 @@ fn keys(rt: HostRuntime) -> Result<(), Fail> {
     assert_eq!(&rt; key.compare_with("a", "a"), Ordering::Greater);
     assert_eq!(&rt; key.compare_with("a-", "b"), Ordering::Less);
     Ok(())
+}
+
+fn spot_of(alloc: Global, ns: &str, name: &str) -> Result<KeySpot, Fail> {
+    if ns.len() > NAMESPACE_BYTES || name.len() > NAME_BYTES {
+        return Err(Fail::from("too long"));
+    }
+    Ok(Key::of(alloc, ns, name)?.spot())
+}
+
+fn key_order(alloc: Global, ns: &str, name: &str) -> Result<Ordering, Fail> {
+    let other = spot_of(alloc, ns, name)?;
+    Ok(spot_of(alloc, "default", "b")?.compare(&other))
+}
+
+fn name_order(name: &str) -> Option<Ordering> {
+    if name.len() > NAME_BYTES {
+        return None;
+    }
+    Some(NameSpot::of("m1").compare(&NameSpot::of(name)))
+}
+
+#[test]
+fn spot_holds_the_key(rt: HostRuntime) -> Result<(), Fail> {
+    let key = spot_of(rt.alloc(), "default", "b")?
+        .again()
+        .key(rt.alloc())?;
+    assert_eq!(&rt; key.ns(), "default");
+    assert_eq!(&rt; key.name(), "b");
+    Ok(())
+}
+
+#[test]
+fn spots_are_ordered(rt: HostRuntime) -> Result<(), Fail> {
+    assert_eq!(&rt; key_order(rt.alloc(), "default", "a")?, Ordering::Greater);
+    assert_eq!(&rt; key_order(rt.alloc(), "default", "b")?, Ordering::Equal);
+    assert_eq!(&rt; key_order(rt.alloc(), "default-2", "a")?, Ordering::Less);
+    Ok(())
+}
+
+#[test]
+fn spot_holds_the_name(rt: HostRuntime) -> Result<(), Fail> {
+    let name = NameSpot::of("m1").again().name(rt.alloc())?;
+    assert_eq!(&rt; name.as_str(), "m1");
+    Ok(())
+}
+
+#[test]
+fn name_spots_are_ordered(rt: HostRuntime) {
+    assert_eq!(&rt; name_order("m"), Some(Ordering::Greater));
+    assert_eq!(&rt; name_order("m1"), Some(Ordering::Equal));
+    assert_eq!(&rt; name_order("m10"), Some(Ordering::Less));
 }
 
 fn stamp(text: [u8; 20]) -> Option<Stamp> {
