@@ -12,10 +12,10 @@ use Rattle.http_wire.specs.Stream.{End, Asks, Stops, Follows, closed, closing, s
 use Rattle.http_wire.specs.Asking.{asks_more, asks_last, asks_end, asks_spent}
 use Rattle.http_wire.specs.declared.WireFault.{WireFault}
 use Rattle.kubeconv_cmd.specs.Faults.{last_words}
-use Rattle.kubeconv_cmd.specs.History.{Item}
-use Rattle.kubeconv_cmd.specs.Objects.{Stored}
-use Rattle.kubeconv_cmd.specs.Records.{Stands}
-use Rattle.kubeconv_cmd.specs.Replies.{Base, Answers}
+use Rattle.pipe_server.specs.History.{Item}
+use Rattle.pipe_server.specs.Objects.{Stored}
+use Rattle.pipe_server.specs.Records.{Stands}
+use Rattle.pipe_server.specs.Replies.{Base, Answers}
 use Rattle.kubeconv_cmd.specs.Talk.{Talks, Conversation}
 use Rattle.kubeconv_cmd.specs.Steps.{AnsweredOne, Ends, Did, Refuses, step_of}
 use Rattle.kubeconv_cmd.specs.Conversed.{Replied, Served, Conversed}

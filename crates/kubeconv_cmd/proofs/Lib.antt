@@ -1,9 +1,1 @@
-pub mod Segments
-pub mod Restored
-pub mod Submitting
-pub mod Keys
-pub mod Ascii
-pub mod Standing
-pub mod Codes
-pub mod Answering
 pub mod Conversing

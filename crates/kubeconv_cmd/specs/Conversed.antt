@@ -5,8 +5,8 @@ use Rattle.api_calls.specs.Reply.{ReplyView}
 use Rattle.http_wire.specs.Head.{Request}
 use Rattle.http_wire.specs.Response.{says}
 use Rattle.http_wire.specs.Stream.{Follows, closed, closing, spent, torn, refused}
-use Rattle.kubeconv_cmd.specs.History.{Item}
-use Rattle.kubeconv_cmd.specs.Replies.{Base, Answers}
+use Rattle.pipe_server.specs.History.{Item}
+use Rattle.pipe_server.specs.Replies.{Base, Answers}
 use Rattle.kubeconv_cmd.specs.Steps.{BreaksAnswer, BreaksRefusal}
 use Rattle.kubeconv_cmd.specs.Talk.{Conversation}
 use Rattle.kubeconv_cmd.specs.declared.conversation.PipeEnd.{PipeEnd}

@@ -2,7 +2,7 @@
 use Rattle.std.specs.Prelude.{◌≡◌, ◌==◌, ◌++◌, ℕ, List, [], ◌∷◌, Option, codes, if◌then◌else◌}
 use Rattle.http_wire.specs.Stream.{End, closed, closing, spent, torn, refused}
 use Rattle.http_wire.specs.declared.limits.TheConstants.{MOST_REQUESTS}
-use Rattle.kubeconv_cmd.specs.Replies.{Base}
+use Rattle.pipe_server.specs.Replies.{Base}
 use Rattle.kubeconv_cmd.specs.Talk.{Conversation}
 use Rattle.kubeconv_cmd.specs.declared.conversation.PipeEnd.{PipeEnd}
 use Rattle.kubeconv_cmd.specs.declared.conversation.PipeEnd.TheVariants.{Closed, Closing, Torn, Refused, Spent, ReadFault, WriteFault}

@@ -10,10 +10,10 @@ use Rattle.http_wire.specs.Stream.{End, Stops, closed, torn, refused}
 use Rattle.http_wire.specs.declared.WireFault.{WireFault}
 use Rattle.http_wire.specs.declared.WireFault.TheVariants as faults
 use Rattle.kubeconv_cmd.specs.Faults.{fault_words, last_words}
-use Rattle.kubeconv_cmd.specs.History.{Item}
-use Rattle.kubeconv_cmd.specs.Objects.{Stored}
-use Rattle.kubeconv_cmd.specs.Records.{Stands}
-use Rattle.kubeconv_cmd.specs.Replies.{Base, Answers}
+use Rattle.pipe_server.specs.History.{Item}
+use Rattle.pipe_server.specs.Objects.{Stored}
+use Rattle.pipe_server.specs.Records.{Stands}
+use Rattle.pipe_server.specs.Replies.{Base, Answers}
 use Rattle.kubeconv_cmd.specs.declared.conversation.OneEnd.{OneEnd}
 use Rattle.kubeconv_cmd.specs.declared.conversation.OneEnd.TheVariants.{Answered, Last, Closed, Torn, Refused, ReadFault, WriteFault}
 

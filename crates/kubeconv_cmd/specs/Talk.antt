@@ -5,8 +5,8 @@ use Rattle.api_calls.specs.Reply.{ReplyView}
 use Rattle.http_wire.specs.Head.{Request}
 use Rattle.http_wire.specs.Response.{says}
 use Rattle.http_wire.specs.Stream.{End, Asks}
-use Rattle.kubeconv_cmd.specs.History.{Item}
-use Rattle.kubeconv_cmd.specs.Replies.{Base, Answers}
+use Rattle.pipe_server.specs.History.{Item}
+use Rattle.pipe_server.specs.Replies.{Base, Answers}
 use Rattle.kubeconv_cmd.specs.Faults.{last_words}
 
 -- The bytes that answer these requests, one after the other, and then the end.

@@ -5,19 +5,18 @@ ghost use Rattle.edge_io.specs.Causes.{HasCause, Rose};
 ghost use Rattle.edge_io.specs.Sends.{Sends};
 ghost use Rattle.http_wire.specs.Response.{HasPhrase, says};
 ghost use Rattle.http_wire.specs.declared.limits.TheConstants.{MOST_REQUESTS};
-ghost use Rattle.kubeconv_cmd.specs.Answered.{answer_of};
+ghost use Rattle.pipe_server.specs.Answered.{answer_of};
 ghost use Rattle.kubeconv_cmd.specs.Faults.{fault_words};
-ghost use Rattle.kubeconv_cmd.specs.History.{Item};
-ghost use Rattle.kubeconv_cmd.specs.Records.{Stands};
-ghost use Rattle.kubeconv_cmd.specs.Replies.{Answers};
+ghost use Rattle.pipe_server.specs.History.{Item};
+ghost use Rattle.pipe_server.specs.Records.{Stands};
+ghost use Rattle.pipe_server.specs.Replies.{Answers};
 ghost use Rattle.http_wire.specs.Inboxes.{LiesIn, request_at};
 ghost use Rattle.kubeconv_cmd.specs.Steps.{Did, StepBlames, Refuses, step_of, IsHeadFault};
 ghost use Rattle.kubeconv_cmd.specs.Conversed.{Conversed, Blames};
 
-use crate::reply::{Answer, write_answer};
-use crate::server::Server;
 use edge_io::{Clock, Failed, Sink, Source};
 use http_wire::{Inbox, MOST_REQUESTS, RequestParts, WireFault, read_request, write_response};
+use pipe_server::{Answer, Server, write_answer};
 
 /// What came of reading one request and answering it.
 #[derive(Clone, Copy, Debug, PartialEq, Eq, Drop)]

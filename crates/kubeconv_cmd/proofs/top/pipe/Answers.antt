@@ -7,7 +7,7 @@ use Rattle.http_wire.specs.Stream.{End, closed, closing, spent, torn, refused, S
 use Rattle.http_wire.specs.declared.limits.TheConstants.{MOST_REQUESTS}
 use Rattle.http_wire.specs.declared.WireFault.TheVariants.{HeadTooLong}
 use Rattle.kubeconv_cmd.specs.Conversed.{Conversed}
-use Rattle.kubeconv_cmd.specs.Replies.{Base}
+use Rattle.pipe_server.specs.Replies.{Base}
 use Rattle.kubeconv_cmd.specs.Status.{status_of, pipe_status, Answered}
 use Rattle.kubeconv_cmd.specs.declared.conversation.PipeEnd.{PipeEnd}
 use Rattle.kubeconv_cmd.specs.declared.conversation.PipeEnd.TheVariants.{Closed, Closing, Torn, Refused, Spent, ReadFault, WriteFault}

@@ -1,0 +1,14 @@
+pub mod Definition
+pub mod Paths
+pub mod PathEnds
+pub mod Routes
+pub mod Objects
+pub mod Forms
+pub mod History
+pub mod Replies
+pub mod Submitted
+pub mod KeyList
+pub mod Records
+pub mod Answered
+pub mod Entering
+pub mod Outcomes

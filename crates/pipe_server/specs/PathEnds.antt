@@ -1,0 +1,11 @@
+-- For private clauses: the last segments of a path, behind `namespaces`.
+use Rattle.std.specs.Prelude.{◌≡◌, ℕ, List, [], ◌∷◌, Option, Some, None}
+use Rattle.pipe_server.specs.Definition.{plural}
+
+abbrev pub name_segments : Option (List ℕ) → List (List ℕ)
+name_segments None = []
+name_segments (Some name) = name ∷ []
+
+-- they are no namespace, plural and, maybe, name
+abbrev pub LacksPlace : List (List ℕ) → Type 0
+LacksPlace ss = (namespace : List ℕ) (name : Option (List ℕ)) → ss ≡ namespace ∷ plural ∷ name_segments name → ⊥
