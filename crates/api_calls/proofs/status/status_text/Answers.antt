@@ -1,6 +1,6 @@
-use Rattle.std.proofs.Common.{◌∙◌}
+use Rattle.api_calls.proofs.Fields.{depth-status_of}
 use Rattle.api_calls.proofs.status.status_text.Goals as goal
 
-pub returns-in_ok-of-in-NoMemory : goal.returns-in_ok-of-in-NoMemory
-returns-in_ok-of-in-NoMemory c =
-    rw c.in-NoMemory.is (c.in_ok-of-in-NoMemory.ensures ∙ c.no_memory_text.ensures c.args.plural.now c.args.group.now)
+pub write-requires : goal.write-requires
+write-requires c =
+    rw (c.in_ok-status.ensures, c.in_ok-details.ensures, c.in_ok-message.ensures, c.code_of-code.ensures, c.reason_of.ensures) (depth-status_of _ _ _)

@@ -1,0 +1,15 @@
+use Rattle.std.proofs.Common.{refl, []}
+use Rattle.api_calls.specs.Status.{subject}
+use Rattle.api_calls.proofs.Fields.{added_next}
+use Rattle.api_calls.proofs.message.object_message.Goals as goal
+
+pub returns : goal.returns
+unfolding subject
+returns c =
+    let e1 = added_next _ _ [] _ _ c.in_ok-push_str.ensures.bytes refl c.new-message.ensures.bytes in
+    let e2 = added_next _ _ _ _ _ c.in_ok-push_str-2.ensures.bytes refl e1 in
+    let e3 = added_next _ _ _ _ _ c.in_ok-push_str-3.ensures.bytes refl e2 in
+    let e4 = added_next _ _ _ _ _ c.in_ok-push_str-4.ensures.bytes refl e3 in
+    let e5 = added_next _ _ _ _ _ c.in_ok-push_str-5.ensures.bytes refl e4 in
+    let e6 = added_next _ _ _ _ _ c.in_ok-push_str-6.ensures.bytes refl e5 in
+    rw (c.in_ok-three.ensures, c.as_str.ensures.value, e6) refl
