@@ -1,0 +1,7 @@
+pub mod Numbers
+pub mod Views
+pub mod Rule
+pub mod Steps
+pub mod Turns
+pub mod Laws
+pub mod ViewCode

@@ -1,0 +1,4 @@
+mod Adding
+mod Serving
+mod Ticking
+mod AddingWorth
