@@ -1,9 +1,9 @@
-//! Does the work on JSON values that its words name, so many times, and prints how many bytes were
-//! written in all. It never tells the time: whoever runs it measures from outside.
+//! Does the work that its words name, so many times, and prints a count. It never tells the time: whoever runs it measures
+//! from outside.
 //!
-//! `json BYTES N` reads and writes a list of objects of about `BYTES` bytes `N` times, and
-//! `wide NAMES N` one object of `NAMES` names. With 0 for `N` only the document is made. It knows
-//! nothing of what the documents mean.
+//! `json BYTES N` reads and writes a list of objects of about `BYTES` bytes `N` times, and `wide NAMES N` one object of
+//! `NAMES` names; with 0 for `N` only the document is made. `turns THREADS N` takes the turn of one lock `N` times in each of
+//! 1, 2, 4 or 8 threads. It knows nothing of what the documents mean.
 #![tactic(auto)]
 
 mod documents;
@@ -11,14 +11,19 @@ mod rounds;
 mod task;
 #[cfg(test)]
 mod tests;
+mod turns;
 
 use rounds::{WorkFault, repeat};
 use std::alloc::Global;
 use std::env;
 use std::process::ExitCode;
+use std::sync::Wait;
+use std::thread::Threads;
 use task::{Task, task_of};
+use turns::take_turns;
 
-const USAGE: &str = "give `json BYTES N` or `wide NAMES N`, whole numbers below 2^32";
+const USAGE: &str =
+    "give `json BYTES N`, `wide NAMES N` or `turns THREADS N`, whole numbers below 2^32, and 1, 2, 4 or 8 threads";
 
 const FAILED: u8 = 1;
 
@@ -33,17 +38,22 @@ fn read_words(rt: &HostRuntime) -> Option<Task> {
     task_of(words.as_slice())
 }
 
-// The number of bytes that the task's rounds wrote.
-fn work(alloc: Global, task: &Task) -> Result<u64, WorkFault> {
+// What the task's rounds made, and how many: the bytes that were written, or the turns that were taken.
+fn work<R: Threads + Wait + Sync>(
+    rt: &R,
+    alloc: Global,
+    task: &Task,
+) -> Result<(u64, &'static str), WorkFault> {
     match task {
         Task::Json { bytes, rounds } => {
             let document = documents::objects(alloc, *bytes)?;
-            repeat(alloc, document.as_str(), *rounds)
+            Ok((repeat(alloc, document.as_str(), *rounds)?, "bytes"))
         }
         Task::Wide { names, rounds } => {
             let document = documents::wide(alloc, *names)?;
-            repeat(alloc, document.as_str(), *rounds)
+            Ok((repeat(alloc, document.as_str(), *rounds)?, "bytes"))
         }
+        Task::Turns { threads, rounds } => Ok((take_turns(rt, alloc, *threads, *rounds)?, "turns")),
     }
 }
 
@@ -52,8 +62,8 @@ fn main(rt: HostRuntime) -> ExitCode {
         let _ = eprintln!(rt; "kubeconv_bench: {USAGE}");
         return ExitCode::from(BAD_WORDS);
     };
-    match work(rt.alloc(), &task) {
-        Ok(count) => match println!(rt; "{count} bytes") {
+    match work(&rt, rt.alloc(), &task) {
+        Ok((count, made)) => match println!(rt; "{count} {made}") {
             Ok(()) => ExitCode::SUCCESS,
             Err(_) => {
                 let _ = eprintln!(rt; "kubeconv_bench: standard output can't be written");

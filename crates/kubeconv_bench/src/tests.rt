@@ -2,6 +2,7 @@
 
 use crate::documents::wide;
 use crate::task::{Task, task_of};
+use crate::turns::Threaded;
 use std::test::Fail;
 
 #[test]
@@ -17,6 +18,23 @@ fn words_name_a_task(rt: HostRuntime) -> Result<(), Fail> {
     };
     assert_eq!(rt; task_of(words.as_slice()), Some(task));
     assert_eq!(rt; task_of(&words.as_slice()[1..]), None);
+    Ok(())
+}
+
+#[test]
+fn words_name_threads(rt: HostRuntime) -> Result<(), Fail> {
+    let mut words = vec![in rt.alloc();
+        String::from_str(rt.alloc(), "turns")?,
+        String::from_str(rt.alloc(), "8")?,
+        String::from_str(rt.alloc(), "5")?,
+    ]?;
+    let task = Task::Turns {
+        threads: Threaded::Eight,
+        rounds: 5,
+    };
+    assert_eq!(rt; task_of(words.as_slice()), Some(task));
+    words[1] = String::from_str(rt.alloc(), "3")?;
+    assert_eq!(rt; task_of(words.as_slice()), None);
     Ok(())
 }
 
