@@ -1,0 +1,5 @@
+use Rattle.struct_schema.proofs.Sameness.{maps_differ}
+use Rattle.struct_schema.proofs.equality.+same_schema.Goals as goal
+
+pub same_fields-returns-then-xs-ys : goal.same_fields-returns-then-xs-ys
+same_fields-returns-then-xs-ys t c = maps_differ _ _ c.if-xs-ys.true

@@ -1,0 +1,11 @@
+use Rattle.std.proofs.Common.{not, Option, ap, sym, ◌∙◌}
+use Rattle.std.specs.Prelude.{is_some}
+use Rattle.kj_value.specs.Json.{Json}
+use Rattle.struct_schema.proofs.Lookups.{value_at-field}
+use Rattle.struct_schema.proofs.keywords.is_missing.Goals as goal
+
+pub returns-in-None : goal.returns-in-None
+returns-in-None c = ap (λ (o : Option Json). not (is_some o)) (c.in-None.ensures ∙ sym (value_at-field c.args.name.now c.args.fields.now))
+
+pub returns-in-Some : goal.returns-in-Some
+returns-in-Some c = ap (λ (o : Option Json). not (is_some o)) (c.in-Some.ensures ∙ sym (value_at-field c.args.name.now c.args.fields.now))

@@ -1,0 +1,15 @@
+pub mod Shape
+pub mod KindNumber
+pub mod ShapeCode
+pub mod ShapeOf
+pub mod ShapeFalls
+pub mod Names
+pub mod Keywords
+pub mod Valid
+pub mod Path
+pub mod Fault
+pub mod Told
+pub mod Filled
+pub mod Stays
+pub mod ShapeSame
+pub mod ShapeInside

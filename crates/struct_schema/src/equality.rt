@@ -1,0 +1,182 @@
+//! Whether two schemas are one.
+ghost use Rattle.std.specs.Prelude.{◌≡◌, ◌↔◌, ◌&&◌, IsTrue, map, option_map};
+ghost use Rattle.std.specs.Str.{bytes_eq};
+ghost use Rattle.kj_value.specs.Seen.{json};
+ghost use Rattle.kj_value.specs.Same.{json_same};
+ghost use Rattle.kj_value.specs.Texts.{bytes_of};
+ghost use Rattle.struct_schema.specs.Shape.{map_of, maybe_of, shapes_of};
+ghost use Rattle.struct_schema.specs.ShapeOf.{shape_of, own_of, named_shape};
+ghost use Rattle.struct_schema.specs.ShapeSame.{all_same, kinds_same, same_bound, bounds_same, same_format, same_choices, same_default, parts_same, own_same, shape_same, shapes_same, map_same, maybe_same};
+
+use crate::keywords::alike;
+use crate::kind::{IntFormat, format_number, kind_number};
+use crate::schema::{Schema, SchemaBox, SchemaField, SchemaMap};
+use kj_value::{JItems, JVal, Txt};
+
+/// Whether two schemas say the same in every keyword, those inside of them too. The lists of `enum` and
+/// `required` count in their order. It takes no memory.
+pub fn equal(a: &Schema, b: &Schema) -> bool
+    ensures { IsTrue result ↔ (shape_of a.now ≡ shape_of b.now) }
+{
+    same_schema(a, b)
+}
+
+fn kinds_same(a: &Schema, b: &Schema) -> bool
+    ensures { result ≡ kinds_same (own_of a.now) (own_of b.now) }
+{
+    kind_number(a.kind) == kind_number(b.kind)
+        && a.preserve == b.preserve
+        && a.nullable == b.nullable
+}
+
+fn same_bound(a: Option<i64>, b: Option<i64>) -> bool
+    ensures { result ≡ same_bound a b }
+{
+    match (a, b) {
+        (None, None) => true,
+        (Some(x), Some(y)) => x == y,
+        (None, Some(_)) => false,
+        (Some(_), None) => false,
+    }
+}
+
+fn bounds_same(a: &Schema, b: &Schema) -> bool
+    ensures { result ≡ bounds_same (own_of a.now) (own_of b.now) }
+{
+    same_bound(a.minimum, b.minimum)
+        && same_bound(a.maximum, b.maximum)
+        && same_bound(a.min_length, b.min_length)
+        && same_bound(a.max_length, b.max_length)
+        && same_bound(a.min_items, b.min_items)
+        && same_bound(a.max_items, b.max_items)
+}
+
+fn same_format(a: Option<IntFormat>, b: Option<IntFormat>) -> bool
+    ensures { result ≡ same_format a b }
+{
+    match (a, b) {
+        (None, None) => true,
+        (Some(x), Some(y)) => format_number(x) == format_number(y),
+        (None, Some(_)) => false,
+        (Some(_), None) => false,
+    }
+}
+
+fn same_values(xs: &[JVal], ys: &[JVal]) -> bool
+    ensures { result ≡ all_same json_same (map json xs.now) (map json ys.now) }
+{
+    if xs.len() != ys.len() {
+        return false;
+    }
+    for i in 0..xs.len() {
+        if !alike(&xs[i], &ys[i]) {
+            return false;
+        }
+    }
+    true
+}
+
+fn same_choices(a: &Option<JItems>, b: &Option<JItems>) -> bool
+    ensures { result ≡ same_choices a.now b.now }
+{
+    match (a, b) {
+        (None, None) => true,
+        (Some(x), Some(y)) => same_values(x.as_slice(), y.as_slice()),
+        (None, Some(_)) => false,
+        (Some(_), None) => false,
+    }
+}
+
+fn same_names(xs: &[Txt], ys: &[Txt]) -> bool
+    ensures { result ≡ all_same bytes_eq (map bytes_of xs.now) (map bytes_of ys.now) }
+{
+    if xs.len() != ys.len() {
+        return false;
+    }
+    for i in 0..xs.len() {
+        if xs[i].as_str() != ys[i].as_str() {
+            return false;
+        }
+    }
+    true
+}
+
+fn same_default(a: &Option<JVal>, b: &Option<JVal>) -> bool
+    ensures { result ≡ same_default (option_map json a.now) (option_map json b.now) }
+{
+    match (a, b) {
+        (None, None) => true,
+        (Some(x), Some(y)) => alike(x, y),
+        (None, Some(_)) => false,
+        (Some(_), None) => false,
+    }
+}
+
+fn parts_same(a: &Schema, b: &Schema) -> bool
+    ensures { result ≡ parts_same (own_of a.now) (own_of b.now) }
+{
+    same_format(a.format, b.format)
+        && same_choices(&a.choices, &b.choices)
+        && same_names(a.required.as_slice(), b.required.as_slice())
+        && same_default(&a.default_value, &b.default_value)
+}
+
+// The keywords of two nodes, but for the schemas inside.
+fn same_own(a: &Schema, b: &Schema) -> bool
+    ensures { result ≡ own_same (own_of a.now) (own_of b.now) }
+{
+    kinds_same(a, b) && bounds_same(a, b) && parts_same(a, b)
+}
+
+#[cycle(same_schema)]
+fn same_schema(a: &Schema, b: &Schema) -> bool
+    ensures { result ≡ shape_same (shape_of a.now) (shape_of b.now) }
+{
+    same_own(a, b)
+        && same_properties(&a.properties, &b.properties)
+        && same_node(&a.additional, &b.additional)
+        && same_node(&a.items, &b.items)
+}
+
+#[cycle(same_schema)]
+fn same_properties(a: &Option<SchemaMap>, b: &Option<SchemaMap>) -> bool
+    ensures { result ≡ map_same (map_of a.now) (map_of b.now) }
+{
+    match (a, b) {
+        (None, None) => true,
+        (Some(x), Some(y)) => same_fields(x.as_slice(), y.as_slice()),
+        (None, Some(_)) => false,
+        (Some(_), None) => false,
+    }
+}
+
+#[cycle(same_schema)]
+fn same_node(a: &Option<SchemaBox>, b: &Option<SchemaBox>) -> bool
+    ensures { result ≡ maybe_same (maybe_of a.now) (maybe_of b.now) }
+{
+    match (a, b) {
+        (None, None) => true,
+        (Some(x), Some(y)) => same_schema(x.get(), y.get()),
+        (None, Some(_)) => false,
+        (Some(_), None) => false,
+    }
+}
+
+#[cycle(same_schema)]
+#[tactic(auto, using(crate::specs::ShapeInside::schema_depth))]
+fn same_fields(xs: &[SchemaField], ys: &[SchemaField]) -> bool
+    ensures { result
+        ≡ shapes_same (shapes_of (map named_shape xs.now)) (shapes_of (map named_shape ys.now)) }
+{
+    if xs.len() != ys.len() {
+        return false;
+    }
+    for i in 0..xs.len() {
+        let x = &xs[i];
+        let y = &ys[i];
+        if x.name.as_str() != y.name.as_str() || !same_schema(&x.schema, &y.schema) {
+            return false;
+        }
+    }
+    true
+}

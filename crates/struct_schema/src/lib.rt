@@ -1,0 +1,33 @@
+//! Structural schemas (apiextensions.k8s.io/v1): what values they allow, and what values are without
+//! anything that pruning would take out and defaulting would set.
+//!
+//! The one contract: contracts see a `Schema` as the `Shape` that `shape_of` gives. `check` is Ok exactly
+//! where `valid` holds of the shape and the value, and else names the first fault of one fixed walk;
+//! `is_filled` is true exactly where `Filled` relates the value to itself; `equal` and `copy_schema` speak
+//! of the shape as a whole.
+//!
+//! A walk over a value takes three or four calls a level of its lists and objects, one over a schema three a
+//! level of its nodes.
+//!
+//! It knows nothing of objects, versions, requests or the document that a schema stands in.
+#![tactic(auto)]
+
+mod checking;
+mod copies;
+mod equality;
+mod filling;
+mod keywords;
+mod kind;
+mod schema;
+mod trouble;
+
+pub use checking::check;
+pub use copies::copy_schema;
+pub use equality::equal;
+pub use filling::is_filled;
+pub use kind::{IntFormat, NodeKind};
+pub use schema::{Schema, SchemaBox, SchemaField, SchemaMap};
+pub use trouble::CheckFault;
+
+#[cfg(test)]
+mod tests;
