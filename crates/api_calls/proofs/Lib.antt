@@ -11,10 +11,13 @@ pub mod Held
 pub mod Names
 pub mod OneDocument
 pub mod Stored
+pub mod StoredBytes
 pub mod ExampleServer
 pub mod ExampleWrites
 pub mod ExampleMigrations
 pub mod ExamplePages
 pub mod ExampleFinalizers
 pub mod ExampleRanges
+pub mod StartBodies
 pub mod Tokens
+pub mod VersionNames

@@ -1,6 +1,8 @@
 -- The documents that the server shows beside objects and refusals.
-use Rattle.std.specs.Prelude.{ℕ, pos, List, [], ◌∷◌, ◌++◌, Option, None, Some, map, codes, decimal, nat_eq, if◌then◌else◌}
+use Rattle.std.specs.Prelude.{◌≡◌, ◌≢◌, ◌↔◌, ℕ, pos, ◌<◌, true, List, [], ◌∷◌, ◌++◌, Option, None, Some, map, codes, decimal, nat_eq, if◌then◌else◌}
 use Rattle.std.specs.Ordering.{nat_cmp, is_gt}
+use Rattle.std.specs.declared.cmp.Ordering.TheVariants.{Greater}
+use Rattle.std.specs.List.{IsDistinct}
 use Rattle.std.specs.Cmp.Lexicographic.{slice_cmp}
 use Rattle.kj_value.specs.Json.{Json, whole, text, list, object, no_members, members_of, items_of}
 use Rattle.kj_value.specs.Text.{text_of}
@@ -11,6 +13,10 @@ use Rattle.kube_meta.specs.declared.limits.Condition.{Condition}
 use Rattle.kube_meta.specs.declared.limits.Condition.TheVariants.{Running, Succeeded, Failed}
 use Rattle.api_calls.specs.Meaning.{Meaning}
 use Rattle.api_calls.specs.Uid.{uid}
+use Rattle.api_calls.specs.declared.flags.Flags.{Flags}
+use Rattle.api_calls.specs.State.{served}
+use Rattle.api_calls.specs.Legal.{Each, In}
+use Rattle.api_calls.specs.Priority.{priority_cmp}
 
 -- ---- objects
 
@@ -64,10 +70,40 @@ deleted_status m name id = object (members_of (
     ∷ (codes "status", text (codes "Success"))
     ∷ []))
 
+-- ---- the group
+
+-- versions of which none stands before one that is to be preferred to it
+abbrev pub AreRanked : Meaning → List ℕ → Type 0
+AreRanked m [] = Unit {0}
+AreRanked m (v ∷ vs) = Each (λ w. priority_cmp (m.name v) (m.name w) ≢ Greater) vs × AreRanked m vs
+
+-- the served versions, each once, in the order of their priority
+pub record AreOffered (m : Meaning) (f : Flags) (vs : List ℕ) : Type 0 where
+  pub served : (v : ℕ) → In v vs ↔ ((v < m.count) × (served f v ≡ true))
+  pub once : IsDistinct nat_eq vs
+  pub ranked : AreRanked m vs
+
+-- a version as its group tells it (GroupVersionForDiscovery)
+abbrev pub group_member : Meaning → ℕ → Json
+group_member m v = object (members_of ((codes "groupVersion", text (group_version m v)) ∷ (codes "version", text (m.name v)) ∷ []))
+
+-- the APIGroup of a version that is preferred to every other, and of the others
+unfoldable pub group_document : Meaning → ℕ → List ℕ → Json
+group_document m v vs = object (members_of (
+    (codes "apiVersion", text (codes "v1"))
+    ∷ (codes "kind", text (codes "APIGroup"))
+    ∷ (codes "name", text m.group)
+    ∷ (codes "preferredVersion", group_member m v)
+    ∷ (codes "versions", list (items_of (map (group_member m) (v ∷ vs))))
+    ∷ []))
+
 -- ---- migrations
 
-abbrev pub migration_version : Json
-migration_version = text (codes "storagemigration.k8s.io/v1alpha1")
+abbrev pub migration_version : List ℕ
+migration_version = codes "storagemigration.k8s.io/v1alpha1"
+
+abbrev pub migration_kind : List ℕ
+migration_kind = codes "StorageVersionMigration"
 
 unfoldable pub condition_word : Condition → List ℕ
 condition_word Running = codes "Running"
@@ -77,8 +113,8 @@ condition_word Failed = codes "Failed"
 -- a StorageVersionMigration of this resource, with the condition that is true of it and the target
 unfoldable pub migration_document : Meaning → Migration → Json
 migration_document m q = object (members_of (
-    (codes "apiVersion", migration_version)
-    ∷ (codes "kind", text (codes "StorageVersionMigration"))
+    (codes "apiVersion", text migration_version)
+    ∷ (codes "kind", text migration_kind)
     ∷ (codes "metadata", object (members_of ((codes "name", text q.name) ∷ [])))
     ∷ (
       codes "spec",
@@ -109,7 +145,7 @@ by_name (q ∷ qs) = placed q (by_name qs)
 -- a list of migrations, by name
 unfoldable pub migration_list : Meaning → List Migration → Json
 migration_list m qs = object (members_of (
-    (codes "apiVersion", migration_version)
+    (codes "apiVersion", text migration_version)
     ∷ (codes "items", list (items_of (map (migration_document m) (by_name qs))))
     ∷ (codes "kind", text (codes "StorageVersionMigrationList"))
     ∷ (codes "metadata", object no_members)

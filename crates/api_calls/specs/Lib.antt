@@ -23,7 +23,8 @@ pub mod Pages
 pub mod WriteGuards
 pub mod SettingGuards
 pub mod WorkGuards
-pub mod Documents
 pub mod Token
 pub mod Priority
+pub mod Documents
+pub mod Bodies
 pub mod Replies

@@ -1,5 +1,5 @@
 -- The priority of versions (Kubernetes, "Versions in CustomResourceDefinitions", "Version priority").
-use Rattle.std.specs.Prelude.{ℕ, Bool, not, ◌&&◌, ◌||◌, if◌then◌else◌, List, [], ◌∷◌, length, drop, nat_eq, nat_le, ◌==◌, codes, Option, Some, None}
+use Rattle.std.specs.Prelude.{ℕ, ◌^◌, Bool, not, ◌&&◌, ◌||◌, if◌then◌else◌, List, [], ◌∷◌, ◌++◌, length, drop, nat_eq, nat_le, ◌==◌, codes, decimal, Option, Some, None}
 use Rattle.std.specs.Char.{is_ascii_digit}
 use Rattle.std.specs.List.{list_all, starts_with, take_while}
 use Rattle.std.specs.Ordering.{nat_cmp, on, then_cmp, flip_args}
@@ -66,6 +66,19 @@ letter_v = 118
 unfoldable pub version_of : List ℕ → Version
 version_of [] = other
 version_of (b ∷ bs) = if b == letter_v then numbered bs else other
+
+-- the names that tell N and M, which are decimal numbers of at most 9 digits
+abbrev pub numbers_end : ℕ
+numbers_end = 10 ^ 9
+
+abbrev pub ga_name : ℕ → List ℕ
+ga_name n = codes "v" ++ decimal n
+
+abbrev pub beta_name : ℕ → ℕ → List ℕ
+beta_name n m = codes "v" ++ (decimal n ++ (codes "beta" ++ decimal m))
+
+abbrev pub alpha_name : ℕ → ℕ → List ℕ
+alpha_name n m = codes "v" ++ (decimal n ++ (codes "alpha" ++ decimal m))
 
 -- by stage, then the larger N first, then the larger M first, then by bytes
 abbrev pub version_cmp : Version → Version → Ordering

@@ -1,5 +1,5 @@
 -- What the one-thread server replies to each call at a list of items, and the item that the call enters.
-use Rattle.std.specs.Prelude.{◌≡◌, ◌⊎◌, ℕ, Bool, List, [], ◌∷◌, ◌++◌, Option, None, Some, Result, Ok, Err, MatchOption, MatchBool, IsTrue, codes, nat_eq, if◌then◌else◌}
+use Rattle.std.specs.Prelude.{◌≡◌, ◌⊎◌, ℕ, List, [], ◌∷◌, ◌++◌, Option, None, Some, Result, Ok, Err, MatchOption, MatchBool, IsTrue, codes, nat_eq, if◌then◌else◌}
 use Rattle.kj_value.specs.Json.{Json}
 use Rattle.kj_value.specs.Text.{text_of}
 use Rattle.kj_value.specs.declared.rule.Rule.TheVariants.{Forbidden, Unknown}
@@ -28,7 +28,8 @@ use Rattle.api_calls.specs.Writes.{create_decision, ReplaceDecision, DeleteDecis
 use Rattle.api_calls.specs.Settings.{set_decision, trim_decision, start_decision}
 use Rattle.api_calls.specs.Pages.{PageEnd, Place, page_decision}
 use Rattle.api_calls.specs.Pages as page
-use Rattle.api_calls.specs.Documents.{reply_text, numbered, object_list, deleted_status, migration_document, migration_list, definition_name}
+use Rattle.api_calls.specs.Documents.{reply_text, numbered, object_list, deleted_status, AreOffered, group_document, migration_kind, migration_document, migration_list, definition_name}
+use Rattle.api_calls.specs.Bodies.{IsServedDelete, RefusesStart, Starts}
 
 -- an answer: a reply or a refusal
 abbrev pub Answer : Type 0
@@ -180,17 +181,25 @@ Deleted m boot v k h e a = Wrote m boot code_ok v k.name h e a
 abbrev pub kept_value : List ℕ → ObjectView → ObjectView
 kept_value stamp old = if is_marked old then old else marked stamp old
 
--- a delete of the object of a key, at the clock's stamp; `asked` tells that its options are served
-abbrev pub DeleteReply : Meaning → ℕ → ℕ → State → ℕ → Bool → KeyView → List ℕ → Answer → Option Item → Type 0
-DeleteReply m boot n s v asked k stamp a i =
+abbrev pub Deletes : Meaning → ℕ → ℕ → State → ℕ → KeyView → List ℕ → Answer → Option Item → Type 0
+Deletes m boot n s v k stamp a i =
+    (old : ObjectView) × (d : Decision WriteEnd) × DeleteDecision m n s v k stamp old d
+    × Deleted m boot v k (kept_value stamp old) d.answer a × (i ≡ d.item)
+
+-- a delete of the object of a key, at the clock's stamp
+abbrev pub DeleteReply : Meaning → ℕ → ℕ → State → ℕ → List ℕ → KeyView → List ℕ → Answer → Option Item → Type 0
+DeleteReply m boot n s v body k stamp a i =
     MatchBool (served s.flags v)
-    (MatchBool asked
-    ((old : ObjectView) × (d : Decision WriteEnd) × DeleteDecision m n s v k stamp old d
-    × Deleted m boot v k (kept_value stamp old) d.answer a × (i ≡ d.item))
-    ((a ≡ Err (refusal.bad_request bad_options)) × (i ≡ None)))
+    ((IsServedDelete body × Deletes m boot n s v k stamp a i)
+    ⊎ ((IsServedDelete body → ⊥) × (a ≡ Err (refusal.bad_request bad_options)) × (i ≡ None)))
     ((a ≡ Err refusal.no_resource) × (i ≡ None))
 
--- ---- the definition
+-- ---- the group and the definition
+
+-- the APIGroup with the versions that are served
+abbrev pub GroupReply : Meaning → State → Answer → Option Item → Type 0
+GroupReply m s a i =
+    ((v : ℕ) × (vs : List ℕ) × AreOffered m s.flags (v ∷ vs) × (a ≡ said code_ok (text_of (group_document m v vs)))) × (i ≡ None)
 
 abbrev pub CrdReply : Meaning → State → Answer → Option Item → Type 0
 CrdReply m s a i = (a ≡ said code_ok (m.shown s.flags s.stored)) × (i ≡ None)
@@ -235,10 +244,18 @@ start_answer m name taken = Err (refusal.already_exists name)
 start_answer m name (busy other) = Err (refusal.migration_running other)
 start_answer m name (no_room room) = Err (refusal.full room)
 
--- a start of a migration whose body gives this name
+-- why a body starts no migration
+abbrev pub start_refusal : Fault → RefusalView
+start_refusal (bad_request why) = refusal.bad_request why
+start_refusal (invalid name cause) =
+    refusal.invalid (record { kind_group = migration_kind ++ (codes ".storagemigration.k8s.io"); name = name }) cause
+
+-- a start of a migration
 abbrev pub StartReply : Meaning → Limits → State → List ℕ → Answer → Option Item → Type 0
-StartReply m limits s name a i =
-    (a ≡ start_answer m name (start_decision limits s name).answer) × (i ≡ (start_decision limits s name).item)
+StartReply m limits s body a i =
+    ((f : Fault) × RefusesStart m body f × (a ≡ Err (start_refusal f)) × (i ≡ None))
+    ⊎ ((name : List ℕ) × Starts m body name
+    × (a ≡ start_answer m name (start_decision limits s name).answer) × (i ≡ (start_decision limits s name).item))
 
 abbrev pub MigrationReply : Meaning → State → List ℕ → Answer → Option Item → Type 0
 MigrationReply m s name a i =

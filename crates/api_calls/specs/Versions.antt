@@ -1,10 +1,11 @@
 -- What the versions of a definition promise, in the relations of its meaning.
-use Rattle.std.specs.Prelude.{◌≡◌, ◌↔◌, ℕ, ℤ, pos, ◌<◌, ◌≤◌, true, List, ◌++◌, length, take, All, Option, None, IsSome, IfSome, slice_get, option_map, codes, nat_eq, FitsSigned, IsUtf8, Some, false}
+use Rattle.std.specs.Prelude.{◌≡◌, ◌↔◌, ℕ, ℤ, pos, ◌<◌, ◌≤◌, true, List, ◌++◌, length, take, All, Option, None, IsSome, IfSome, slice_get, option_map, codes, nat_eq, FitsSigned, IsUtf8, Some, false, flat_map}
 use Rattle.std.specs.Int.{w64}
 use Rattle.std.specs.Str.{IsAscii}
 use Rattle.std.specs.List.{IsDistinct}
 use Rattle.kj_value.specs.Json.{depth}
 use Rattle.kj_value.specs.Sound.{IsSound}
+use Rattle.kj_value.specs.Text.{escaped_byte}
 use Rattle.kj_value.specs.Fields.{Pairs, field}
 use Rattle.kube_meta.specs.View.{ObjectView}
 use Rattle.kube_meta.specs.Document.{document}
@@ -43,16 +44,18 @@ pub record IsStoredList (count : ℕ) (s : StoredList) : Type 0 where
 
 -- ---- objects of a definition
 
--- a stamp has 20 ASCII bytes
+-- a stamp has 20 ASCII bytes, of which JSON text escapes none
 pub record IsStamp (s : List ℕ) : Type 0 where
   pub bytes : length s ≡ 20
   pub ascii : IsAscii s
+  pub plain : flat_map escaped_byte s ≡ s
 
--- stamps and a generation that an object can have
+-- stamps and a generation that an object can have: a generation is no negative number
 pub record AreStamps (birth end : Option (List ℕ)) (number : ℤ) : Type 0 where
   pub created : IfSome birth IsStamp
   pub deleted : IfSome end IsStamp
   pub generation : FitsSigned w64 number
+  pub counted : (n : ℕ) × (number ≡ pos n)
 
 -- the body leaves the three names to the object's own values
 pub record IsBody (body : Pairs) : Type 0 where

@@ -6,13 +6,16 @@ ghost use Rattle.kube_meta.specs.View.{ObjectView};
 ghost use Rattle.kube_meta.specs.Plan.{Migration, running, is_done};
 ghost use Rattle.kube_meta.specs.Window.{IsFloor, above};
 ghost use Rattle.kube_meta.specs.declared.limits.Limits.{Limits};
-ghost use Rattle.api_calls.specs.Meaning.{Meaning};
+ghost use Rattle.api_calls.specs.Meaning.{Fault, Meaning};
 ghost use Rattle.api_calls.specs.Item.{Entry, Item, MarkSucceeded, StartMigration, entry};
 ghost use Rattle.api_calls.specs.Objects.{Stored, find};
 ghost use Rattle.api_calls.specs.State.{entry_effect, next_number, state};
 ghost use Rattle.api_calls.specs.Legal.{Each, MaySucceed, legal};
 ghost use Rattle.api_calls.specs.Snap.{Supersedes, by_number, floor, past_weight, snap, superseded, window};
 ghost use Rattle.api_calls.specs.Laws.{Holds, IsSound, KeepsStorage, Leaves, MarkedAreHeld, Writes, away, touches_of};
+ghost use Rattle.api_calls.specs.Bodies.{RefusesStart, Starts};
+
+use kj_value::one_reading;
 
 /// What has a meaning.
 pub trait Means {
@@ -84,3 +87,13 @@ pub fn rebuilt<V: Means>()
         → Holds (record (state (V.meaning it) log) { objects = snap (V.meaning it) log r }) e
         ↔ ((e.number ≤ r) × (Holds (state (V.meaning it) log) e ⊎ Supersedes r e (superseded (V.meaning it) log))) }
 {}
+
+/// A body starts a migration of one name or is refused, and not both.
+pub fn start_decided<V: Means>()
+    ensures one { (it : V) (body n k : List ℕ) → Starts (V.meaning it) body n → Starts (V.meaning it) body k → n ≡ k }
+    ensures excludes { (it : V) (body name : List ℕ) (f : Fault) → Starts (V.meaning it) body name → RefusesStart (V.meaning it) body f → ⊥ }
+    ensures complete { (it : V) (body : List ℕ) → ((name : List ℕ) → Starts (V.meaning it) body name → ⊥)
+        → ((f : Fault) → RefusesStart (V.meaning it) body f → ⊥) → ⊥ }
+{
+    one_reading()
+}

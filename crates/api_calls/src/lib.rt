@@ -1,7 +1,10 @@
-//! The words in which the server answers: refusals with their status texts, replies, and uids.
+//! The words in which the server is asked and answers, and what they mean: refusals with their Status texts, replies, uids,
+//! continue tokens, the priority of versions, and the versions of a definition as the server asks for them.
 //!
-//! The crate's one contract: the text of a refusal is the compact text of the Kubernetes Status that
-//! `specs/Status.antt` defines. It knows nothing of connections, stores or schemas.
+//! The crate's one contract: whoever speaks of the server's history speaks of the one in `specs`. A list of items has one
+//! state, a call at a list has one decision with its reply, and `laws` are what holds of every legal list. The texts that
+//! the crate makes are those that `specs/Status`, `specs/Token` and `specs/Uid` define. It knows nothing of connections,
+//! stores, threads or schemas.
 #![tactic(auto)]
 
 mod cause;
@@ -22,7 +25,7 @@ mod why;
 pub use cause::Cause;
 pub use flags::{Flags, StoredList};
 pub use item::LogItem;
-pub use ranking::{priority, priority_total};
+pub use ranking::{priority, priority_total, version_names};
 pub use refusal::{Refusal, Subject};
 pub use reply::Reply;
 pub use status::{code_of, no_memory_text, status_text};
@@ -31,6 +34,7 @@ pub use tool::{NoTool, NoTools, Tool, Tools};
 pub use uid::{BORN_END, UID_BYTES, uid_into, uid_of};
 pub use versions::{
     AdmitFault, Admitted, ConvFault, Incoming, OBJECT_LEVELS, Versions, one_stored, one_weight,
+    stored_fits,
 };
 pub use why::Why;
 

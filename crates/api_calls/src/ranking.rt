@@ -1,9 +1,10 @@
 //! The priority of versions.
-ghost use Rattle.std.specs.Prelude.{◌≡◌, ◌≤◌, length, option_map};
+ghost use Rattle.std.specs.Prelude.{◌≡◌, ◌≢◌, ◌<◌, ◌≤◌, ℕ, List, decimal, length, option_map};
+ghost use Rattle.std.specs.Ordering.{nat_cmp};
 ghost use Rattle.std.specs.List.{list_all};
 ghost use Rattle.std.specs.Char.{is_ascii_digit};
 ghost use Rattle.std.specs.Cmp.{IsTotalOrder};
-ghost use Rattle.api_calls.specs.Priority.{ranked, version_of, version_cmp, staged, numbered, number_behind, digits, other, is_number, number_cmp, priority_cmp};
+ghost use Rattle.api_calls.specs.Priority.{alpha, alpha_name, beta, beta_name, ga, ga_name, numbers_end, ranked, version_of, version_cmp, staged, numbered, number_behind, digits, other, is_number, number_cmp, priority_cmp};
 
 use std::cmp::Ordering;
 
@@ -21,6 +22,18 @@ pub fn priority(a: &str, b: &str) -> Ordering
 /// The priority is a total order of names.
 pub fn priority_total()
     ensures { IsTotalOrder priority_cmp }
+{}
+
+/// What the names of versions tell: `vN`, `vNbetaM` and `vNalphaM` tell their numbers, every other name tells none, and
+/// numbers are compared as numbers. The function does nothing, and its clauses are the laws.
+pub fn version_names()
+    ensures ga { (n : ℕ) → n < numbers_end → version_of (ga_name n) ≡ ga (decimal n) }
+    ensures beta { (n m : ℕ) → n < numbers_end → m < numbers_end → version_of (beta_name n m) ≡ beta (decimal n) (decimal m) }
+    ensures alpha { (n m : ℕ) → n < numbers_end → m < numbers_end → version_of (alpha_name n m) ≡ alpha (decimal n) (decimal m) }
+    ensures other { (t : List ℕ) → ((n : ℕ) → n < numbers_end → t ≢ ga_name n)
+        → ((n m : ℕ) → n < numbers_end → m < numbers_end → t ≢ beta_name n m)
+        → ((n m : ℕ) → n < numbers_end → m < numbers_end → t ≢ alpha_name n m) → version_of t ≡ other }
+    ensures numbers { (n m : ℕ) → n < numbers_end → m < numbers_end → number_cmp (decimal n) (decimal m) ≡ nat_cmp n m }
 {}
 
 /// A version by its name: its stage, which is 0 for `vN`, 1 for beta, 2 for alpha and 3 for every other name, and the

@@ -1,10 +1,10 @@
 //! The versions of a definition, as the server asks for them.
-ghost use Rattle.std.specs.Prelude.{◌≡◌, ◌≢◌, ◌+◌, ◌<◌, ◌≤◌, ◌++◌, ◌↔◌, IfOk, IfErr, IsErrOf, IsSome, IsTrue, MatchOption, Option, List, length, ℕ, ℤ, Bool};
+ghost use Rattle.std.specs.Prelude.{◌≡◌, ◌≢◌, ◌+◌, ◌*◌, ◌<◌, ◌≤◌, ◌++◌, ◌↔◌, IfOk, IfErr, IsErrOf, IsSome, IsTrue, MatchOption, Option, List, length, ℕ, ℤ, Bool};
 ghost use Rattle.kj_value.specs.Json.{depth};
 ghost use Rattle.kube_meta.specs.Document.{document};
 ghost use Rattle.kube_meta.specs.Names.{is_namespace};
 ghost use Rattle.kube_meta.specs.View.{ObjectView, object_of};
-ghost use Rattle.api_calls.specs.Meaning.{Meaning, Weighs, stamped};
+ghost use Rattle.api_calls.specs.Meaning.{Meaning, Weighs, stamped, stored_text};
 ghost use Rattle.api_calls.specs.Versions.{AreFlags, Decides, IgnoresStamps, IsOneToOne, IsRequest, IsStored, IsStoredList, Refused, Stand, request_of, versions_of};
 
 use crate::cause::Cause;
@@ -245,4 +245,11 @@ pub fn one_weight<V: Versions>()
     ensures something { (it : V) (h : ObjectView) (w : ℕ) → Weighs (V.meaning it) h w → 0 < w }
     ensures unstamped { (it : V) (h : ObjectView) (w : ℕ) (created deleted : Option (List ℕ)) (generation : ℤ)
         → Weighs (V.meaning it) h w → Weighs (V.meaning it) (stamped h created deleted generation) w }
+{}
+
+/// The stored text of a hub value at any version takes no more than its weight, in chunks of 256 bytes, whatever its stamps
+/// and its generation are. The function does nothing, and its clause is the law.
+pub fn stored_fits<V: Versions>()
+    ensures { (it : V) (v w : ℕ) (h x : ObjectView) → (V.meaning it).whole h → v < (V.meaning it).count → (V.meaning it).pair v h x
+        → Weighs (V.meaning it) h w → length (stored_text x) ≤ 256 * w }
 {}
