@@ -1,0 +1,6 @@
+pub mod Parts
+pub mod Definition
+pub mod Documents
+pub mod Laws
+pub mod Example
+pub mod History
