@@ -10,6 +10,11 @@ pub mod Path
 pub mod Fault
 pub mod Told
 pub mod Filled
+pub mod OwnDefaults
 pub mod Stays
 pub mod ShapeSame
 pub mod ShapeInside
+pub mod Lookups
+pub mod Named
+pub mod Own
+pub mod Sameness

@@ -8,7 +8,7 @@ use Rattle.struct_schema.specs.Shape.{Own, Shape, shape, own, Shapes, no_shapes,
 use Rattle.struct_schema.specs.Names.{is_name, value_at, shape_named, property, or_shape, shape_for}
 use Rattle.struct_schema.specs.Filled.{is_object, is_array, is_forbidden, PresentFilled, PropertyFilled, EachItem, Filled, NameFilled, NamedFilled, RestFilled, ItemFilled}
 use Rattle.struct_schema.specs.Stays.{item_null, name_null, item_stays, name_stays, lacks_default, no_default, defaults_there, stays, items_stay, names_stay}
-use Rattle.struct_schema.proofs.Named.{one_name, own_name, other_name, below_found}
+use Rattle.struct_schema.specs.Named.{one_name, own_name, other_name, below_found}
 
 both_true : (a b : Bool) → (a && b) ≡ true → (a ≡ true) × (b ≡ true)
 both_true true b h = (refl, h)
