@@ -1,0 +1,10 @@
+pub mod Passing
+pub mod Parts
+pub mod Found
+pub mod Unrefused
+pub mod Inner
+pub mod Whole
+pub mod Bools
+pub mod Shares
+pub mod Accepting
+pub mod OwnDefaults

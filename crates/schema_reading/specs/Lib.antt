@@ -1,0 +1,9 @@
+pub mod Words
+pub mod Kind
+pub mod Allowed
+pub mod OwnRead
+pub mod ShapeRead
+pub mod Visit
+pub mod Visits
+pub mod Told
+pub mod Accepted

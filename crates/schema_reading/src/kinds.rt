@@ -1,0 +1,118 @@
+//! What a node of a schema document asks of a value's kind.
+ghost use Rattle.std.specs.Prelude.{◌≡◌, option_map, is_none};
+ghost use Rattle.kj_value.specs.Json.{members_of};
+ghost use Rattle.kj_value.specs.Seen.{json};
+ghost use Rattle.struct_schema.specs.Names.{value_at};
+ghost use Rattle.schema_reading.specs.Words.{word};
+ghost use Rattle.schema_reading.specs.Kind.{type_named, is_object_kind, at_place, type_kind, is_yes, untyped_kind, kind_by, node_kind};
+
+use crate::words::Keyword;
+use kj_value::{JFields, JVal};
+use struct_schema::NodeKind;
+
+// The value of a keyword.
+pub(crate) fn value_at<'a>(fields: &'a JFields, keyword: Keyword) -> Option<&'a JVal>
+    ensures { option_map (λ v. json v.now) result
+        ≡ value_at (word keyword) (members_of fields.now) }
+{
+    fields.get(keyword.word())
+}
+
+pub(crate) fn is_absent(fields: &JFields, keyword: Keyword) -> bool
+    ensures { result ≡ is_none (value_at (word keyword) (members_of fields.now)) }
+{
+    value_at(fields, keyword).is_none()
+}
+
+#[tactic(auto, unfolding(crate::specs::Kind::type_named))]
+fn type_named(text: &str) -> Option<NodeKind>
+    ensures { result ≡ type_named text.now }
+{
+    if text == "object" {
+        return Some(NodeKind::Object);
+    }
+    if text == "array" {
+        return Some(NodeKind::Array);
+    }
+    if text == "string" {
+        return Some(NodeKind::Text);
+    }
+    if text == "integer" {
+        return Some(NodeKind::Whole);
+    }
+    if text == "boolean" {
+        return Some(NodeKind::Truth);
+    }
+    None
+}
+
+pub(crate) fn is_object_kind(kind: Option<NodeKind>) -> bool
+    ensures { result ≡ is_object_kind kind }
+{
+    matches!(kind, Some(NodeKind::Object))
+}
+
+fn at_place(root: bool, kind: Option<NodeKind>) -> Option<NodeKind>
+    ensures { result ≡ at_place root kind }
+{
+    if root {
+        if is_object_kind(kind) { kind } else { None }
+    } else {
+        kind
+    }
+}
+
+// The kind that `type` names.
+fn type_kind(root: bool, v: &JVal) -> Option<NodeKind>
+    ensures { result ≡ type_kind root (json v.now) }
+{
+    match v {
+        JVal::Text(t) => at_place(root, type_named(t.as_str())),
+        JVal::Null => None,
+        JVal::Bool(_) => None,
+        JVal::Int(_) => None,
+        JVal::List(_) => None,
+        JVal::Obj(_) => None,
+    }
+}
+
+// Whether the value is there, and true.
+pub(crate) fn is_yes(v: Option<&JVal>) -> bool
+    ensures { result ≡ is_yes (option_map (λ v. json v.now) v.entry) }
+{
+    match v {
+        None => false,
+        Some(JVal::Bool(b)) => *b,
+        Some(JVal::Text(_)) => false,
+        Some(JVal::Null) => false,
+        Some(JVal::Int(_)) => false,
+        Some(JVal::List(_)) => false,
+        Some(JVal::Obj(_)) => false,
+    }
+}
+
+// The kind of a node without `type`.
+fn untyped_kind(root: bool, fields: &JFields) -> Option<NodeKind>
+    ensures { result ≡ untyped_kind root (members_of fields.now) }
+{
+    if root {
+        return None;
+    }
+    if is_yes(value_at(fields, Keyword::IntOrString)) {
+        return Some(NodeKind::IntOrText);
+    }
+    if is_yes(value_at(fields, Keyword::Preserve)) {
+        return Some(NodeKind::Any);
+    }
+    None
+}
+
+// The kind of a node, where its document says one.
+pub(crate) fn node_kind(root: bool, fields: &JFields) -> Option<NodeKind>
+    ensures { result ≡ node_kind root (members_of fields.now) }
+{
+    match value_at(fields, Keyword::Kind) {
+        None => untyped_kind(root, fields),
+        Some(v) => type_kind(root, v),
+    }
+}
