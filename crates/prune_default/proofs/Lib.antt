@@ -1,0 +1,4 @@
+pub mod Lookup
+pub mod Missing
+pub mod Level
+pub mod Fillings

@@ -1,0 +1,91 @@
+-- What stands at a name in an object.
+use Rattle.std.proofs.Common.{◌≡◌, ℕ, List, [], ◌∷◌, ◌++◌, Bool, true, false, cond, Option, Some, None, Ordering, Less, Equal, Greater, nat_cmp, refl, ap, sym, subst, ◌∙◌}
+use Rattle.std.specs.Ordering.{is_eq, match_ordering, ordering_reverse}
+use Rattle.std.specs.Cmp.Lexicographic.{slice_cmp}
+use Rattle.std.proofs.lemmas.Cmp.{nat_list_cmp_total}
+use Rattle.std.proofs.lemmas.Slice.Eq.{bytes_eq-Decides}
+use Rattle.std.proofs.lemmas.Map.Text.{is_eq-slice_cmp}
+use Rattle.kj_value.specs.Json.{Json, Members, no_members, member, members_of}
+use Rattle.kj_value.specs.Fields.{Pairs, field, with_field}
+use Rattle.kj_value.specs.Sound.{IsSound, ComesFirst, AreRising}
+use Rattle.struct_schema.specs.Names.{is_name, value_at}
+
+pub one_name : (k l : List ℕ) → is_name k l ≡ true → k ≡ l
+one_name k l h = (bytes_eq-Decides k l).0 (sym (is_eq-slice_cmp k l) ∙ h)
+
+pub own_name : (k : List ℕ) → is_name k k ≡ true
+own_name k = is_eq-slice_cmp k k ∙ (bytes_eq-Decides k k).1 refl
+
+-- a name is none that comes before it
+pub other_name : (k n : List ℕ) → slice_cmp nat_cmp k n ≡ Less → is_name n k ≡ false
+other_name k n p = ap is_eq (nat_list_cmp_total.antisymm n k ∙ ap ordering_reverse p)
+
+pub value_at-field : (k : List ℕ) (es : Pairs) → value_at k (members_of es) ≡ field k es
+value_at-field k [] = refl
+value_at-field k (e ∷ es) = ap (cond (is_name k e.0) (Some e.1)) (value_at-field k es)
+
+-- ---- with a value at a name
+
+-- the tests of two names, of which one alone may hold
+swapped : (a b : Bool) (v x y : Option Json) → (a ≡ true → b ≡ true → ⊥) → cond a v (cond b x y) ≡ cond b x (cond a v y)
+swapped true true v x y h = absurd (h refl refl)
+swapped true false v x y h = refl
+swapped false true v x y h = refl
+swapped false false v x y h = refl
+
+covered : (a b : Bool) (v x y : Option Json) → a ≡ b → cond b v y ≡ cond a v (cond b x y)
+covered true true v x y h = refl
+covered true false v x y h = absurd (cc)
+covered false true v x y h = absurd (cc)
+covered false false v x y h = refl
+
+not_both : (n k l : List ℕ) → slice_cmp nat_cmp k l ≡ Greater → is_name n l ≡ true → is_name n k ≡ true → ⊥
+not_both n k l g h p =
+    let same : k ≡ l = sym (one_name n k p) ∙ one_name n l h in
+    let named : is_name k l ≡ true = subst (λ (m : List ℕ). is_name k m ≡ true) same (own_name k) in
+    let other : is_name k l ≡ false = ap is_eq g in
+    cc
+
+pub value_at-with : (n k : List ℕ) (v : Json) (es : Pairs) → value_at n (members_of (with_field k v es)) ≡ cond (is_name n k) (Some v) (value_at n (members_of es))
+value_at-with n k v [] = refl
+value_at-with n k v (e ∷ es) = by_order (slice_cmp nat_cmp k e.0) refl (value_at-with n k v es)
+  where
+    by_order : (o : Ordering) → slice_cmp nat_cmp k e.0 ≡ o → value_at n (members_of (with_field k v es)) ≡ cond (is_name n k) (Some v) (value_at n (members_of es))
+        → value_at n (members_of (match_ordering o ((k, v) ∷ e ∷ es) ((e.0, v) ∷ es) (e ∷ with_field k v es))) ≡ cond (is_name n k) (Some v) (cond (is_name n e.0) (Some e.1) (value_at n (members_of es)))
+    by_order Less q later = refl
+    by_order Equal q later =
+        covered (is_name n k) (is_name n e.0) (Some v) (Some e.1) (value_at n (members_of es)) (ap (is_name n) (one_name k e.0 (ap is_eq q)))
+    by_order Greater q later =
+        ap (cond (is_name n e.0) (Some e.1)) later ∙ swapped (is_name n e.0) (is_name n k) (Some e.1) (Some v) (value_at n (members_of es)) (λ a b. not_both n k e.0 q a b)
+
+-- ---- names that rise
+
+-- a name that comes before all is none of them
+pub gone : (k : List ℕ) (ms : Members) → ComesFirst k ms → AreRising ms → value_at k ms ≡ None
+gone k no_members p h = refl
+gone k (member l j ms) p h = by_test (is_name k l) refl (λ q r. gone k ms (past ms q) r)
+  where
+    past : (ns : Members) → ComesFirst l ns → ComesFirst k ns
+    past no_members q = tt
+    past (member m x ns) q = nat_list_cmp_total.trans k l m p q
+
+    by_test : (b : Bool) → is_name k l ≡ b → (ComesFirst l ms → AreRising ms → value_at k ms ≡ None) → cond b (Some j) (value_at k ms) ≡ None
+    by_test true q later =
+        let other : is_name k l ≡ false = ap is_eq p in
+        absurd (cc)
+    by_test false q later = later h.0 h.2
+
+-- the end of an object whose names rise
+pub rising_end : (done rest : Pairs) → AreRising (members_of (done ++ rest)) → AreRising (members_of rest)
+rising_end [] rest h = h
+rising_end (e ∷ done) rest h = rising_end done rest h.2
+
+pub sound_at : (n : List ℕ) (ms : Members) (v : Json) → AreRising ms → value_at n ms ≡ Some v → IsSound v
+sound_at n no_members v h e = absurd (cc)
+sound_at n (member l j ms) v h e = by_test (is_name n l) e (λ q. sound_at n ms v h.2 q)
+  where
+    by_test : (b : Bool) → cond b (Some j) (value_at n ms) ≡ Some v → (value_at n ms ≡ Some v → IsSound v) → IsSound v
+    by_test true f later =
+        let same : j ≡ v = cc in
+        subst IsSound same h.1
+    by_test false f later = later f

@@ -1,0 +1,209 @@
+//! A value's filling.
+ghost use Rattle.std.specs.Prelude.{◌≡◌, ℕ, List, Some, IfOk, OnOk, option_map, cond};
+ghost use Rattle.kj_value.specs.Json.{items_of, members_of};
+ghost use Rattle.kj_value.specs.Seen.{json};
+ghost use Rattle.kj_value.specs.Sound.{IsSound};
+ghost use Rattle.struct_schema.specs.Shape.{map_of, maybe_of, some_shape, items_shape};
+ghost use Rattle.struct_schema.specs.ShapeOf.{shape_of, own_of};
+ghost use Rattle.struct_schema.specs.Names.{is_name, shape_for, value_at};
+ghost use Rattle.struct_schema.specs.Filled.{Filled, NameFilled, RestFilled, ItemFilled, PresentFilled, EachItem, is_object, is_array, is_forbidden};
+ghost use Rattle.prune_default.specs.Missing.{or_value};
+
+use crate::defaults::set_defaults;
+use kj_value::{Field, JFields, JItems, JVal, NoMemory, Txt, copy, sound};
+use std::alloc::Global;
+use struct_schema::{NodeKind, Schema};
+
+/// What the value becomes where names that the schema doesn't know are pruned, nulls that it doesn't allow are taken
+/// out, and defaults are set. What stays is moved and not copied; only defaults and their names are copied. `NoMemory`
+/// comes where there is none for them, or for the lists and objects that hold the parts.
+pub fn fill(alloc: Global, s: &Schema, v: JVal) -> Result<JVal, NoMemory>
+    ensures filled { IfOk result (λ w. Filled (shape_of s.now) (json v) (json w)) }
+    ensures sound { IfOk result (λ w. IsSound (json w)) }
+    ensures same { IfOk result (λ w. Filled (shape_of s.now) (json v) (json v) → json w ≡ json v) }
+{
+    sound(&v);
+    let filled = fill_value(alloc, s, v)?;
+    sound(&filled);
+    Ok(filled)
+}
+
+#[cycle(fill_value)]
+fn fill_value(alloc: Global, s: &Schema, v: JVal) -> Result<JVal, NoMemory>
+    ensures { IfOk result (λ w. Filled (shape_of s.now) (json v) (json w)) }
+{
+    match v {
+        JVal::Null => Ok(JVal::Null),
+        JVal::Bool(b) => Ok(JVal::Bool(b)),
+        JVal::Int(n) => Ok(JVal::Int(n)),
+        JVal::Text(t) => Ok(JVal::Text(t)),
+        JVal::List(items) => {
+            if is_array(s.kind) {
+                Ok(JVal::List(fill_list(alloc, s, items)?))
+            } else {
+                Ok(JVal::List(items))
+            }
+        }
+        JVal::Obj(fields) => {
+            if is_object(s.kind) {
+                Ok(JVal::Obj(fill_object(alloc, s, fields)?))
+            } else {
+                Ok(JVal::Obj(fields))
+            }
+        }
+    }
+}
+
+fn is_object(kind: NodeKind) -> bool
+    ensures { result ≡ is_object kind }
+{
+    match kind {
+        NodeKind::Object => true,
+        NodeKind::Array => false,
+        NodeKind::Text => false,
+        NodeKind::Whole => false,
+        NodeKind::Truth => false,
+        NodeKind::IntOrText => false,
+        NodeKind::Any => false,
+    }
+}
+
+fn is_array(kind: NodeKind) -> bool
+    ensures { result ≡ is_array kind }
+{
+    match kind {
+        NodeKind::Object => false,
+        NodeKind::Array => true,
+        NodeKind::Text => false,
+        NodeKind::Whole => false,
+        NodeKind::Truth => false,
+        NodeKind::IntOrText => false,
+        NodeKind::Any => false,
+    }
+}
+
+// Whether the value is a null that the node doesn't allow.
+fn is_forbidden(node: &Schema, v: &JVal) -> bool
+    ensures { result ≡ is_forbidden (own_of node.now) (json v.now) }
+{
+    match v {
+        JVal::Null => !node.nullable,
+        JVal::Bool(_) => false,
+        JVal::Int(_) => false,
+        JVal::Text(_) => false,
+        JVal::List(_) => false,
+        JVal::Obj(_) => false,
+    }
+}
+
+// The node's default, copied.
+fn copy_default(alloc: Global, node: &Schema) -> Result<Option<JVal>, NoMemory>
+    ensures { IfOk result (λ w. option_map json w ≡ (own_of node.now).default_value) }
+{
+    match &node.default_value {
+        None => Ok(None),
+        Some(value) => Ok(Some(copy(alloc, value)?)),
+    }
+}
+
+#[cycle(fill_value)]
+fn fill_list(alloc: Global, s: &Schema, items: JItems) -> Result<JItems, NoMemory>
+    ensures { IfOk result (λ js. EachItem (λ x y. ItemFilled (items_shape (shape_of s.now)) x y)
+        (items_of items) (items_of js)) }
+{
+    match &s.items {
+        None => Ok(items),
+        Some(inner) => fill_items(alloc, inner.get(), items),
+    }
+}
+
+#[cycle(fill_value)]
+fn fill_items(alloc: Global, node: &Schema, items: JItems) -> Result<JItems, NoMemory>
+    ensures { IfOk result (λ js. EachItem (λ x y. ItemFilled (some_shape (shape_of node.now)) x y)
+        (items_of items) (items_of js)) }
+{
+    let mut filled = JItems::with_room(alloc, items.len())?;
+    for x in items.into_vec() {
+        filled.push(fill_item(alloc, node, x)?)?;
+    }
+    Ok(filled)
+}
+
+#[cycle(fill_value)]
+fn fill_item(alloc: Global, node: &Schema, x: JVal) -> Result<JVal, NoMemory>
+    ensures { IfOk result (λ w. ItemFilled (some_shape (shape_of node.now)) (json x) (json w)) }
+{
+    if is_forbidden(node, &x) {
+        match copy_default(alloc, node)? {
+            Some(value) => Ok(value),
+            None => Ok(JVal::Null),
+        }
+    } else {
+        fill_value(alloc, node, x)
+    }
+}
+
+#[cycle(fill_value)]
+fn fill_object(alloc: Global, s: &Schema, fields: JFields) -> Result<JFields, NoMemory>
+    ensures { IfOk result (λ ns. (n : List ℕ) →
+        NameFilled (map_of s.now.properties) (λ v w. RestFilled (maybe_of s.now.additional) s.now.preserve v w) n
+        (value_at n (members_of fields)) (value_at n (members_of ns))) }
+{
+    let kept = fill_names(alloc, s, fields)?;
+    set_defaults(alloc, s, kept)
+}
+
+// Sets the value at the name, where there is one.
+fn keep(kept: &mut JFields, name: Txt, value: Option<JVal>) -> Result<(), NoMemory>
+    ensures { OnOk result ((n : List ℕ) → value_at n (members_of kept.new) ≡ cond (is_name n name.bytes)
+        (or_value (option_map json value) (value_at n (members_of kept.old))) (value_at n (members_of kept.old))) }
+{
+    match value {
+        Some(value) => kept.set(name, value),
+        None => Ok(()),
+    }
+}
+
+// Each value that is there, filled or taken out.
+#[cycle(fill_value)]
+fn fill_names(alloc: Global, s: &Schema, fields: JFields) -> Result<JFields, NoMemory>
+    ensures { IfOk result (λ ns. (n : List ℕ) → RestFilled (shape_for (shape_of s.now) n) s.now.preserve
+        (value_at n (members_of fields)) (value_at n (members_of ns))) }
+{
+    let mut kept = JFields::new(alloc);
+    for f in fields.into_vec() {
+        let Field { name, value } = f;
+        let value = fill_name(alloc, s, name.as_str(), value)?;
+        keep(&mut kept, name, value)?;
+    }
+    Ok(kept)
+}
+
+#[cycle(fill_value)]
+fn fill_name(alloc: Global, s: &Schema, name: &str, value: JVal) -> Result<Option<JVal>, NoMemory>
+    ensures { IfOk result (λ w. RestFilled (shape_for (shape_of s.now) name.now) s.now.preserve
+        (Some (json value)) (option_map json w)) }
+{
+    match s.schema_for(name) {
+        None => {
+            if s.preserve {
+                Ok(Some(value))
+            } else {
+                Ok(None)
+            }
+        }
+        Some(node) => fill_present(alloc, node, value),
+    }
+}
+
+#[cycle(fill_value)]
+fn fill_present(alloc: Global, node: &Schema, value: JVal) -> Result<Option<JVal>, NoMemory>
+    ensures { IfOk result (λ w. PresentFilled (own_of node.now) (λ x y. Filled (shape_of node.now) x y)
+        (json value) (option_map json w)) }
+{
+    if is_forbidden(node, &value) {
+        copy_default(alloc, node)
+    } else {
+        Ok(Some(fill_value(alloc, node, value)?))
+    }
+}

@@ -1,0 +1,17 @@
+//! Laws of what values become. Each function does nothing, and its clause is the law.
+ghost use Rattle.std.specs.Prelude.{◌≡◌};
+ghost use Rattle.kj_value.specs.Json.{Json};
+ghost use Rattle.kj_value.specs.Sound.{IsSound};
+ghost use Rattle.struct_schema.specs.Shape.{Shape};
+ghost use Rattle.struct_schema.specs.Filled.{Filled};
+ghost use Rattle.struct_schema.specs.OwnDefaults.{HasOwnDefaults};
+
+/// A value becomes one value: two sound values that it becomes are the same.
+pub fn one_filling()
+    ensures { (s : Shape) (j k l : Json) → IsSound k → IsSound l → Filled s j k → Filled s j l → k ≡ l }
+{}
+
+/// Filling twice is filling once: what a value becomes stays as it is, where each default of the schema does.
+pub fn filled_again()
+    ensures { (s : Shape) (j k : Json) → HasOwnDefaults s → Filled s j k → Filled s k k }
+{}
