@@ -1,0 +1,13 @@
+pub mod Lists
+pub mod Adding
+pub mod Digits
+pub mod Left
+pub mod Agreeing
+pub mod Put
+pub mod Metadata
+pub mod Documents
+pub mod Holding
+pub mod Gone
+pub mod Keeping
+pub mod Accepting
+pub mod FromFields

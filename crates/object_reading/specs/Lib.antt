@@ -1,0 +1,9 @@
+pub mod Labels
+pub mod Finalizers
+pub mod Numbers
+pub mod Fields
+pub mod Rules
+pub mod Refusal
+pub mod Parts
+pub mod Written
+pub mod Keeping
