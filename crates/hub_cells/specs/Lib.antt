@@ -1,0 +1,15 @@
+pub mod Side
+pub mod Colon
+pub mod Cell
+pub mod Cross
+pub mod Answer
+pub mod Level
+pub mod Fit
+pub mod Pairs
+pub mod Seen
+pub mod FitCode
+pub mod LevelDepth
+pub mod SeenFit
+pub mod FitFalls
+pub mod Inside
+pub mod OneToOne
