@@ -1,0 +1,10 @@
+pub mod Rule
+pub mod Sound
+pub mod RuleCode
+pub mod Seen
+pub mod RuleFalls
+pub mod Inside
+pub mod Refusal
+pub mod Spots
+pub mod SeenSpot
+pub mod Told
