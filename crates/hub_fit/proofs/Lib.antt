@@ -1,0 +1,10 @@
+pub mod CellFits
+pub mod Scales
+pub mod Names
+pub mod Holds
+pub mod LevelNames
+pub mod ScaleFits
+pub mod LevelFits
+pub mod Fronts
+pub mod Rising
+pub mod Building

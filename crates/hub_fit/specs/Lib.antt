@@ -1,0 +1,4 @@
+pub mod Chosen
+pub mod InnerFits
+pub mod Refuses
+pub mod Differ
