@@ -1,0 +1,8 @@
+pub mod Words
+pub mod Path
+pub mod Tried
+pub mod Shapes
+pub mod SeenSet
+pub mod RuleRead
+pub mod SetRead
+pub mod Told
