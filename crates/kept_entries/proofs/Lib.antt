@@ -1,0 +1,4 @@
+pub mod OneList
+pub mod Refused
+pub mod Steps
+pub mod Copies
