@@ -1,0 +1,11 @@
+pub mod LawA
+pub mod Fields
+pub mod Holds
+pub mod Back
+pub mod Written
+pub mod Dead
+pub mod OneLevel
+pub mod Bodies
+pub mod Living
+pub mod Canonical
+pub mod InWords

@@ -1,0 +1,10 @@
+use Rattle.keep_laws.proofs.Dead.{settled_whole, whole_settled}
+use Rattle.keep_laws.proofs.InWords.{settled_fields}
+use Rattle.keep_laws.proofs.laws.settling.Goals as goal
+
+pub returns : goal.returns
+returns c = record {
+  whole = settled_whole;
+  fields = settled_fields;
+  stays = whole_settled;
+}

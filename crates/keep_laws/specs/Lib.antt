@@ -1,0 +1,10 @@
+pub mod Entry
+pub mod Marked
+pub mod Pairing
+pub mod Body
+pub mod Whole
+pub mod Settle
+pub mod Across
+pub mod Known
+pub mod Alive
+pub mod Words

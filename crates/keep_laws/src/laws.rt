@@ -1,0 +1,52 @@
+//! Laws of objects with kept entries. Each function does nothing, and its clause is the law.
+ghost use Rattle.std.specs.Prelude.{◌≡◌};
+ghost use Rattle.hub_cells.specs.Side as sides;
+ghost use Rattle.hub_cells.specs.Level.{Level, NoNameTwice};
+ghost use Rattle.keep_laws.specs.Whole.{Held, Ready, IsWhole, IsPair, IsTheOne, marks_of, other_object};
+ghost use Rattle.keep_laws.specs.Settle.{IsAllowed, settled, converted};
+ghost use Rattle.keep_laws.specs.Known.{IsKnown};
+ghost use Rattle.keep_laws.specs.Words.{IsSettledObject};
+
+/// Each whole object of the hub is paired with exactly one of the spoke, which is whole, and each whole
+/// object of the spoke with exactly one of the hub.
+pub fn exactly_one()
+    ensures spoke { (l : Level) (h : Held) → Ready l → IsWhole sides.hub l h
+        → IsTheOne (λ x. IsPair l x h) (other_object sides.hub l h) }
+    ensures hub { (l : Level) (x : Held) → Ready l → IsWhole sides.spoke l x
+        → IsTheOne (λ h. IsPair l x h) (other_object sides.spoke l x) }
+    ensures whole { (l : Level) (x h : Held) → Ready l → IsWhole sides.hub l h → IsPair l x h
+        → IsWhole sides.spoke l x }
+{}
+
+/// Going over gives a whole object, and over and back is the identity on whole objects.
+pub fn over_and_back()
+    ensures whole { (d : sides.Side) (l : Level) (x : Held) → Ready l → IsWhole d l x
+        → IsWhole (sides.other d) l (other_object d l x) }
+    ensures back { (d : sides.Side) (l : Level) (x : Held) → Ready l → IsWhole d l x
+        → other_object (sides.other d) l (other_object d l x) ≡ x }
+{}
+
+/// Taking out dead entries gives a whole object and leaves the fields as they are; a whole object has
+/// none.
+pub fn settling()
+    ensures whole { (d : sides.Side) (l : Level) (x : Held) → Ready l → IsAllowed d l (marks_of d l x)
+        → IsWhole d l (settled d l x) }
+    ensures fields { (d : sides.Side) (l : Level) (x : Held) → NoNameTwice d l → IsKnown d l x.fields
+        → (settled d l x).fields ≡ x.fields }
+    ensures stays { (d : sides.Side) (l : Level) (x : Held) → IsWhole d l x → settled d l x ≡ x }
+{}
+
+/// Converting an object that its schema allows gives a whole one, and converting that back gives the
+/// object without its dead entries.
+pub fn converting()
+    ensures whole { (d : sides.Side) (l : Level) (x : Held) → Ready l → IsAllowed d l (marks_of d l x)
+        → IsWhole (sides.other d) l (converted d l x) }
+    ensures back { (d : sides.Side) (l : Level) (x : Held) → Ready l → IsAllowed d l (marks_of d l x)
+        → converted (sides.other d) l (converted d l x) ≡ settled d l x }
+{}
+
+/// An object whose names are known, whose tuples are allowed and whose entries are in order and all
+/// alive is whole.
+pub fn in_words()
+    ensures { (d : sides.Side) (l : Level) (x : Held) → Ready l → IsSettledObject d l x → IsWhole d l x }
+{}
