@@ -1,0 +1,5 @@
+pub mod Lookups
+pub mod Tests
+pub mod Cells
+pub mod Objects
+pub mod Levels

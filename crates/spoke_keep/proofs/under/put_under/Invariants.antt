@@ -1,0 +1,8 @@
+use Rattle.std.proofs.Common.{◌≡◌, ◌++◌, map}
+use Rattle.std.specs.Vec.Iter.{into_iter_items}
+use Rattle.keep_laws.specs.Entry.{under}
+use Rattle.spoke_keep.proofs.under.put_under.Given as goal
+
+abbrev pub invariant-loop-e : goal.invariant-loop-e
+invariant-loop-e l =
+    l.entries.items ++ map (under l.name) (into_iter_items l.e-iterator) ≡ l.initial.entries.items ++ map (under l.name) l.fn.found.items

@@ -1,0 +1,5 @@
+pub mod Left
+pub mod Over
+pub mod Names
+pub mod Lookup
+pub mod Held
