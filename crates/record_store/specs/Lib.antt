@@ -1,0 +1,4 @@
+pub mod View
+pub mod Moves
+pub mod Room
+pub mod Inside

@@ -1,0 +1,23 @@
+//! The records of a server: each object's text as it was written, at its version, and those that were
+//! superseded, for pages of an older number.
+//!
+//! The one contract: a store is seen as its records by strictly rising key, each with its text, and the
+//! window of superseded ones. A write puts one record under its key, moves the one that stood there
+//! into the window, and leaves every other record as it is. It takes no memory and is never refused for
+//! want of it: all memory is taken when a store is opened.
+//!
+//! It knows nothing of what a text means, of versions, or of requests.
+#![tactic(auto)]
+
+mod answer;
+mod record;
+mod store;
+mod text;
+
+pub use answer::PutEnd;
+pub use record::NewRecord;
+pub use record_index::Record;
+pub use store::Store;
+
+#[cfg(test)]
+mod tests;

@@ -1,0 +1,278 @@
+//! The store: an index of records, a window, and the region that holds their texts.
+ghost use Rattle.std.specs.Prelude.{◌≡◌, ◌+◌, ◌*◌, ◌<◌, ◌≤◌, ◌≢◌, ◌^◌, [], None, IfOk, find as first, if◌then◌else◌, length, not, option_copied, option_map};
+ghost use Rattle.std.specs.Option.{ForSome};
+ghost use Rattle.kube_meta.specs.Page.{bound_after};
+ghost use Rattle.kube_meta.specs.Plan.{passed};
+ghost use Rattle.kube_meta.specs.Window.{weights};
+ghost use Rattle.record_index.specs.ByKey.{find};
+ghost use Rattle.record_store.specs.View.{IsStore, item_key, item_weight, record_of};
+
+use crate::answer::PutEnd;
+use crate::record::NewRecord;
+use crate::text::copy_text;
+use kj_value::{NoMemory, Txt};
+use kube_meta::{Key, KeySpot, Limits, Room, RoomKind};
+use record_index::{Index, Record, Row};
+use record_region::Region;
+use record_window::{Past, Window};
+use std::alloc::Global;
+use std::marker::Model;
+
+/// Records by key, and the window of those that were superseded. It takes its memory when it is opened.
+#[derive(Drop)]
+pub struct Store {
+    limits: Limits,
+    index: Index,
+    window: Window,
+    region: Region,
+    // The weights of the records that stand.
+    live: u64,
+    // The number of the last change.
+    last: u64,
+}
+
+impl Model for Store {
+    ghost use Rattle.record_store.specs.View.{StoreView};
+    ghost use Rattle.record_store.specs.Inside.{store_view, IsSound};
+
+    ghost Value = { StoreView };
+
+    ghost view = { λ s. store_view s.limits s.index s.window s.region s.last };
+
+    ghost invariant = { λ s. IsSound s.limits s.index s.window s.region s.live s.last };
+}
+
+impl Store {
+    ghost use Rattle.record_store.specs.Moves.{added, removed, with_new};
+    ghost use Rattle.record_store.specs.Room.{HasRoom, is_done, lacking_chunks, put_end, touch_end, unless_full};
+
+    /// A store with no records, which takes all memory that these limits ask for.
+    pub fn open(alloc: Global, limits: Limits) -> Result<Store, NoMemory>
+        requires { limits.chunks + limits.window_chunks < 2 ^ 32 }
+        ensures { IfOk result (λ s. s ≡ record { limits = limits; items = []; window = []; last = 0; floor = 1 }) }
+    {
+        let index = Index::open(alloc, limits.objects)?;
+        let window = Window::open(alloc, limits)?;
+        let region = Region::open(alloc, (limits.chunks + limits.window_chunks) as u32)?;
+        Ok(Store {
+            limits,
+            index,
+            window,
+            region,
+            live: 0,
+            last: 0,
+        })
+    }
+
+    /// How many records stand.
+    pub fn len(&self) -> u64
+        ensures count { result ≡ length self.now.items }
+        ensures sound { IsStore self.now }
+    {
+        self.index.len() as u64
+    }
+
+    /// The weights of the records that stand, together.
+    pub fn live_weight(&self) -> u64
+        ensures { result ≡ weights item_weight self.now.items }
+    {
+        self.live
+    }
+
+    /// The number from which on pages are still known.
+    pub fn floor(&self) -> u64
+        ensures { result ≡ self.now.floor }
+    {
+        self.window.floor()
+    }
+
+    /// The record of a key, without its text.
+    pub fn look(&self, key: &Key) -> Option<Record>
+        ensures { result ≡ option_map record_of (find item_key key.now self.now.items) }
+    {
+        match self.index.find(key) {
+            Some(row) => Some(row.record),
+            None => None,
+        }
+    }
+
+    /// The text of the record of a key, copied.
+    pub fn raw(&self, alloc: Global, key: &Key) -> Result<Option<Txt>, NoMemory>
+        ensures { IfOk result (λ text. option_map (λ t. t.bytes) text
+            ≡ option_map (λ x. x.bytes) (find item_key key.now self.now.items)) }
+    {
+        match self.index.find(key) {
+            Some(row) => {
+                let text = copy_text(alloc, &self.region, &row.piece)?;
+                Ok(Some(text))
+            }
+            None => Ok(None),
+        }
+    }
+
+    /// The record of the least key after this one, or of the least of all. It takes no memory.
+    pub fn next_from(&self, after: Option<&KeySpot>) -> Option<(KeySpot, Record)>
+        ensures { result ≡ option_map (λ x. (x.key, record_of x))
+            (first (λ x. not (passed (bound_after (option_copied after.entry)) x.key)) self.now.items) }
+    {
+        match self.index.next_from(after) {
+            Some(row) => Some((row.key.spot(), row.record)),
+            None => None,
+        }
+    }
+
+    /// Writes a record where none stands under its key, or over the one of the expected number. It
+    /// takes no memory.
+    pub fn put_if(&mut self, expected: Option<u64>, now: u64, new: NewRecord) -> PutEnd
+        requires later { self.old.last < now }
+        requires weighed { new.weight ≢ 0 }
+        requires within { length new.bytes.bytes ≤ 256 * new.weight }
+        ensures end { result ≡ put_end expected new.weight (find item_key new.key self.old.items) self.old }
+        ensures store { self.new ≡ (if is_done result then with_new now new self.old else self.old) }
+    {
+        match self.put_end(expected, &new.key, new.weight) {
+            PutEnd::Done => {
+                self.commit(now, new);
+                PutEnd::Done
+            }
+            refused => refused,
+        }
+    }
+
+    /// Writes a record over the one of the expected number, at its weight. It takes no memory, and there
+    /// is always room.
+    pub fn touch_if(&mut self, expected: u64, now: u64, new: NewRecord) -> PutEnd
+        requires later { self.old.last < now }
+        requires weighed { new.weight ≢ 0 }
+        requires within { length new.bytes.bytes ≤ 256 * new.weight }
+        requires same_weight { ForSome (find item_key new.key self.old.items) (λ x. x.rv ≡ expected → new.weight ≡ x.weight) }
+        ensures end { result ≡ touch_end expected (find item_key new.key self.old.items) }
+        ensures store { self.new ≡ (if is_done result then with_new now new self.old else self.old) }
+    {
+        match self.look(&new.key) {
+            None => PutEnd::Gone,
+            Some(standing) if standing.rv != expected => PutEnd::Moved { newer: standing.rv },
+            Some(_) => {
+                self.commit(now, new);
+                PutEnd::Done
+            }
+        }
+    }
+
+    /// Takes the record of a key out, and answers it without its text. It takes no memory.
+    pub fn remove_if(&mut self, key: &Key, now: u64) -> Option<Record>
+        requires later { self.old.last < now }
+        ensures found { result ≡ option_map record_of (find item_key key.now self.old.items) }
+        ensures store { self.new ≡ removed now key.now self.old }
+    {
+        self.take_out(key, now)
+    }
+
+    fn take_out(&mut self, key: &Key, now: u64) -> Option<Record>
+        requires later { self.old.last < now }
+        ensures found { result ≡ option_map record_of (find item_key key.now self.old.items) }
+        ensures store { self.new ≡ removed now key.now self.old }
+        ensures sound { IsStore self.old }
+    {
+        let Some(row) = self.index.take(key) else {
+            return None;
+        };
+        let found = row.record;
+        self.live -= found.weight;
+        self.window.append(Past { by: now, row });
+        self.window.trim(&mut self.region);
+        self.last = now;
+        Some(found)
+    }
+
+    fn put_end(&self, expected: Option<u64>, key: &Key, weight: u64) -> PutEnd
+        ensures { result ≡ put_end expected weight (find item_key key.now self.now.items) self.now }
+    {
+        match (expected, self.look(key)) {
+            (None, None) => {
+                if self.len() < self.limits.objects {
+                    self.room_for(0, weight)
+                } else {
+                    PutEnd::Full(Room {
+                        what: RoomKind::Objects,
+                        need: 1,
+                        free: 0,
+                    })
+                }
+            }
+            (None, Some(_)) => PutEnd::Present,
+            (Some(_), None) => PutEnd::Gone,
+            (Some(number), Some(standing)) => {
+                if standing.rv == number {
+                    self.room_for(standing.weight, weight)
+                } else {
+                    PutEnd::Moved { newer: standing.rv }
+                }
+            }
+        }
+    }
+
+    // Whether there is room for a weight where a record of another goes.
+    fn room_for(&self, going: u64, weight: u64) -> PutEnd
+        requires { going ≤ weights item_weight self.now.items }
+        ensures { result ≡ unless_full (lacking_chunks self.now going weight) }
+    {
+        let free = self.limits.chunks - self.live + going;
+        if free < weight {
+            PutEnd::Full(Room {
+                what: RoomKind::Chunks,
+                need: weight,
+                free,
+            })
+        } else {
+            PutEnd::Done
+        }
+    }
+
+    // Writes a record for which there is room.
+    fn commit(&mut self, now: u64, new: NewRecord)
+        requires later { self.old.last < now }
+        requires weighed { new.weight ≢ 0 }
+        requires within { length new.bytes.bytes ≤ 256 * new.weight }
+        requires room { HasRoom new.weight (find item_key new.key self.old.items) self.old }
+        ensures { self.new ≡ with_new now new self.old }
+    {
+        let born = match self.take_out(&new.key, now) {
+            Some(old) => old.born,
+            None => now,
+        };
+        self.add(born, now, new);
+    }
+
+    // Adds a record for which there is room, under a key where none stands.
+    fn add(&mut self, born: u64, now: u64, new: NewRecord)
+        requires fresh { find item_key new.key self.old.items ≡ None }
+        requires numbers { self.old.last ≤ now }
+        requires counted { 1 ≤ now }
+        requires room { length self.old.items < self.old.limits.objects }
+        requires light { weights item_weight self.old.items + new.weight ≤ self.old.limits.chunks }
+        requires weighed { new.weight ≢ 0 }
+        requires within { length new.bytes.bytes ≤ 256 * new.weight }
+        ensures { self.new ≡ added born now new self.old }
+    {
+        let NewRecord {
+            key,
+            at,
+            weight,
+            bytes,
+        } = new;
+        let Ok(piece) = self.region.put(bytes.as_str().as_bytes()) else {
+            unreachable!()
+        };
+        let record = Record {
+            at,
+            rv: now,
+            born,
+            weight,
+            len: bytes.len() as u64,
+        };
+        self.index.put(Row { key, record, piece });
+        self.live += weight;
+        self.last = now;
+    }
+}
