@@ -1,0 +1,4 @@
+pub mod Changes
+pub mod Spans
+pub mod Plans
+pub mod NameFits
