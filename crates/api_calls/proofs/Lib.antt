@@ -8,6 +8,7 @@ pub mod Finds
 pub mod Snaps
 pub mod Standing
 pub mod Held
+pub mod Generations
 pub mod Names
 pub mod OneDocument
 pub mod Stored

@@ -13,8 +13,8 @@ use Rattle.kj_value.specs.Text.{escaped_byte, quoted, text_of, members_text, mor
 use Rattle.kj_value.specs.Fields.{Pairs, with_field}
 use Rattle.kube_meta.specs.View.{MetaView, ObjectView}
 use Rattle.kube_meta.specs.Document.{optional, some_text, some_texts, some_list, some_generation, metadata, document}
-use Rattle.api_calls.specs.Meaning.{Meaning, Weighs, unnumbered, stored_text, longest_stamp, widest, chunks, measure}
-use Rattle.api_calls.specs.Versions.{IsStamp, StandsAt, Stand}
+use Rattle.api_calls.specs.Meaning.{Meaning, Weighs, unnumbered, stored_text, stamped, longest_stamp, widest, chunks, measure}
+use Rattle.api_calls.specs.Versions.{IsStamp, StandsAt, Stand, IgnoresStamps, IsOneToOne}
 
 -- ---- fields
 
@@ -165,18 +165,24 @@ document_more x y api kind body h =
     same : (ps qs : Pairs) → ps ≡ qs → size (with_field (codes "metadata") (object (members_of (metadata x.meta))) ps) ≤ size (with_field (codes "metadata") (object (members_of (metadata y.meta))) qs)
     same ps qs e = rw e (with_field_more (codes "metadata") (object (members_of (metadata x.meta))) (object (members_of (metadata y.meta))) qs (object_more (metadata x.meta) (metadata y.meta) h))
 
-within_measure : (m : Meaning) (v : ℕ) (x : ObjectView) → StandsAt m v x → length (stored_text x) ≤ measure x
-within_measure m v x s =
-    let n = s.stamps.counted in
-    let fits : FitsSigned w64 (pos n.0) = rw (← n.1) s.stamps.generation in
+within_measure : (m : Meaning) (v n : ℕ) (x : ObjectView) → StandsAt m v x → x.meta.generation ≡ pos n → length (stored_text x) ≤ measure x
+within_measure m v n x s is =
+    let fits : FitsSigned w64 (pos n) = rw (← is) s.stamps.generation in
     document_more (unnumbered x) (unnumbered (widest x)) refl refl refl
-    (metadata_more (unnumbered x).meta s.stamps.created s.stamps.deleted n.0 (omega (arith, fits.sfits)) n.1)
+    (metadata_more (unnumbered x).meta s.stamps.created s.stamps.deleted n (omega (arith, fits.sfits)) is)
 
 in_chunks : (n w : ℕ) → chunks n ≤ w → n ≤ 256 * w
 in_chunks n w h = omega (arith, h)
 
-pub stored_bytes : (m : Meaning) (v w : ℕ) (h x : ObjectView) → Stand m → m.whole h → v < m.count → m.pair v h x → Weighs m h w → length (stored_text x) ≤ 256 * w
-stored_bytes m v w h x stand is known pairs weighs =
-    let within = within_measure m v x (stand.pair v h x known is pairs) in
+pub stored_bytes : (m : Meaning) (v w n : ℕ) (h x : ObjectView) → Stand m → m.whole h → v < m.count → m.pair v h x → Weighs m h w → x.meta.generation ≡ pos n
+    → length (stored_text x) ≤ 256 * w
+stored_bytes m v w n h x stand is known pairs weighs counts =
+    let within = within_measure m v n x (stand.pair v h x known is pairs) counts in
     let most = in_chunks (measure x) w (weighs.within v x known pairs) in
     omega (arith, within, most)
+
+-- the form of a hub value has its generation, since the form with the hub value's stamps and generation pairs with it too
+pub same_generation : (m : Meaning) (v : ℕ) (h x : ObjectView) → IgnoresStamps m → IsOneToOne m → m.whole h → v < m.count → m.pair v h x → x.meta.generation ≡ h.meta.generation
+same_generation m v h x ignores one is known pairs =
+    ap (λ (o : ObjectView). o.meta.generation) (one.function v h x (stamped x h.meta.created h.meta.deleted h.meta.generation) known is pairs
+    (ignores.pair v h x h.meta.created h.meta.deleted h.meta.generation pairs))

@@ -1,5 +1,5 @@
 -- What holds of every legal list, in words.
-use Rattle.std.specs.Prelude.{◌≡◌, ◌≢◌, ℕ, ◌+◌, ◌&&◌, true, List, [], ◌∷◌, Option, None, Some, Bool, false, MatchBool, nat_eq, if◌then◌else◌}
+use Rattle.std.specs.Prelude.{◌≡◌, ◌≢◌, ℕ, pos, ◌≤◌, ◌+◌, ◌&&◌, true, List, [], ◌∷◌, Option, None, Some, Bool, false, MatchBool, nat_eq, if◌then◌else◌}
 use Rattle.std.specs.Str.{bytes_eq}
 use Rattle.std.specs.declared.cmp.Ordering.TheVariants.{Less}
 use Rattle.kube_meta.specs.Key.{KeyView, key_cmp}
@@ -41,6 +41,17 @@ Holds s e = find e.key s.objects ≡ Some e
 -- a value that is being deleted has a finalizer
 abbrev pub MarkedAreHeld : State → Type 0
 MarkedAreHeld s = Each (λ e. IsMarked e.h → HasFinalizer e.h) s.objects
+
+-- a generation counts from 1, and is at most the revision
+pub record IsCounted (revision : ℕ) (h : ObjectView) : Type 0 where
+  pub number : ℕ
+  pub is : h.meta.generation ≡ pos number
+  pub least : 1 ≤ number
+  pub most : number ≤ revision
+
+-- each object's generation counts so
+abbrev pub AreCounted : ℕ → State → Type 0
+AreCounted revision s = Each (λ e. IsCounted revision e.h) s.objects
 
 -- ---- values that stay
 

@@ -12,6 +12,7 @@ pub mod Room
 pub mod Legal
 pub mod Snap
 pub mod Laws
+pub mod EachObject
 pub mod Growth
 pub mod Versions
 pub mod Values

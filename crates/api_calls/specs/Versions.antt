@@ -44,18 +44,17 @@ pub record IsStoredList (count : ℕ) (s : StoredList) : Type 0 where
 
 -- ---- objects of a definition
 
--- a stamp has 20 ASCII bytes, of which JSON text escapes none
+-- a stamp is a moment as text, as `2024-01-02T03:04:05Z`: 20 ASCII bytes, which JSON text spells as they are
 pub record IsStamp (s : List ℕ) : Type 0 where
   pub bytes : length s ≡ 20
   pub ascii : IsAscii s
   pub plain : flat_map escaped_byte s ≡ s
 
--- stamps and a generation that an object can have: a generation is no negative number
+-- stamps and a generation that an object can have
 pub record AreStamps (birth end : Option (List ℕ)) (number : ℤ) : Type 0 where
   pub created : IfSome birth IsStamp
   pub deleted : IfSome end IsStamp
   pub generation : FitsSigned w64 number
-  pub counted : (n : ℕ) × (number ≡ pos n)
 
 -- the body leaves the three names to the object's own values
 pub record IsBody (body : Pairs) : Type 0 where

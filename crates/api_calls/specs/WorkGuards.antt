@@ -1,20 +1,23 @@
--- What a decided turn of a worker enters has its guard.
-use Rattle.std.specs.Prelude.{◌≡◌, ℕ, ◌+◌, Bool, true, false, Option, None, Some, if◌then◌else◌}
-use Rattle.std.proofs.Common.{refl, ap, subst, ◌∙◌}
+-- What a decided turn of a worker enters has its guard, and what it prepares.
+use Rattle.std.specs.Prelude.{◌≡◌, ◌≢◌, ℕ, ◌+◌, Bool, true, false, not, ◌&&◌, List, [], ◌∷◌, Option, None, Some, nat_eq, if◌then◌else◌}
+use Rattle.std.proofs.Common.{refl, ap, subst, ◌∙◌, eq-eqb}
 use Rattle.kube_meta.specs.Key.{KeyView}
-use Rattle.kube_meta.specs.Plan.{Span, Migration, running, span_of, may_claim, is_done}
+use Rattle.kube_meta.specs.Plan.{Span, Migration, in_span, running, span_of, may_claim, is_done}
 use Rattle.kube_meta.specs.declared.limits.Limits.{Limits}
 use Rattle.api_calls.specs.Meaning.{Meaning}
 use Rattle.api_calls.specs.Item.{Item, entry, note, Touch, MarkSucceeded, Claim, RangeDone, GiveBack}
 use Rattle.api_calls.specs.Objects.{Stored, find, elsewhere}
 use Rattle.api_calls.specs.State.{State}
 use Rattle.api_calls.specs.Legal.{IsHeld, MaySucceed, guard}
-use Rattle.api_calls.specs.Ends.{idle, claimed, touched, missed, says, enters}
+use Rattle.api_calls.specs.Ends.{TurnEnd, idle, claimed, prepare, touched, missed, says, enters}
 use Rattle.api_calls.specs.Work.{Turn, Work, work_in, work_under, work_of, claim_turn, idle_turn, prepare_turn, first_turn, turn_decision, is_ready, ready_turn, touch_decision, work_turn, whole_turn, work_decision, give_back_of, give_back_decision}
 use Rattle.api_calls.specs.Ends.{finished}
 
 abbrev item_of : Turn → Option Item
 item_of t = t.decision.item
+
+abbrev answer_of : Turn → TurnEnd
+answer_of t = t.decision.answer
 
 -- where the plan is done, the running migration may be marked: a law of legal lists
 abbrev pub MayFinish : State → Type 0
@@ -133,3 +136,67 @@ give_back-guard m limits s c i is = by (work_of c s) refl is
         let k = work_of-held c s w held in
         let it : note (GiveBack w.claim) ≡ i = cc in
         subst (guard m limits s) it k.held
+
+-- ---- what is prepared
+
+-- a key and a number are those of the first object of the claim's span that stands elsewhere
+pub record IsPrepared (c : Option ℕ) (k : KeyView) (rv : ℕ) (s : State) : Type 0 where
+  pub work : Work
+  pub held : work_of c s ≡ Some work
+  pub object : Stored
+  pub first : elsewhere work.span work.target s.objects ≡ Some object
+  pub key : object.key ≡ k
+  pub number : object.number ≡ rv
+  pub inside : in_span work.span k ≡ true
+  pub away : object.at ≢ work.target
+
+-- what is found elsewhere is in the span, and elsewhere
+pub elsewhere-is : (r : Span) (v : ℕ) (es : List Stored) (e : Stored) → elsewhere r v es ≡ Some e → (in_span r e.key ≡ true) × (e.at ≢ v)
+elsewhere-is r v [] e is = cc
+elsewhere-is r v (f ∷ es) e is = by (in_span r f.key) refl (nat_eq f.at v) refl is (elsewhere-is r v es e)
+  where
+    differ : nat_eq f.at v ≡ false → f.at ≢ v
+    differ other same = let equal = eq-eqb f.at v same in cc
+
+    by : (a : Bool) → in_span r f.key ≡ a → (b : Bool) → nat_eq f.at v ≡ b → (if a && not b then Some f else elsewhere r v es) ≡ Some e
+        → (elsewhere r v es ≡ Some e → (in_span r e.key ≡ true) × (e.at ≢ v)) → (in_span r e.key ≡ true) × (e.at ≢ v)
+    by true inside false other is more = let same : f ≡ e = cc in subst (λ (g : Stored). (in_span r g.key ≡ true) × (g.at ≢ v)) same (inside, differ other)
+    by true inside true other is more = more is
+    by false inside b other is more = more is
+
+idle_prepares : (n : ℕ) (s : State) (o : Option Migration) (k : KeyView) (rv : ℕ) → (idle_turn n s o).decision.answer ≡ prepare k rv → ⊥
+idle_prepares n s None k rv is = cc
+idle_prepares n s (Some q) k rv is = by (may_claim s.plan) (is_done s.plan) is
+  where
+    by : (a b : Bool)
+        → answer_of (if a then record { decision = enters claimed (note (Claim (s.plan.last + 1))); claim = Some (s.plan.last + 1) }
+        else if b then record { decision = enters (finished n) (entry MarkSucceeded); claim = None }
+        else record { decision = says idle; claim = None }) ≡ prepare k rv
+        → ⊥
+    by true b is = cc
+    by false true is = cc
+    by false false is = cc
+
+pub turn-prepares : (n : ℕ) (s : State) (c : Option ℕ) (k : KeyView) (rv : ℕ) → (turn_decision n s c).decision.answer ≡ prepare k rv → IsPrepared c k rv s
+turn-prepares n s c k rv is = by (work_of c s) refl is
+  where
+    worked : (w : Work) → work_of c s ≡ Some w → (o : Option Stored) → elsewhere w.span w.target s.objects ≡ o → (prepare_turn w o).decision.answer ≡ prepare k rv → IsPrepared c k rv s
+    worked w held None at is = cc
+    worked w held (Some e) at is =
+        let key : e.key ≡ k = cc in
+        let number : e.number ≡ rv = cc in
+        let there = elsewhere-is w.span w.target s.objects e at in
+        record {
+          work = w;
+          held = held;
+          object = e;
+          first = at;
+          key = key;
+          number = number;
+          inside = subst (λ (j : KeyView). in_span w.span j ≡ true) key there.0;
+          away = there.1;
+        }
+
+    by : (o : Option Work) → work_of c s ≡ o → (first_turn n s o).decision.answer ≡ prepare k rv → IsPrepared c k rv s
+    by None held is = absurd (idle_prepares n s (running s.migrations) k rv is)
+    by (Some w) held is = worked w held (elsewhere w.span w.target s.objects) refl is

@@ -9,10 +9,10 @@ ghost use Rattle.kube_meta.specs.declared.limits.Limits.{Limits};
 ghost use Rattle.api_calls.specs.Meaning.{Fault, Meaning};
 ghost use Rattle.api_calls.specs.Item.{Entry, Item, MarkSucceeded, StartMigration, entry};
 ghost use Rattle.api_calls.specs.Objects.{Stored, find};
-ghost use Rattle.api_calls.specs.State.{entry_effect, next_number, state};
+ghost use Rattle.api_calls.specs.State.{entry_effect, next_number, revision, state};
 ghost use Rattle.api_calls.specs.Legal.{Each, MaySucceed, legal};
 ghost use Rattle.api_calls.specs.Snap.{Supersedes, by_number, floor, past_weight, snap, superseded, window};
-ghost use Rattle.api_calls.specs.Laws.{Holds, IsSound, KeepsStorage, Leaves, MarkedAreHeld, Writes, away, touches_of};
+ghost use Rattle.api_calls.specs.Laws.{AreCounted, Holds, IsSound, KeepsStorage, Leaves, MarkedAreHeld, Writes, away, touches_of};
 ghost use Rattle.api_calls.specs.Bodies.{RefusesStart, Starts};
 
 use kj_value::one_reading;
@@ -67,6 +67,12 @@ pub fn finished<V: Means>()
 /// A value that is being deleted has a finalizer, where it is known what values mean.
 pub fn marked_are_held<V: Means>()
     ensures { (it : V) (limits : Limits) (log : List Item) → IsTrue (V.meaning it).honest → legal (V.meaning it) limits log → MarkedAreHeld (state (V.meaning it) log) }
+{}
+
+/// Each object's generation is at least 1 and at most the revision, where it is known what values mean.
+pub fn counted<V: Means>()
+    ensures { (it : V) (limits : Limits) (log : List Item) → IsTrue (V.meaning it).honest → legal (V.meaning it) limits log
+        → AreCounted (revision log) (state (V.meaning it) log) }
 {}
 
 /// The floor is the least number, at least 1, such that what later entries superseded fits into the window, and the

@@ -1,5 +1,5 @@
 //! The versions of a definition, as the server asks for them.
-ghost use Rattle.std.specs.Prelude.{◌≡◌, ◌≢◌, ◌+◌, ◌*◌, ◌<◌, ◌≤◌, ◌++◌, ◌↔◌, IfOk, IfErr, IsErrOf, IsSome, IsTrue, MatchOption, Option, List, length, ℕ, ℤ, Bool};
+ghost use Rattle.std.specs.Prelude.{◌≡◌, ◌≢◌, ◌+◌, ◌*◌, ◌<◌, ◌≤◌, ◌++◌, ◌↔◌, IfOk, IfErr, IsErrOf, IsSome, IsTrue, MatchOption, Option, List, length, ℕ, ℤ, pos, Bool};
 ghost use Rattle.kj_value.specs.Json.{depth};
 ghost use Rattle.kube_meta.specs.Document.{document};
 ghost use Rattle.kube_meta.specs.Names.{is_namespace};
@@ -248,8 +248,11 @@ pub fn one_weight<V: Versions>()
 {}
 
 /// The stored text of a hub value at any version takes no more than its weight, in chunks of 256 bytes, whatever its stamps
-/// and its generation are. The function does nothing, and its clause is the law.
+/// are, where the generation isn't negative: that of the object at the version, or, where it is known what values mean, that
+/// of the hub value. The function does nothing, and its clauses are the laws.
 pub fn stored_fits<V: Versions>()
-    ensures { (it : V) (v w : ℕ) (h x : ObjectView) → (V.meaning it).whole h → v < (V.meaning it).count → (V.meaning it).pair v h x
-        → Weighs (V.meaning it) h w → length (stored_text x) ≤ 256 * w }
+    ensures form { (it : V) (v w n : ℕ) (h x : ObjectView) → (V.meaning it).whole h → v < (V.meaning it).count → (V.meaning it).pair v h x
+        → Weighs (V.meaning it) h w → x.meta.generation ≡ pos n → length (stored_text x) ≤ 256 * w }
+    ensures hub { (it : V) (v w n : ℕ) (h x : ObjectView) → IsTrue V.HONEST → (V.meaning it).whole h → v < (V.meaning it).count → (V.meaning it).pair v h x
+        → Weighs (V.meaning it) h w → h.meta.generation ≡ pos n → length (stored_text x) ≤ 256 * w }
 {}

@@ -45,6 +45,5 @@ whole = record {
     created = record { bytes = refl; ascii = small_all (codes "2024-01-02T03:04:05Z") refl; plain = refl };
     deleted = tt;
     generation = omega arith;
-    counted = (1, refl);
   };
 }

@@ -195,7 +195,7 @@ admitted r h e a = record {
     is = a.is;
     named = a.named;
     placed = a.in_namespace;
-    stamps = record { created = tt; deleted = tt; generation = omega arith; counted = (0, refl) };
+    stamps = record { created = tt; deleted = tt; generation = omega arith };
   };
   created = ap (λ (x : ObjectView). x.meta.created) a.is;
   deleted = ap (λ (x : ObjectView). x.meta.deleted) a.is;
