@@ -1,5 +1,5 @@
 -- What a place among keys says of the things by key.
-use Rattle.std.proofs.Common.{◌≡◌, ℕ, zero, suc, ◌<◌, ◌≤◌, ◌+◌, List, [], ◌∷◌, length, get_or, map, Option, Some, None, Result, Ok, Err, Ordering, Less, Equal, Greater, false, subst, ap, sym, refl, ◌∙◌, arith}
+use Rattle.std.proofs.Common.{◌≡◌, ℕ, zero, suc, ◌<◌, ◌≤◌, List, [], ◌∷◌, length, get_or, set, map, Option, Some, None, Result, Ok, Err, Ordering, Less, Equal, Greater, false, subst, ap, sym, refl, ◌∙◌, arith}
 use Rattle.std.specs.Prelude.{find as first, insert, remove, not, slice_get}
 use Rattle.std.specs.Ordering.{match_ordering, is_gt}
 use Rattle.kube_meta.specs.Key.{KeyView, key_cmp}
@@ -21,6 +21,7 @@ module _ {F : Type 0} (key : F → KeyView) where
   pub record Hits (k : KeyView) (fs : List F) (i : ℕ) : Type 0 where
     pub within : i < length fs
     pub value : (d : F) → find key k fs ≡ Some (get_or fs i d)
+    pub replaced : (g : F) → key g ≡ k → set fs i g ≡ put key g fs
     pub removed : remove fs i ≡ without key k fs
     pub later : KeysRise (map key fs) → slice_get fs (suc i) ≡ behind k fs
 
@@ -59,9 +60,13 @@ module _ {F : Type 0} (key : F → KeyView) where
   found_past k f fs (Ok i) q h = record {
     within = omega (arith, h.within);
     value = λ d. rw q (h.value d);
+    replaced = λ g e. replaced_past g (rw e q) (h.replaced g e);
     removed = rw q (ap (λ (r : List F). f ∷ r) h.removed);
     later = λ s. h.later s.1 ∙ sym (skipped_greater k f fs q);
   }
+    where
+      replaced_past : (g : F) → key_cmp (key g) (key f) ≡ Greater → set fs i g ≡ put key g fs → set (f ∷ fs) (suc i) g ≡ put key g (f ∷ fs)
+      replaced_past g above e = rw above (ap (λ (r : List F). f ∷ r) e)
   found_past k f fs (Err i) q h = record {
     within = omega (arith, h.within);
     value = rw q h.value;
@@ -94,6 +99,7 @@ module _ {F : Type 0} (key : F → KeyView) where
       by_order h Equal q = record {
         within = omega arith;
         value = λ d. rw q refl;
+        replaced = λ g e. let same : key_cmp (key g) (key f) ≡ Equal = ap (λ (l : KeyView). key_cmp l (key f)) e ∙ q in rw same refl;
         removed = rw q refl;
         later = λ s. next_behind k f fs q s;
       }
@@ -160,3 +166,15 @@ module _ {F : Type 0} (key : F → KeyView) where
       by_order r Less = h
       by_order r Equal = h.1
       by_order r Greater = (below_first-without (key f) k fs h.0 h.1, r)
+
+  -- ---- one thing changes beside its key
+
+  pub keys-set : (fs : List F) (i : ℕ) (f g : F) → f ≡ get_or fs i f → key g ≡ key f → map key (set fs i g) ≡ map key fs
+  keys-set [] i f g e same = refl
+  keys-set (h ∷ fs) zero f g e same = ap (λ (k : KeyView). k ∷ map key fs) (same ∙ ap key e)
+  keys-set (h ∷ fs) (suc i) f g e same = ap (λ (ks : List KeyView). key h ∷ ks) (keys-set fs i f g e same)
+
+pub got : {F : Type 0} (fs : List F) (i : ℕ) (f g : F) → slice_get fs i ≡ Some f → g ≡ get_or fs i g → g ≡ f
+got [] i f g e q = absurd (cc)
+got (h ∷ fs) zero f g e q = let same : h ≡ f = cc in q ∙ same
+got (h ∷ fs) (suc i) f g e q = got fs i f g e q

@@ -1,15 +1,18 @@
 //! The sorted vector of rows.
-ghost use Rattle.std.specs.Prelude.{◌≡◌, ◌<◌, ◌≤◌, [], Some, None, find as first, length, map, not, option_map, option_copied, slice_get, IfOk};
+ghost use Rattle.std.specs.Prelude.{◌≡◌, ◌<◌, ◌≤◌, [], Ok, Some, None, find as first, length, map, not, option_map, option_copied, slice_get, slice_set, IfOk};
 ghost use Rattle.kube_meta.specs.Page.{bound_after};
 ghost use Rattle.kube_meta.specs.Plan.{passed};
-ghost use Rattle.record_index.specs.ByKey.{KeysRise, find, put, without};
+ghost use Rattle.record_index.specs.ByKey.{KeysRise, find, place as place_of, put, without};
+ghost use Rattle.record_index.specs.declared.row.Row.{Row as RowView};
 
 use crate::lookup::seek;
-use crate::row::Row;
+use crate::row::{Record, Row};
 use kj_value::NoMemory;
 use kube_meta::{Key, KeySpot};
+use record_region::Piece;
 use std::alloc::Global;
 use std::marker::Model;
+use std::mem;
 
 /// The rows of a store by strictly rising key. It takes its memory when it is opened, and none later.
 #[derive(Drop)]
@@ -54,6 +57,7 @@ impl Index {
     /// The rows by rising key.
     pub fn as_slice(&self) -> &[Row]
         ensures rows { result.now ≡ self.now.rows }
+        ensures room { length self.now.rows ≤ self.now.room }
         ensures order { KeysRise (map row_key self.now.rows) }
     {
         self.rows.as_slice()
@@ -103,6 +107,35 @@ impl Index {
                 }
             }
         }
+    }
+
+    /// What is known of the record at a place.
+    pub fn record_at(&self, place: usize) -> Record
+        requires within { place < length self.now.rows }
+        ensures { (row : RowView) → slice_get self.now.rows place ≡ Some row → result ≡ row.record }
+    {
+        self.rows[place].record
+    }
+
+    /// Puts a row in the place of the one under its key, as `seek` tells it, and answers that one. No
+    /// other row moves.
+    pub fn replace(&mut self, place: usize, row: Row) -> Row
+        requires there { place_of row.key (map row_key self.old.rows) ≡ Ok place }
+        ensures row { find row_key row.key self.old.rows ≡ Some result }
+        ensures rows { self.new ≡ record self.old { rows = put row_key row self.old.rows } }
+        ensures room { length self.old.rows ≤ self.old.room }
+        ensures order { KeysRise (map row_key self.old.rows) }
+    {
+        mem::replace(&mut self.rows[place], row)
+    }
+
+    /// Gives the row at a place this piece, in place of the one that it had.
+    pub fn set_piece(&mut self, place: usize, piece: Piece)
+        requires within { place < length self.old.rows }
+        ensures { (row : RowView) → slice_get self.old.rows place ≡ Some row
+            → self.new ≡ record self.old { rows = slice_set self.old.rows place (record row { piece = piece }) } }
+    {
+        self.rows[place].piece = piece;
     }
 
     /// Takes the row of a key out.

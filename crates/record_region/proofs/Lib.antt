@@ -4,3 +4,4 @@ pub mod Labels
 pub mod Views
 pub mod Regions
 pub mod Opening
+pub mod Called

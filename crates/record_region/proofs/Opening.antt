@@ -24,7 +24,7 @@ pub places_from-zeros : (store links : List ℕ) (first n : ℕ) → places_from
 places_from-zeros store links first zero = refl
 places_from-zeros store links first (suc n) = ap (λ (p : Places). None ∷ p) (places_from-zeros store links (suc first) n)
 
-used-none : (n : ℕ) → used (replicate n None) ≡ 0
+pub used-none : (n : ℕ) → used (replicate n None) ≡ 0
 used-none zero = refl
 used-none (suc n) = omega (arith, used-none n)
 

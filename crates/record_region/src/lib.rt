@@ -10,10 +10,12 @@
 
 mod chains;
 mod chunks;
+mod laws;
 mod piece;
 mod region;
 
 pub use chunks::{CHUNK_BYTES, chunks_of};
+pub use laws::every_list;
 pub use piece::{Piece, RegionFull};
 pub use region::Region;
 

@@ -1,10 +1,10 @@
 -- What a removal and an addition make of what the store holds.
-use Rattle.std.proofs.Common.{◌≡◌, ◌≢◌, ℕ, ◌+◌, ◌-◌, ◌≤◌, ◌<◌, List, [], ◌∷◌, ◌++◌, length, map, Option, None, Some, ap, refl, sym, subst, ◌∙◌, arith}
-use Rattle.std.specs.Prelude.{option_map, slice_set, IsUtf8, find as first}
+use Rattle.std.proofs.Common.{◌≡◌, ℕ, ◌+◌, ◌-◌, ◌≤◌, ◌<◌, List, [], ◌∷◌, ◌++◌, length, map, Option, None, Some, ap, refl, sym, subst, ◌∙◌, arith}
+use Rattle.std.specs.Prelude.{option_map, slice_set, IsUtf8}
 use Rattle.std.specs.List.{AllByRecursion as Each}
 use Rattle.std.proofs.lemmas.List.{length-set}
 use Rattle.kube_meta.specs.Key.{KeyView}
-use Rattle.kube_meta.specs.Window.{weights, fits, newest, floor_from}
+use Rattle.kube_meta.specs.Window.{weights, newest, floor_from}
 use Rattle.kube_meta.specs.WindowLaws.{newest-fits, fits-bounds}
 use Rattle.kube_meta.specs.declared.limits.Limits.{Limits}
 use Rattle.record_region.specs.Chunks.{chunks_of}
@@ -16,9 +16,9 @@ use Rattle.record_index.specs.declared.row.Row.{Row}
 use Rattle.record_window.specs.declared.past.Past.{Past}
 use Rattle.record_window.specs.Held.{trimmed}
 use Rattle.record_window.specs.Pasts.{Pasts, past_by, past_weight, rows_of}
-use Rattle.record_store.specs.View.{Item, Old, StoreView, IsStore, item_key, item_weight, old_by, old_weight}
+use Rattle.record_store.specs.View.{Item, StoreView, IsStore, item_key, item_weight, old_by, old_weight}
 use Rattle.record_store.specs.Moves.{removed, removed_found}
-use Rattle.record_store.specs.Inside.{item_of, old_of, store_view, row_weight, IsSound, Shares}
+use Rattle.record_store.specs.Inside.{item_of, old_of, store_view, row_weight, IsSound}
 use Rattle.record_store.proofs.Keyed.{weights-put, weights-without, without-absent, each-put, each-without, each-found, each-push, each-weaker}
 use Rattle.record_store.proofs.Mapped.{length-seen, push-seen, each-seen, keys-seen, find-seen, put-seen, without-seen, weights-seen, fits-seen, newest-seen, floor-seen, rises-seen}
 use Rattle.record_store.proofs.Pieces.{taken-le}

@@ -1,9 +1,9 @@
 -- What a list by key keeps where one thing is put into it or taken out.
-use Rattle.std.proofs.Common.{◌≡◌, ◌≢◌, ℕ, ◌+◌, ◌<◌, List, [], ◌∷◌, ◌++◌, length, map, Option, None, Some, Ordering, Less, Equal, Greater, ap, sym, subst, refl, ◌∙◌, arith}
+use Rattle.std.proofs.Common.{◌≡◌, ℕ, ◌+◌, List, [], ◌∷◌, ◌++◌, length, map, None, Some, Ordering, Less, Equal, Greater, ap, subst, refl, ◌∙◌, arith}
 use Rattle.std.specs.List.{AllByRecursion as Each}
 use Rattle.std.specs.Ordering.{match_ordering}
 use Rattle.kube_meta.specs.Key.{KeyView, key_cmp}
-use Rattle.kube_meta.specs.KeyOrder.{key_cmp_total, key_cmp_itself, key_cmp_one}
+use Rattle.kube_meta.specs.KeyOrder.{key_cmp_total, key_cmp_one}
 use Rattle.kube_meta.specs.Window.{weights}
 use Rattle.record_index.specs.ByKey.{IsBelowFirst, KeysRise, find, put, without}
 

@@ -6,3 +6,9 @@ pub mod Windows
 pub mod Changes
 pub mod Answered
 pub mod Opened
+pub mod Sorted
+pub mod Merged
+pub mod Paged
+pub mod Steps
+pub mod Overwritten
+pub mod Standings

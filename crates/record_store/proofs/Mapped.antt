@@ -1,5 +1,5 @@
 -- Lists by key and windows, seen through a function that keeps keys, numbers and weights.
-use Rattle.std.proofs.Common.{◌≡◌, ℕ, ◌<◌, List, [], ◌∷◌, ◌++◌, length, map, Option, None, Some, Bool, true, false, Ordering, Less, Equal, Greater, ap, sym, refl, ◌∙◌, arith, nat_lt, cond}
+use Rattle.std.proofs.Common.{◌≡◌, ℕ, List, [], ◌∷◌, ◌++◌, length, map, None, Some, Bool, true, false, Ordering, Less, Equal, Greater, ap, refl, ◌∙◌, arith, nat_lt, cond}
 use Rattle.std.specs.Prelude.{find as first, if◌then◌else◌, option_map, not, ◌&&◌}
 use Rattle.std.specs.List.{AllByRecursion as Each}
 use Rattle.std.specs.Ordering.{match_ordering}

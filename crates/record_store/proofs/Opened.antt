@@ -1,5 +1,5 @@
 -- A store of which nothing is used yet.
-use Rattle.std.proofs.Common.{◌≡◌, ℕ, zero, suc, ◌+◌, ◌<◌, ◌^◌, List, [], length, Option, None, ap, refl, sym, ◌∙◌, arith}
+use Rattle.std.proofs.Common.{◌≡◌, ℕ, zero, suc, ◌+◌, ◌<◌, ◌^◌, List, [], length, Option, None, ap, refl, sym, arith}
 use Rattle.std.specs.Prelude.{replicate}
 use Rattle.kube_meta.specs.WindowLaws.{newest-fits}
 use Rattle.kube_meta.specs.declared.limits.Limits.{Limits}

@@ -1,16 +1,14 @@
 -- What the rows see where one piece of the region changes that none of them has.
-use Rattle.std.proofs.Common.{◌≡◌, ◌≢◌, ℕ, ◌+◌, ◌*◌, ◌≤◌, ◌<◌, List, [], ◌∷◌, length, map, Option, None, Some, Bool, true, false, ap, refl, sym, subst, ◌∙◌, arith, nat_eq}
+use Rattle.std.proofs.Common.{◌≡◌, ◌≢◌, ℕ, ◌+◌, ◌*◌, ◌≤◌, List, [], ◌∷◌, length, map, Option, None, Some, Bool, true, false, ap, refl, sym, subst, ◌∙◌, arith, nat_eq}
 use Rattle.std.specs.Prelude.{if◌then◌else◌, slice_set, IsSome, IsUtf8}
-use Rattle.std.specs.List.{AllByRecursion as Each}
 use Rattle.std.proofs.lemmas.Bool.Decides.{nat_tests}
 use Rattle.kube_meta.specs.Window.{weights}
 use Rattle.record_region.specs.Chunks.{chunks_of}
 use Rattle.record_region.specs.Laws.{piece_at-set_other, live-set_other}
 use Rattle.record_region.specs.Places.{Places, piece_at, bytes_in, bytes_at, chunks_in}
 use Rattle.record_index.specs.declared.row.Row.{Row}
-use Rattle.record_index.specs.declared.row.Record.{Record}
 use Rattle.record_window.specs.declared.past.Past.{Past}
-use Rattle.record_window.specs.Held.{holders, pieces_in, pieces_at}
+use Rattle.record_window.specs.Held.{holders, pieces_in}
 use Rattle.record_window.specs.Pasts.{rows_of}
 use Rattle.record_store.specs.View.{Item, Old, record_of}
 use Rattle.record_store.specs.Inside.{item_of, old_of, IsKept, AreKept, taken, row_weight}

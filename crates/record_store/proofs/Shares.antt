@@ -1,11 +1,10 @@
 -- The rows and the window go on sharing out the pieces of the region.
-use Rattle.std.proofs.Common.{◌≡◌, ◌≢◌, ℕ, ◌+◌, ◌≤◌, ◌<◌, List, [], ◌∷◌, ◌++◌, length, map, Option, None, Some, Bool, true, false, ap, refl, sym, subst, ◌∙◌, arith, nat_eq}
+use Rattle.std.proofs.Common.{◌≡◌, ◌≢◌, ℕ, ◌+◌, ◌≤◌, ◌<◌, List, [], ◌∷◌, ◌++◌, length, map, None, Some, Bool, true, false, ap, refl, sym, subst, ◌∙◌, arith, nat_eq}
 use Rattle.std.specs.Prelude.{if◌then◌else◌, slice_set, IsUtf8}
 use Rattle.std.proofs.lemmas.Bool.Decides.{nat_tests}
 use Rattle.std.proofs.lemmas.List.{length-set}
 use Rattle.kube_meta.specs.Key.{KeyView}
 use Rattle.kube_meta.specs.Window.{weights, fits, newest}
-use Rattle.kube_meta.specs.WindowLaws.{weights-append}
 use Rattle.kube_meta.specs.declared.limits.Limits.{Limits}
 use Rattle.record_region.specs.Chunks.{chunks_of}
 use Rattle.record_region.specs.Laws.{piece_at-set_other, piece_at-set_same, live-put, live_within, used-set}
@@ -16,11 +15,10 @@ use Rattle.record_index.specs.declared.row.Row.{Row}
 use Rattle.record_window.specs.declared.past.Past.{Past}
 use Rattle.record_window.specs.Held.{holders, pieces_in, pieces_at, trimmed}
 use Rattle.record_window.specs.Pasts.{past_weight, rows_of}
-use Rattle.record_store.specs.View.{Item, Old}
 use Rattle.record_store.specs.Inside.{item_of, old_of, IsKept, AreKept, taken, Shares}
 use Rattle.record_store.proofs.Keyed.{weights-put, weights-without, each-put, each-without, each-found, each-push}
 use Rattle.record_store.proofs.Mapped.{push-seen}
-use Rattle.record_store.proofs.Pieces.{at_most_one, own, apart, items-set, olds-set, all_kept-set, chunks_kept}
+use Rattle.record_store.proofs.Pieces.{at_most_one, own, items-set, olds-set, all_kept-set, chunks_kept}
 
 -- one row's share of a chunk
 abbrev share : ℕ → Row → ℕ

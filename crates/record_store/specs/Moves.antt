@@ -1,5 +1,5 @@
 -- What a write and a removal make of a store.
-use Rattle.std.specs.Prelude.{ℕ, List, [], ◌∷◌, ◌++◌, Option, None, Some}
+use Rattle.std.specs.Prelude.{ℕ, [], ◌∷◌, ◌++◌, Option, None, Some}
 use Rattle.kube_meta.specs.Key.{KeyView}
 use Rattle.kube_meta.specs.Window.{floor_from, newest}
 use Rattle.record_index.specs.ByKey.{find, put, without}

@@ -4,18 +4,21 @@
 //! The one contract: a store is seen as its records by strictly rising key, each with its text, and the
 //! window of superseded ones. A write puts one record under its key, moves the one that stood there
 //! into the window, and leaves every other record as it is. It takes no memory and is never refused for
-//! want of it: all memory is taken when a store is opened.
+//! want of it: all memory is taken when a store is opened. A page at a number from the floor on has
+//! copies of the records as they were then.
 //!
 //! It knows nothing of what a text means, of versions, or of requests.
 #![tactic(auto)]
 
 mod answer;
+mod held_versions;
+mod page;
 mod record;
 mod store;
 mod text;
 
 pub use answer::PutEnd;
-pub use record::NewRecord;
+pub use record::{NewRecord, StorePage, StoredRecord};
 pub use record_index::Record;
 pub use store::Store;
 

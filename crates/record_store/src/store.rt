@@ -1,19 +1,23 @@
 //! The store: an index of records, a window, and the region that holds their texts.
-ghost use Rattle.std.specs.Prelude.{◌≡◌, ◌+◌, ◌*◌, ◌<◌, ◌≤◌, ◌≢◌, ◌^◌, [], None, IfOk, find as first, if◌then◌else◌, length, not, option_copied, option_map};
+ghost use Rattle.std.specs.Prelude.{◌≡◌, ◌+◌, ◌*◌, ◌<◌, ◌≤◌, ◌≢◌, ◌^◌, [], Ok, None, IfOk, find as first, if◌then◌else◌, length, map, not, option_copied, option_map};
 ghost use Rattle.std.specs.Option.{ForSome};
-ghost use Rattle.kube_meta.specs.Page.{bound_after};
+ghost use Rattle.kube_meta.specs.Page.{bound_after, listed, page_of};
 ghost use Rattle.kube_meta.specs.Plan.{passed};
 ghost use Rattle.kube_meta.specs.Window.{weights};
-ghost use Rattle.record_index.specs.ByKey.{find};
-ghost use Rattle.record_store.specs.View.{IsStore, item_key, item_weight, record_of};
+ghost use Rattle.record_index.specs.ByKey.{find, place as place_of};
+ghost use Rattle.record_store.specs.Copies.{Shows};
+ghost use Rattle.record_store.specs.Standing.{first_held, item_at};
+ghost use Rattle.record_store.specs.View.{IsStore, item_key, item_weight, items_at, record_of};
 
 use crate::answer::PutEnd;
-use crate::record::NewRecord;
+use crate::held_versions::first_among;
+use crate::page::{copies, listed, shown, superseded};
+use crate::record::{NewRecord, StorePage};
 use crate::text::copy_text;
 use kj_value::{NoMemory, Txt};
 use kube_meta::{Key, KeySpot, Limits, Room, RoomKind};
-use record_index::{Index, Record, Row};
-use record_region::Region;
+use record_index::{Index, Record, Row, seek};
+use record_region::{Piece, Region};
 use record_window::{Past, Window};
 use std::alloc::Global;
 use std::marker::Model;
@@ -119,6 +123,40 @@ impl Store {
             Some(row) => Some((row.key.spot(), row.record)),
             None => None,
         }
+    }
+
+    /// The first of these versions at which a record stands, with the key of the first record there: one pass over the
+    /// records. It takes no memory.
+    pub fn first_held(&self, versions: &[u8]) -> Option<(u8, KeySpot)>
+        ensures { result ≡ first_held item_at item_key versions.now self.now.items }
+    {
+        first_among(self.index.as_slice(), versions)
+    }
+
+    /// A page of the records as they were at a number: copies of those of a namespace behind a key, up
+    /// to a limit, where limit 0 means none, and how many are left behind them. No namespace asks for
+    /// all.
+    pub fn page_at(
+        &self,
+        alloc: Global,
+        ns: Option<&str>,
+        after: Option<&Key>,
+        rv: u64,
+        limit: u64,
+    ) -> Result<StorePage, NoMemory>
+        requires known { self.now.floor ≤ rv }
+        ensures page { IfOk result (λ page. Shows page
+            (page_of rv limit (listed item_key (option_copied ns.entry) (option_copied after.entry) (items_at rv self.now)))) }
+        ensures present { self.now.last ≤ rv → items_at rv self.now ≡ self.now.items }
+    {
+        let olds = superseded(alloc, &self.window, rv)?;
+        let picks = listed(alloc, self.index.as_slice(), olds.as_slice(), rv, ns, after)?;
+        let count = shown(picks.len(), limit);
+        let items = copies(alloc, &self.region, &picks[..count])?;
+        Ok(StorePage {
+            items,
+            remaining: (picks.len() - count) as u64,
+        })
     }
 
     /// Writes a record where none stands under its key, or over the one of the expected number. It
@@ -237,15 +275,54 @@ impl Store {
         requires room { HasRoom new.weight (find item_key new.key self.old.items) self.old }
         ensures { self.new ≡ with_new now new self.old }
     {
-        let born = match self.take_out(&new.key, now) {
-            Some(old) => old.born,
-            None => now,
+        match seek(self.index.as_slice(), new.key.ns(), new.key.name()) {
+            Ok(place) => self.write_over(place, now, new),
+            Err(_) => self.add(now, new),
+        }
+    }
+
+    // Writes a record for which there is room over the one at this place of the index. That one goes into
+    // the window before the new text is put, and its place waits for the piece.
+    fn write_over(&mut self, place: usize, now: u64, new: NewRecord)
+        requires later { self.old.last < now }
+        requires weighed { new.weight ≢ 0 }
+        requires within { length new.bytes.bytes ≤ 256 * new.weight }
+        requires there { place_of new.key (map item_key self.old.items) ≡ Ok place }
+        requires room { HasRoom new.weight (find item_key new.key self.old.items) self.old }
+        ensures { self.new ≡ with_new now new self.old }
+    {
+        let NewRecord {
+            key,
+            at,
+            weight,
+            bytes,
+        } = new;
+        let standing = self.index.record_at(place);
+        let record = Record {
+            at,
+            rv: now,
+            born: standing.born,
+            weight,
+            len: bytes.len() as u64,
         };
-        self.add(born, now, new);
+        let waiting = Row {
+            key,
+            record,
+            piece: Piece::none(),
+        };
+        let row = self.index.replace(place, waiting);
+        self.window.append(Past { by: now, row });
+        self.window.trim(&mut self.region);
+        let Ok(piece) = self.region.put(bytes.as_str().as_bytes()) else {
+            unreachable!()
+        };
+        self.index.set_piece(place, piece);
+        self.live = self.live - standing.weight + weight;
+        self.last = now;
     }
 
     // Adds a record for which there is room, under a key where none stands.
-    fn add(&mut self, born: u64, now: u64, new: NewRecord)
+    fn add(&mut self, now: u64, new: NewRecord)
         requires fresh { find item_key new.key self.old.items ≡ None }
         requires numbers { self.old.last ≤ now }
         requires counted { 1 ≤ now }
@@ -253,7 +330,7 @@ impl Store {
         requires light { weights item_weight self.old.items + new.weight ≤ self.old.limits.chunks }
         requires weighed { new.weight ≢ 0 }
         requires within { length new.bytes.bytes ≤ 256 * new.weight }
-        ensures { self.new ≡ added born now new self.old }
+        ensures { self.new ≡ added now now new self.old }
     {
         let NewRecord {
             key,
@@ -267,7 +344,7 @@ impl Store {
         let record = Record {
             at,
             rv: now,
-            born,
+            born: now,
             weight,
             len: bytes.len() as u64,
         };

@@ -192,3 +192,87 @@ fn a_thousand_rounds(rt: HostRuntime) -> Result<(), Fail> {
     assert_eq!(rt; store.floor(), 2_999);
     Ok(())
 }
+
+// Two records of a page of at most two, at a number that is still known, and how many are behind them.
+fn page_shows(
+    rt: &impl Abort,
+    alloc: Global,
+    store: &Store,
+    rv: u64,
+    first: &str,
+    second: &str,
+) -> Result<(), Fail> {
+    assert!(rt; store.floor() <= rv);
+    let page = store.page_at(alloc, Some("ns"), None, rv, 2)?;
+    assert_eq!(rt; page.items.len(), 2);
+    assert_eq!(rt; page.items[0].text.as_str(), first);
+    assert_eq!(rt; page.items[1].text.as_str(), second);
+    assert_eq!(rt; page.remaining, 0);
+    Ok(())
+}
+
+// One record behind the first, and none behind that.
+fn next_page_shows(
+    rt: &impl Abort,
+    alloc: Global,
+    store: &Store,
+    rv: u64,
+    text: &str,
+) -> Result<(), Fail> {
+    assert!(rt; store.floor() <= rv);
+    let one = store.page_at(alloc, None, None, rv, 1)?;
+    assert_eq!(rt; one.items.len(), 1);
+    assert_eq!(rt; one.remaining, 1);
+    let rest = store.page_at(alloc, None, Some(&one.items[0].key), rv, 1)?;
+    assert_eq!(rt; rest.items.len(), 1);
+    assert_eq!(rt; rest.items[0].text.as_str(), text);
+    assert_eq!(rt; rest.remaining, 0);
+    Ok(())
+}
+
+// Two records of one chunk each, each written over once. The numbers of the writes are 1 to 4.
+fn both_twice(rt: &impl Abort, alloc: Global) -> Result<Store, Fail>
+    ensures { IfOk result (λ s. s.last ≤ 4) }
+{
+    let mut store = small(alloc, 4, 2)?;
+    put(
+        rt,
+        &mut store,
+        None,
+        1,
+        record(alloc, "b", 1, "b as born")?,
+        PutEnd::Done,
+    );
+    put(
+        rt,
+        &mut store,
+        None,
+        2,
+        record(alloc, "a", 1, "a as born")?,
+        PutEnd::Done,
+    );
+    touch(rt, alloc, &mut store, "a", 3, "a again")?;
+    touch(rt, alloc, &mut store, "b", 4, "b again")?;
+    Ok(store)
+}
+
+#[test]
+fn pages_of_old_numbers(rt: HostRuntime) -> Result<(), Fail> {
+    let store = both_twice(&rt, rt.alloc())?;
+    assert_eq!(rt; store.floor(), 1);
+    page_shows(&rt, rt.alloc(), &store, 2, "a as born", "b as born")?;
+    page_shows(&rt, rt.alloc(), &store, 4, "a again", "b again")?;
+    Ok(())
+}
+
+#[test]
+fn a_floor_passes(rt: HostRuntime) -> Result<(), Fail> {
+    let mut store = both_twice(&rt, rt.alloc())?;
+    touch(&rt, rt.alloc(), &mut store, "a", 5, "a at last")?;
+    assert_eq!(rt; store.floor(), 3);
+    page_shows(&rt, rt.alloc(), &store, 3, "a again", "b as born")?;
+    next_page_shows(&rt, rt.alloc(), &store, 3, "b as born")?;
+    touch(&rt, rt.alloc(), &mut store, "b", 6, "b at last")?;
+    assert_eq!(rt; store.floor(), 4);
+    Ok(())
+}

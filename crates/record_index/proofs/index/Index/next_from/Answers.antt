@@ -1,4 +1,4 @@
-use Rattle.std.proofs.Common.{◌≡◌, ℕ, List, Option, Some, None, map, ap, sym, subst, ◌∙◌, arith, add-one, Bor}
+use Rattle.std.proofs.Common.{List, Option, map, ap, sym, subst, ◌∙◌, arith, add-one, Bor}
 use Rattle.std.specs.Prelude.{slice_get, option_copied, find as first, not}
 use Rattle.kube_meta.specs.Key.{KeyView}
 use Rattle.kube_meta.specs.Page.{bound_after}

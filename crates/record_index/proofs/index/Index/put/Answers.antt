@@ -1,5 +1,5 @@
-use Rattle.std.proofs.Common.{◌≡◌, List, length, None, Some, sym, ap, refl, ◌∙◌, arith, true}
-use Rattle.std.specs.Prelude.{is_ok, insert, if◌then◌else◌}
+use Rattle.std.proofs.Common.{◌≡◌, List, length, None, sym, ap, refl, ◌∙◌, arith, true}
+use Rattle.std.specs.Prelude.{is_ok}
 use Rattle.record_index.specs.ByKey.{find, put}
 use Rattle.record_index.specs.Rows.{Rows, row_key}
 use Rattle.record_index.specs.declared.row.Row.{Row}

@@ -1,15 +1,22 @@
-use Rattle.std.proofs.Common.{◌≡◌, ◌≤◌, ◌<◌, ℕ, subst, sym, ap, ◌∙◌}
+use Rattle.std.proofs.Common.{map, subst, sym, ap, ◌∙◌}
 use Rattle.record_index.specs.ByKey.{find}
-use Rattle.record_store.specs.View.{StoreView, item_key}
-use Rattle.record_store.specs.Moves.{removed, added, with_new, born_of}
-use Rattle.record_store.proofs.Answered.{Ready, ready, born_some, born_none, rewritten}
+use Rattle.record_index.specs.ByKey.{place as place_of}
+use Rattle.record_store.specs.View.{StoreView, IsStore, item_key}
+use Rattle.record_store.proofs.Answered.{Ready}
+use Rattle.record_store.proofs.Changes.{is-store}
+use Rattle.record_store.proofs.Overwritten.{place-of, none-at, ready-fresh, written-fresh}
 use Rattle.record_store.proofs.store.Store.commit.Goals as goal
-use Rattle.record_store.proofs.store.Store.commit.Goals.{in-Some, in-None}
 
-its_ready : (c : goal.After-add-arg-1) → Ready c.args.new.weight c.args.now c.args.new.key c.take_out.new.self
+pub write_over-requires-clause-there : goal.write_over-requires-clause-there
+write_over-requires-clause-there c =
+    ap (λ (v : StoreView). place_of c.args.new.key (map item_key v.items)) (sym c.self.view_is)
+    ∙ place-of c.self.inside.region c.self.inside.index.rows c.args.new.key _ _ _ c.in-Ok.place c.ns.ensures.value c.name.ensures.value c.as_slice.ensures.rows c.in-Ok.ensures
+
+its_ready : (c : goal.After-add-arg-1) → Ready c.args.new.weight c.args.now c.args.new.key c.args.self.now
 its_ready c =
-    let P : StoreView → Type 0 = λ s. Ready c.args.new.weight c.args.now c.args.new.key s in
-    subst P (sym c.take_out.ensures.store) (ready c.args.new.weight c.args.now c.args.new.key c.args.self.now c.take_out.ensures.sound c.requires.later c.requires.room)
+    let none = ap (λ (v : StoreView). find item_key c.args.new.key v.items) (sym c.self.view_is) ∙ none-at c.self.inside.region c.self.inside.index.rows c.args.new.key _ _ _ _ c.ns.ensures.value c.name.ensures.value c.as_slice.ensures.rows c.in-Err.ensures in
+    let stands = is-store c.self.inside.limits c.self.inside.index c.self.inside.window c.self.inside.region c.self.inside.live c.self.inside.last c.self.invariant c.as_slice.ensures.order c.as_slice.ensures.room in
+    ready-fresh c.args.new.weight c.args.now c.args.new.key c.args.self.now (subst IsStore c.self.view_is stands) c.requires.later none c.requires.room
 
 pub add-requires-clause-fresh : goal.add-requires-clause-fresh
 add-requires-clause-fresh c = (its_ready c).fresh
@@ -20,16 +27,7 @@ add-requires-clause-room c = (its_ready c).room
 pub add-requires-clause-light : goal.add-requires-clause-light
 add-requires-clause-light c = (its_ready c).light
 
-pub add-requires-clause-numbers : goal.add-requires-clause-numbers
-add-requires-clause-numbers c = (its_ready c).numbers
-
-born : (c : goal.After-add) → c.match-take_out.born ≡ born_of (find item_key c.args.new.key c.args.self.now.items) c.args.now
-born c = elim c.match-take_out.branch [
-  | in-Some w ↦ w.born-is ∙ born_some (find item_key c.args.new.key c.args.self.now.items) w.in-Some.old c.args.now (sym w.in-Some.is ∙ c.take_out.ensures.found)
-  | in-None w ↦ w.born-is ∙ born_none (find item_key c.args.new.key c.args.self.now.items) c.args.now (sym w.in-None.is ∙ c.take_out.ensures.found)
-]
-
-pub returns : goal.returns
-returns c =
-    c.add.ensures ∙ ap (added c.match-take_out.born c.args.now c.args.new) c.take_out.ensures.store
-    ∙ rewritten c.match-take_out.born c.args.now c.args.new c.args.self.now c.take_out.ensures.sound.order (born c)
+pub returns-in-Err : goal.returns-in-Err
+returns-in-Err c =
+    let none = ap (λ (v : StoreView). find item_key c.args.new.key v.items) (sym c.self.view_is) ∙ none-at c.self.inside.region c.self.inside.index.rows c.args.new.key _ _ _ _ c.ns.ensures.value c.name.ensures.value c.as_slice.ensures.rows c.in-Err.ensures in
+    c.add.ensures ∙ written-fresh c.args.now c.args.new c.args.self.now none

@@ -1,5 +1,5 @@
 use Rattle.std.proofs.Common.{subst}
-use Rattle.record_store.specs.View.{StoreView, IsStore}
+use Rattle.record_store.specs.View.{IsStore}
 use Rattle.record_store.proofs.Changes.{is-store}
 use Rattle.record_store.proofs.store.Store.len.Goals as goal
 

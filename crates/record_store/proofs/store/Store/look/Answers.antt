@@ -1,4 +1,4 @@
-use Rattle.std.proofs.Common.{◌≡◌, Option, Some, None, ap, sym, ◌∙◌, Bor}
+use Rattle.std.proofs.Common.{Option, Some, None, ap, sym, ◌∙◌, Bor}
 use Rattle.std.specs.Prelude.{option_copied, option_map}
 use Rattle.record_index.specs.ByKey.{find}
 use Rattle.record_index.specs.declared.row.Row.{Row}

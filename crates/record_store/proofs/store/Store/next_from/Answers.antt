@@ -1,4 +1,4 @@
-use Rattle.std.proofs.Common.{◌≡◌, Option, Some, None, ap, sym, ◌∙◌, Bor, not}
+use Rattle.std.proofs.Common.{Option, Some, None, ap, sym, ◌∙◌, Bor, not}
 use Rattle.std.specs.Prelude.{option_copied, option_map, find as first}
 use Rattle.kube_meta.specs.Key.{KeyView}
 use Rattle.kube_meta.specs.Page.{bound_after}

@@ -1,7 +1,7 @@
-use Rattle.std.proofs.Common.{sym, ◌∙◌, ap, refl, Bool}
+use Rattle.std.proofs.Common.{sym, ◌∙◌}
 use Rattle.record_index.specs.ByKey.{find}
-use Rattle.record_store.specs.View.{StoreView, item_key}
-use Rattle.record_store.proofs.Answered.{done_room, not_done}
+use Rattle.record_store.specs.View.{item_key}
+use Rattle.record_store.proofs.Answered.{done_room}
 use Rattle.record_store.proofs.store.Store.put_if.Goals as goal
 
 pub commit-requires-clause-room : goal.commit-requires-clause-room

@@ -1,4 +1,4 @@
-use Rattle.std.proofs.Common.{◌≡◌, Option, Some, None, List, ℕ, ap, sym, ◌∙◌, Bor}
+use Rattle.std.proofs.Common.{Option, Some, None, List, ℕ, ap, sym, ◌∙◌, Bor}
 use Rattle.std.specs.Prelude.{option_copied, option_map}
 use Rattle.record_index.specs.ByKey.{find}
 use Rattle.record_index.specs.Rows.{row_key}

@@ -1,18 +1,16 @@
-use Rattle.std.proofs.Common.{◌≡◌, ◌≤◌, ◌<◌, ◌+◌, ℕ, Option, Some, None, ap, sym, subst, ◌∙◌, arith}
+use Rattle.std.proofs.Common.{◌≡◌, ◌<◌, Some, None, ap, sym, subst, ◌∙◌, arith}
 use Rattle.std.specs.Prelude.{option_map}
-use Rattle.kube_meta.specs.Window.{weights}
 use Rattle.kube_meta.specs.WindowLaws.{fits-bounds}
 use Rattle.record_index.specs.ByKey.{find}
 use Rattle.record_index.specs.Rows.{row_key}
-use Rattle.record_index.specs.declared.row.Row.{Row}
-use Rattle.record_window.specs.Held.{holders, pieces_at}
+use Rattle.record_window.specs.Held.{holders}
 use Rattle.record_window.specs.Pasts.{Pasts, past_by, past_weight, rows_of}
 use Rattle.record_store.specs.View.{StoreView, IsStore, item_key, record_of}
 use Rattle.record_store.specs.Moves.{removed}
-use Rattle.record_store.specs.Inside.{row_weight, store_view}
+use Rattle.record_store.specs.Inside.{row_weight}
 use Rattle.record_store.proofs.Keyed.{weights-without}
 use Rattle.record_store.proofs.Shares.{moves}
-use Rattle.record_store.proofs.Changes.{Changed, is-store, unchanged, removal}
+use Rattle.record_store.proofs.Changes.{is-store, unchanged, removal}
 use Rattle.record_store.proofs.Answered.{looked}
 use Rattle.record_store.proofs.store.Store.take_out.Goals as goal
 

@@ -1,0 +1,12 @@
+use Rattle.std.proofs.Common.{◌≡◌, ◌≤◌, ◌++◌, length, drop}
+use Rattle.std.specs.Prelude.{option_copied}
+use Rattle.kube_meta.specs.Page.{listed}
+use Rattle.record_index.specs.Rows.{row_key}
+use Rattle.record_store.specs.Picked.{merged, rows_in, standing}
+use Rattle.record_store.proofs.page.listed.Given as goal
+
+abbrev pub invariant-loop-row : goal.invariant-loop-row
+invariant-loop-row l = record {
+  within : l.from ≤ length l.olds;
+  rows : rows_in l.picks.items ++ listed row_key (option_copied l.ns) (option_copied l.after) (merged row_key (standing l.rv (drop l.row-index l.rows)) (rows_in (drop l.from l.olds))) ≡ listed row_key (option_copied l.ns) (option_copied l.after) (merged row_key (standing l.rv l.rows) (rows_in l.olds));
+}
