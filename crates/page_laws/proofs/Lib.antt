@@ -1,0 +1,4 @@
+pub mod Rising
+pub mod Rebuilt
+pub mod Members
+pub mod Pairs
