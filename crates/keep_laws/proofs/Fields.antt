@@ -163,7 +163,7 @@ disjoint_turned ns ms h k p = by_answer (has_name k ns) refl
     by_answer true q = absurd (true_false (has_name k ms) p (h k q))
     by_answer false q = refl
 
-has_left : (k : Name) (ns ms : List Name) → has_name k ns ≡ true → has_name k (ns ++ ms) ≡ true
+pub has_left : (k : Name) (ns ms : List Name) → has_name k ns ≡ true → has_name k (ns ++ ms) ≡ true
 has_left k [] ms h = absurd (true_false false h refl)
 has_left k (n ∷ ns) ms h = by_name (has_left k ns ms) (bytes_eq k n) refl
   where
@@ -171,7 +171,7 @@ has_left k (n ∷ ns) ms h = by_name (has_left k ns ms) (bytes_eq k n) refl
     by_name later true q = refl
     by_name later false q = later (grind (arith, h, q))
 
-has_right : (k : Name) (ns ms : List Name) → has_name k ms ≡ true → has_name k (ns ++ ms) ≡ true
+pub has_right : (k : Name) (ns ms : List Name) → has_name k ms ≡ true → has_name k (ns ++ ms) ≡ true
 has_right k [] ms h = h
 has_right k (n ∷ ns) ms h = has_more k n (ns ++ ms) (has_right k ns ms h)
 

@@ -4,8 +4,8 @@ pub mod Holds
 pub mod Back
 pub mod Written
 pub mod Dead
-pub mod OneLevel
 pub mod Bodies
 pub mod Living
+pub mod Apart
 pub mod Canonical
 pub mod InWords

@@ -4,7 +4,6 @@ pub mod Pairing
 pub mod Body
 pub mod Whole
 pub mod Settle
-pub mod Across
 pub mod Known
 pub mod Alive
 pub mod Words

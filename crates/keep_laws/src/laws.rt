@@ -1,5 +1,6 @@
 //! Laws of objects with kept entries. Each function does nothing, and its clause is the law.
-ghost use Rattle.std.specs.Prelude.{◌≡◌};
+ghost use Rattle.std.specs.Prelude.{◌≡◌, true};
+ghost use Rattle.kept_entries.specs.Entry.{are_in_order};
 ghost use Rattle.hub_cells.specs.Side as sides;
 ghost use Rattle.hub_cells.specs.Level.{Level, NoNameTwice};
 ghost use Rattle.keep_laws.specs.Whole.{Held, Ready, IsWhole, IsPair, IsTheOne, marks_of, other_object};
@@ -49,4 +50,10 @@ pub fn converting()
 /// alive is whole.
 pub fn in_words()
     ensures { (d : sides.Side) (l : Level) (x : Held) → Ready l → IsSettledObject d l x → IsWhole d l x }
+{}
+
+/// The entries of a whole object are in order.
+pub fn rising_entries()
+    ensures { (d : sides.Side) (l : Level) (x : Held) → Ready l → IsWhole d l x
+        → are_in_order x.entries ≡ true }
 {}

@@ -9,4 +9,4 @@
 
 mod laws;
 
-pub use laws::{converting, exactly_one, in_words, over_and_back, settling};
+pub use laws::{converting, exactly_one, in_words, over_and_back, rising_entries, settling};

@@ -1,5 +1,5 @@
 -- One cell more of a level.
-use Rattle.std.proofs.Common.{◌≡◌, ℕ, ◌+◌, ◌<◌, List, [], ◌∷◌, ◌++◌, map, drop, length, get_or, true, Option, Some, None, append_assoc, refl, ap, sym, subst, ◌∙◌}
+use Rattle.std.proofs.Common.{◌≡◌, ℕ, ◌+◌, ◌<◌, List, [], ◌∷◌, ◌++◌, map, drop, length, get_or, true, Option, Some, None, append_assoc, refl, ap, subst, ◌∙◌}
 use Rattle.kj_value.specs.Fields.{Pairs}
 use Rattle.kept_entries.specs.declared.entry.Entry.{Entry}
 use Rattle.hub_cells.specs.Side.{Side}

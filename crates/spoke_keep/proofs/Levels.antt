@@ -1,5 +1,5 @@
 -- A level taken over is what its cells and then its inner objects give.
-use Rattle.std.proofs.Common.{◌≡◌, suc, List, [], ◌∷◌, ◌++◌, length, Option, Some, None, refl, ap, ap₂, sym, subst, ◌∙◌, arith}
+use Rattle.std.proofs.Common.{◌≡◌, suc, List, [], ◌∷◌, ◌++◌, length, true, Option, Some, None, refl, ap, ap₂, sym, subst, ◌∙◌, arith}
 use Rattle.kj_value.specs.Json.{Json}
 use Rattle.kj_value.specs.Fields.{Pairs, field, with_field}
 use Rattle.kept_entries.specs.declared.entry.Entry.{Entry}
@@ -7,6 +7,7 @@ use Rattle.hub_cells.specs.Side.{Side, other}
 use Rattle.hub_cells.specs.Cell.{Tuple}
 use Rattle.hub_cells.specs.LevelDepth.{level_depth, inners_depth}
 use Rattle.hub_cells.specs.Level.{Name, Cell, Level, level, Inners, no_inner, inner, cells_in, inners_in, names, named, cells_names, inner_names, Fits}
+use Rattle.kept_entries.specs.Entry.{are_in_order}
 use Rattle.keep_laws.specs.Entry.{put, inside, in_order}
 use Rattle.keep_laws.specs.Marked.{Marks, Marked, MarkedInners, AreGood, there, crossed, crossed_marks, crossed_inners}
 use Rattle.keep_laws.specs.Body.{object_in, as_field, read, read_cells, read_inners, cells_values, body, inner_values, entry_of, cell_entries, with_inside, all_entries, inner_entries}
@@ -118,3 +119,7 @@ allowed_left d l x es left e h = subst (λ (gs : List Entry). IsAllowed d l (rea
 pub converted_is : (d : Side) (l : Level) (x fs : Pairs) (es left all ks : List Entry) → left ≡ es → fs ≡ body (other d) l (marks_over d l x left) → all ≡ all_entries (other d) l (marks_over d l x left) → ks ≡ in_order all → held fs ks ≡ converted d l (held x es)
 converted_is d l x fs es left all ks e p q h =
     ap₂ held (p ∙ ap (λ (gs : List Entry). body (other d) l (marks_over d l x gs)) e) (h ∙ ap in_order (q ∙ ap (λ (gs : List Entry). all_entries (other d) l (marks_over d l x gs)) e))
+
+pub made_in_order : (d : Side) (l : Level) (x : Pairs) (es left all : List Entry) → left ≡ es → all ≡ all_entries (other d) l (marks_over d l x left) → are_in_order (converted d l (held x es)).entries ≡ true → are_in_order (in_order all) ≡ true
+made_in_order d l x es left all e q h =
+    subst (λ (gs : List Entry). are_in_order gs ≡ true) (sym (ap in_order (q ∙ ap (λ (gs : List Entry). all_entries (other d) l (marks_over d l x gs)) e))) h

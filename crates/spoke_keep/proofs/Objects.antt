@@ -1,18 +1,17 @@
 -- An inner object taken over, and a level as what its cells and its inner objects give.
-use Rattle.std.proofs.Common.{◌≡◌, ℕ, ◌+◌, ◌<◌, List, [], ◌∷◌, ◌++◌, map, drop, length, get_or, Bool, true, Option, Some, None, append_assoc, refl, ap, ap₂, sym, subst, ◌∙◌}
+use Rattle.std.proofs.Common.{◌≡◌, ℕ, ◌+◌, ◌<◌, List, [], ◌∷◌, ◌++◌, map, drop, length, get_or, Bool, Option, Some, None, append_assoc, refl, ap, ap₂, sym, subst, ◌∙◌}
 use Rattle.kj_value.specs.Json.{Json, object, members_of}
 use Rattle.kj_value.specs.Fields.{Pairs, field, with_field}
 use Rattle.kept_entries.specs.declared.entry.Entry.{Entry}
 use Rattle.hub_cells.specs.Side.{Side, other}
-use Rattle.hub_cells.specs.Cell.{Tuple}
-use Rattle.hub_cells.specs.Level.{Name, Cell, Level, level, Inners, no_inner, inner, cells_in, inners_in, names, named, cells_names, inner_names, CellsFit, Fits}
+use Rattle.hub_cells.specs.Level.{Name, Level, Inners, inner, named}
 use Rattle.hub_cells.specs.SeenFit.{inners_of}
 use Rattle.hub_cells.specs.declared.fitted.Inner.{Inner}
-use Rattle.keep_laws.specs.Entry.{put, inside, under, kept_of}
-use Rattle.keep_laws.specs.Marked.{Marks, Marked, MarkedInners, IfThere, OrAbsent, there, crossed, crossed_marks, crossed_inners, AreGood}
-use Rattle.keep_laws.specs.Body.{object_in, as_field, read, read_cells, read_inners, cells_values, body, inner_values, entry_of, cell_entries, with_inside, all_entries, inner_entries}
-use Rattle.keep_laws.specs.Settle.{living, living_marks, settled_marks, settled_inners, IsAllowed, InnersAllowed, CellsAllowed}
-use Rattle.spoke_keep.specs.Over.{marks_over, inner_marks, inner_fields, inner_kept, cell_fields, cell_kept, mark_over, tuple_here}
+use Rattle.keep_laws.specs.Entry.{put, inside, under}
+use Rattle.keep_laws.specs.Marked.{Marked, IfThere, OrAbsent, there}
+use Rattle.keep_laws.specs.Body.{object_in, as_field, read, read_inners, body, with_inside, all_entries}
+use Rattle.keep_laws.specs.Settle.{IsAllowed, InnersAllowed}
+use Rattle.spoke_keep.specs.Over.{marks_over, inner_marks}
 use Rattle.spoke_keep.proofs.Lookups.{rest_from}
 
 -- ---- one object

@@ -1,11 +1,10 @@
--- For private clauses: an entry from an object inside on, which is lent.
-use Rattle.std.specs.Prelude.{List, map}
-use Rattle.kj_value.specs.Texts.{bytes_of}
+-- For private clauses: lent entries from an object inside on, to which so many names lead.
+use Rattle.std.specs.Prelude.{ℕ, List, map, drop}
 use Rattle.kept_entries.specs.declared.entry.Entry.{Entry}
 use Rattle.spoke_keep.specs.declared.left.Left.{Left}
 
-abbrev pub left_entry : Left → Entry
-left_entry l = record { at = map bytes_of l.at.now; was = l.was.now }
+abbrev pub left_entry : ℕ → Entry → Entry
+left_entry n e = record { at = drop n e.at; was = e.was }
 
-abbrev pub entries_left : List Left → List Entry
-entries_left ls = map left_entry ls
+abbrev pub entries_left : Left → List Entry
+entries_left l = map (left_entry l.depth) l.entries.now

@@ -1,12 +1,12 @@
 -- For private clauses: a level taken over cell by cell and object by object.
-use Rattle.std.specs.Prelude.{List, [], ◌∷◌, ◌++◌, map, Option, Some, None}
+use Rattle.std.specs.Prelude.{List, [], ◌∷◌, Option}
 use Rattle.kj_value.specs.Json.{Json}
 use Rattle.kj_value.specs.Fields.{Pairs, field}
 use Rattle.kept_entries.specs.declared.entry.Entry.{Entry}
 use Rattle.hub_cells.specs.Side.{Side, other}
 use Rattle.hub_cells.specs.Cell.{Tuple}
-use Rattle.hub_cells.specs.Level.{Cell, Level, level, Inners, no_inner, inner, names, named, tuple_of}
-use Rattle.keep_laws.specs.Entry.{put, kept_of, inside, under}
+use Rattle.hub_cells.specs.Level.{Cell, Level, Inners, no_inner, inner, names, named, tuple_of}
+use Rattle.keep_laws.specs.Entry.{put, kept_of, inside}
 use Rattle.keep_laws.specs.Marked.{Mark, Marked, crossed_mark, crossed, there}
 use Rattle.keep_laws.specs.Body.{object_in, as_field, body, entry_of, all_entries, with_inside, read}
 use Rattle.keep_laws.specs.Settle.{living, settled_marks}

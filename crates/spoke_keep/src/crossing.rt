@@ -4,11 +4,13 @@ ghost use Rattle.hub_cells.specs.Side as sides;
 ghost use Rattle.hub_cells.specs.Answer.{CanCross};
 ghost use Rattle.hub_cells.specs.Level.{CellFits, CellsFit, allows, names};
 ghost use Rattle.hub_cells.specs.Seen.{side, kind, tuple, cell};
+ghost use Rattle.kept_entries.specs.Entry.{are_in_order};
 ghost use Rattle.keep_laws.specs.Entry.{put};
 ghost use Rattle.keep_laws.specs.Marked.{crossed_mark};
 ghost use Rattle.keep_laws.specs.Body.{entry_of, read_cells};
 ghost use Rattle.keep_laws.specs.Settle.{alive, living, CellsAllowed};
 ghost use Rattle.spoke_keep.specs.Left.{entries_left};
+ghost use Rattle.spoke_keep.specs.Turned.{turned};
 ghost use Rattle.spoke_keep.specs.Over.{tuple_here, mark_over, cell_fields, cell_kept};
 
 use crate::entries::{keep, kept_of};
@@ -110,15 +112,16 @@ fn cross_cell(
     c: &Cell,
     from: Side,
     x: &JFields,
-    kept: &[Left<'_>],
+    kept: &Left<'_>,
     fields: &mut JFields,
     entries: &mut Vec<Entry>,
 ) -> Result<(), NoMemory>
     requires fits { CellFits (cell c.now) }
+    requires order { are_in_order (entries_left kept.now) ≡ true }
     requires allowed { allows (side from) (cell c.now) (tuple_here (side from) (cell c.now) x.now) ≡ true }
     ensures fields { OnOk result (fields.new ≡ put (names (sides.other (side from)) (cell c.now))
         (mark_over (side from) (cell c.now) x.now (entries_left kept.entry.now)).0 fields.old) }
-    ensures entries { OnOk result (entries.new.items ≡ entries.old.items
+    ensures entries { OnOk result (map turned entries.new.items ≡ map turned entries.old.items
         ++ entry_of (names (side from) (cell c.now))
         (mark_over (side from) (cell c.now) x.now (entries_left kept.entry.now)).1 []) }
 {
@@ -138,16 +141,17 @@ pub(crate) fn cross_cells(
     cells: &[Cell],
     from: Side,
     x: &JFields,
-    kept: &[Left<'_>],
+    kept: &Left<'_>,
     fields: &mut JFields,
     entries: &mut Vec<Entry>,
 ) -> Result<(), NoMemory>
     requires fits { CellsFit (map cell cells.now) }
+    requires order { are_in_order (entries_left kept.now) ≡ true }
     requires allowed { CellsAllowed (side from) (map cell cells.now)
         (read_cells (side from) (map cell cells.now) x.now (entries_left kept.now)) }
     ensures fields { OnOk result (fields.new
         ≡ cell_fields (side from) (map cell cells.now) x.now (entries_left kept.entry.now) fields.old) }
-    ensures entries { OnOk result (entries.new.items ≡ entries.old.items
+    ensures entries { OnOk result (map turned entries.new.items ≡ map turned entries.old.items
         ++ cell_kept (side from) (map cell cells.now) x.now (entries_left kept.entry.now)) }
 {
     for c in cells {

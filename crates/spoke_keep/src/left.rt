@@ -1,51 +1,51 @@
-//! Entries from an object inside on.
-ghost use Rattle.std.specs.Prelude.{◌≡◌, [], ◌∷◌, IfOk, map};
-ghost use Rattle.kept_entries.specs.declared.entry.Entry.{Entry};
+//! Lent entries from an object inside on.
+ghost use Rattle.std.specs.Prelude.{◌≡◌, ◌+◌, true, map};
+ghost use Rattle.kept_entries.specs.Entry.{are_in_order};
 ghost use Rattle.keep_laws.specs.Entry.{inside};
 ghost use Rattle.spoke_keep.specs.Left.{left_entry, entries_left};
+ghost use Rattle.spoke_keep.specs.Spots.{AllDeeper};
 
-use kept_entries::Kept;
-use kj_value::{JFields, NoMemory, Txt};
-use std::alloc::Global;
+use crate::spots::count_first;
+use kept_entries::Entry;
 
-// An entry, of whose path the names that lead here are left out.
+// Entries in order to whose object so many names lead, which all their paths begin with.
 #[derive(Drop)]
 pub(crate) struct Left<'a> {
-    pub(crate) at: &'a [Txt],
-    pub(crate) was: &'a JFields,
+    pub(crate) entries: &'a [Entry],
+    pub(crate) depth: usize,
 }
 
-pub(crate) fn lent<'a>(alloc: Global, kept: &'a Kept) -> Result<Vec<Left<'a>>, NoMemory>
-    ensures { IfOk result (λ v. entries_left v.items ≡ kept.entry.now) }
+// The entries, with one name more of their paths left out.
+fn deeper<'a>(entries: &'a [Entry], depth: usize) -> Left<'a>
+    requires { AllDeeper depth entries.now }
+    ensures { entries_left result ≡ map (left_entry (depth + 1)) entries.entry.now }
 {
-    let mut left = Vec::new(alloc);
-    for e in kept.as_slice() {
-        left.push(Left {
-            at: e.at.as_slice(),
-            was: &e.was,
-        })?;
-    }
-    Ok(left)
-}
-
-// The entries inside the object of the name.
-pub(crate) fn inside<'a>(
-    alloc: Global,
-    name: &str,
-    kept: &[Left<'a>],
-) -> Result<Vec<Left<'a>>, NoMemory>
-    ensures { IfOk result (λ v. entries_left v.items ≡ inside name.entry.now (entries_left kept.entry.now)) }
-{
-    let mut found = Vec::new(alloc);
-    for l in kept {
-        if let Some(first) = l.at.first() {
-            if first.as_str() == name {
-                found.push(Left {
-                    at: &l.at[1..],
-                    was: l.was,
-                })?;
+    match entries.first() {
+        None => Left { entries, depth },
+        Some(e) => {
+            let names = e.at.len();
+            if depth < names {
+                Left {
+                    entries,
+                    depth: depth + 1,
+                }
+            } else {
+                Left { entries, depth }
             }
         }
     }
-    Ok(found)
+}
+
+// The entries inside the object of the name, which stand side by side.
+pub(crate) fn inside<'a>(name: &str, kept: &Left<'a>) -> Left<'a>
+    requires { are_in_order (entries_left kept.now) ≡ true }
+    ensures { entries_left result ≡ inside name.entry.now (entries_left kept.entry.now) }
+{
+    let start = count_first(kept, true, name, false);
+    let rest = Left {
+        entries: &kept.entries[start..],
+        depth: kept.depth,
+    };
+    let many = count_first(&rest, true, name, true);
+    deeper(&rest.entries[..many], kept.depth)
 }

@@ -1,16 +1,18 @@
 //! A level taken over with its inner objects.
-ghost use Rattle.std.specs.Prelude.{◌≡◌, [], ◌∷◌, ◌++◌, map, IfOk, OnOk};
+ghost use Rattle.std.specs.Prelude.{◌≡◌, true, [], ◌∷◌, ◌++◌, map, IfOk, OnOk};
 ghost use Rattle.kj_value.specs.Fields.{field};
 ghost use Rattle.kj_value.specs.Texts.{bytes_of};
 ghost use Rattle.hub_cells.specs.Side as sides;
 ghost use Rattle.hub_cells.specs.Level.{named};
 ghost use Rattle.hub_cells.specs.Seen.{side};
 ghost use Rattle.hub_cells.specs.SeenFit.{inners_of};
+ghost use Rattle.kept_entries.specs.Entry.{are_in_order};
 ghost use Rattle.keep_laws.specs.Entry.{put, inside, under};
 ghost use Rattle.keep_laws.specs.Marked.{IfThere, OrAbsent, there};
 ghost use Rattle.keep_laws.specs.Body.{object_in, as_field, body, all_entries, with_inside, read, read_inners};
 ghost use Rattle.keep_laws.specs.Settle.{IsAllowed, InnersAllowed};
 ghost use Rattle.spoke_keep.specs.Left.{entries_left};
+ghost use Rattle.spoke_keep.specs.Turned.{turned};
 ghost use Rattle.spoke_keep.specs.Over.{marks_over, inner_marks, inner_fields, inner_kept};
 
 use crate::crossing::cross_cells;
@@ -35,12 +37,13 @@ pub(crate) fn level_over(
     f: &Fitted,
     from: Side,
     x: &JFields,
-    kept: &[Left<'_>],
+    kept: &Left<'_>,
 ) -> Result<Made, NoMemory>
-    requires { IsAllowed (side from) f.now.level (read (side from) f.now.level x.now (entries_left kept.now)) }
+    requires order { are_in_order (entries_left kept.now) ≡ true }
+    requires allowed { IsAllowed (side from) f.now.level (read (side from) f.now.level x.now (entries_left kept.now)) }
     ensures fields { IfOk result (λ m. m.fields ≡ body (sides.other (side from)) f.now.level
         (marks_over (side from) f.now.level x.now (entries_left kept.entry.now))) }
-    ensures entries { IfOk result (λ m. m.entries.items ≡ all_entries (sides.other (side from)) f.now.level
+    ensures entries { IfOk result (λ m. map turned m.entries.items ≡ all_entries (sides.other (side from)) f.now.level
         (marks_over (side from) f.now.level x.now (entries_left kept.entry.now))) }
 {
     let mut fields = JFields::new(alloc);
@@ -57,15 +60,16 @@ fn inners_over(
     inners: &[Inner],
     from: Side,
     x: &JFields,
-    kept: &[Left<'_>],
+    kept: &Left<'_>,
     fields: &mut JFields,
     entries: &mut Vec<Entry>,
 ) -> Result<(), NoMemory>
-    requires { InnersAllowed (side from) (inners_of inners.now)
+    requires order { are_in_order (entries_left kept.now) ≡ true }
+    requires allowed { InnersAllowed (side from) (inners_of inners.now)
         (read_inners (side from) (inners_of inners.now) x.now (entries_left kept.now)) }
     ensures fields { OnOk result (fields.new
         ≡ inner_fields (side from) (inners_of inners.now) x.now (entries_left kept.entry.now) fields.old) }
-    ensures entries { OnOk result (entries.new.items ≡ entries.old.items
+    ensures entries { OnOk result (map turned entries.new.items ≡ map turned entries.old.items
         ++ inner_kept (side from) (inners_of inners.now) x.now (entries_left kept.entry.now)) }
 {
     for o in inners {
@@ -89,11 +93,12 @@ fn inner_over(
     o: &Inner,
     from: Side,
     x: &JFields,
-    kept: &[Left<'_>],
+    kept: &Left<'_>,
     fields: &mut JFields,
     entries: &mut Vec<Entry>,
 ) -> Result<(), NoMemory>
-    requires { OrAbsent o.now.required (IsAllowed (side from) o.now.fitted.level)
+    requires order { are_in_order (entries_left kept.now) ≡ true }
+    requires allowed { OrAbsent o.now.required (IsAllowed (side from) o.now.fitted.level)
         (there (λ y. read (side from) o.now.fitted.level y
         (inside (named (sides.other (side from)) o.now.spoke.bytes o.now.hub.bytes) (entries_left kept.now)))
         (object_in (field (named (side from) o.now.spoke.bytes o.now.hub.bytes) x.now))) }
@@ -101,7 +106,7 @@ fn inner_over(
         (as_field (there (body (sides.other (side from)) o.now.fitted.level) (inner_marks (side from) o.now.fitted.level
         (field (named (side from) o.now.spoke.bytes o.now.hub.bytes) x.now)
         (inside (named (sides.other (side from)) o.now.spoke.bytes o.now.hub.bytes) (entries_left kept.entry.now)))) ∷ []) fields.old) }
-    ensures entries { OnOk result (entries.new.items ≡ entries.old.items
+    ensures entries { OnOk result (map turned entries.new.items ≡ map turned entries.old.items
         ++ with_inside (named (side from) o.now.spoke.bytes o.now.hub.bytes) (all_entries (sides.other (side from)) o.now.fitted.level)
         (inner_marks (side from) o.now.fitted.level
         (field (named (side from) o.now.spoke.bytes o.now.hub.bytes) x.now)
@@ -123,25 +128,26 @@ fn object_over(
     f: &Fitted,
     from: Side,
     x: &JFields,
-    kept: &[Left<'_>],
+    kept: &Left<'_>,
     fields: &mut JFields,
     entries: &mut Vec<Entry>,
 ) -> Result<(), NoMemory>
-    requires { IfThere (IsAllowed (side from) f.now.level)
+    requires order { are_in_order (entries_left kept.now) ≡ true }
+    requires allowed { IfThere (IsAllowed (side from) f.now.level)
         (there (λ y. read (side from) f.now.level y (inside theirs.now.bytes (entries_left kept.now)))
         (object_in (field own.now.bytes x.now))) }
     ensures fields { OnOk result (fields.new ≡ put (theirs.now.bytes ∷ [])
         (as_field (there (body (sides.other (side from)) f.now.level) (inner_marks (side from) f.now.level
         (field own.now.bytes x.now) (inside theirs.now.bytes (entries_left kept.entry.now)))) ∷ []) fields.old) }
-    ensures entries { OnOk result (entries.new.items ≡ entries.old.items
+    ensures entries { OnOk result (map turned entries.new.items ≡ map turned entries.old.items
         ++ with_inside own.now.bytes (all_entries (sides.other (side from)) f.now.level)
         (inner_marks (side from) f.now.level (field own.now.bytes x.now)
         (inside theirs.now.bytes (entries_left kept.entry.now))) []) }
 {
     match object_at(x, own.as_str()) {
         Some(y) => {
-            let within = inside(alloc, theirs.as_str(), kept)?;
-            let made = level_over(alloc, f, from, y, within.as_slice())?;
+            let within = inside(theirs.as_str(), kept);
+            let made = level_over(alloc, f, from, y, &within)?;
             let Made {
                 fields: there,
                 entries: found,

@@ -1,31 +1,23 @@
 //! Entries in the order in which an annotation spells them.
-ghost use Rattle.std.specs.Prelude.{◌≡◌, IfOk, OnOk};
-ghost use Rattle.keep_laws.specs.Entry.{with_entry, in_order};
+ghost use Rattle.std.specs.Prelude.{◌≡◌, true, OnOk, OnErr};
+ghost use Rattle.kept_entries.specs.Entry.{are_in_order};
+ghost use Rattle.keep_laws.specs.Entry.{in_order};
 
-use kept_entries::{Entry, Kept, is_before};
+use kept_entries::{Entry, is_before};
 use kj_value::NoMemory;
-use std::alloc::Global;
+use std::cmp::Ordering;
 
-fn insert(e: Entry, sorted: &mut Vec<Entry>) -> Result<(), NoMemory>
-    ensures { OnOk result (sorted.new.items ≡ with_entry e sorted.old.items) }
+// Puts entries in order of which none stands twice.
+pub(crate) fn sort(entries: &mut Vec<Entry>) -> Result<(), NoMemory>
+    requires { are_in_order (in_order entries.old.items) ≡ true }
+    ensures { OnOk result (entries.new.items ≡ in_order entries.old.items) }
 {
-    let mut at = sorted.len();
-    for i in 0..sorted.len() {
-        if is_before(&e, &sorted[i]) {
-            at = i;
-            break;
+    entries.sort_by(|a, b| {
+        if is_before(a, b) {
+            Ordering::Less
+        } else {
+            Ordering::Greater
         }
-    }
-    sorted.insert(at, e)?;
+    })?;
     Ok(())
-}
-
-pub(crate) fn in_order(alloc: Global, mut entries: Vec<Entry>) -> Result<Kept, NoMemory>
-    ensures { IfOk result (λ k. k ≡ in_order entries.items) }
-{
-    let mut sorted = Vec::new(alloc);
-    while let Some(e) = entries.pop() {
-        insert(e, &mut sorted)?;
-    }
-    Ok(Kept::from_vec(sorted))
 }

@@ -1,4 +1,4 @@
-use Rattle.std.proofs.Common.{List, ap, sym, ◌∙◌}
+use Rattle.std.proofs.Common.{List, ap, ◌∙◌}
 use Rattle.hub_cells.specs.Seen.{side, cell, tuple}
 use Rattle.hub_cells.specs.Level.{Name, tuple_of, allows}
 use Rattle.spoke_keep.proofs.crossing.cross_cell.Goals as goal

@@ -1,11 +1,10 @@
 use Rattle.std.proofs.Common.{◌≡◌, ◌∷◌, ◌++◌, ◌+◌, List, map, drop, ap, sym, ◌∙◌}
-use Rattle.kj_value.specs.Fields.{Pairs}
 use Rattle.kept_entries.specs.declared.entry.Entry.{Entry}
-use Rattle.hub_cells.specs.Side.{other}
 use Rattle.hub_cells.specs.Level as levels
 use Rattle.hub_cells.specs.Level.{names}
 use Rattle.hub_cells.specs.Seen.{side, cell}
 use Rattle.spoke_keep.specs.Left.{entries_left}
+use Rattle.spoke_keep.specs.Turned.{turned}
 use Rattle.spoke_keep.specs.Over.{mark_over, cell_fields, cell_kept}
 use Rattle.spoke_keep.proofs.Cells.{cells_from, first_allowed, first_fits, entry_append}
 use Rattle.spoke_keep.proofs.crossing.cross_cells.Goals as goal
@@ -27,5 +26,5 @@ loop-c-preserved c =
       fits = first_fits _ rest k step l.invariant.fits;
       allowed = (first_allowed d x es _ rest k step l.invariant.allowed).1;
       fields = ap (cell_fields d rest x es) c.in_ok-cross_cell.ensures.fields ∙ ap (λ (cs : List levels.Cell). cell_fields d cs x es l.fields) (sym step) ∙ l.invariant.fields;
-      entries = ap (λ (fs : List Entry). fs ++ cell_kept d rest x es) c.in_ok-cross_cell.ensures.entries ∙ entry_append (names d k) (mark_over d k x es).1 l.entries.items (cell_kept d rest x es) ∙ ap (λ (cs : List levels.Cell). l.entries.items ++ cell_kept d cs x es) (sym step) ∙ l.invariant.entries;
+      entries = ap (λ (fs : List Entry). fs ++ cell_kept d rest x es) c.in_ok-cross_cell.ensures.entries ∙ entry_append (names d k) (mark_over d k x es).1 (map turned l.entries.items) (cell_kept d rest x es) ∙ ap (λ (cs : List levels.Cell). map turned l.entries.items ++ cell_kept d cs x es) (sym step) ∙ l.invariant.entries;
     }

@@ -4,6 +4,7 @@ use Rattle.hub_cells.specs.Seen.{side, cell}
 use Rattle.keep_laws.specs.Body.{read_cells}
 use Rattle.keep_laws.specs.Settle.{CellsAllowed}
 use Rattle.spoke_keep.specs.Left.{entries_left}
+use Rattle.spoke_keep.specs.Turned.{turned}
 use Rattle.spoke_keep.specs.Over.{cell_fields, cell_kept}
 use Rattle.spoke_keep.proofs.crossing.cross_cells.Given as goal
 
@@ -12,5 +13,5 @@ invariant-loop-c l = record {
   fits : CellsFit (map cell (drop l.c-index l.cells));
   allowed : CellsAllowed (side l.from) (map cell (drop l.c-index l.cells)) (read_cells (side l.from) (map cell (drop l.c-index l.cells)) l.x (entries_left l.kept));
   fields : cell_fields (side l.from) (map cell (drop l.c-index l.cells)) l.x (entries_left l.kept) l.fields ≡ cell_fields (side l.from) (map cell l.cells) l.x (entries_left l.kept) l.initial.fields;
-  entries : l.entries.items ++ cell_kept (side l.from) (map cell (drop l.c-index l.cells)) l.x (entries_left l.kept) ≡ l.initial.entries.items ++ cell_kept (side l.from) (map cell l.cells) l.x (entries_left l.kept);
+  entries : map turned l.entries.items ++ cell_kept (side l.from) (map cell (drop l.c-index l.cells)) l.x (entries_left l.kept) ≡ map turned l.initial.entries.items ++ cell_kept (side l.from) (map cell l.cells) l.x (entries_left l.kept);
 }

@@ -1,4 +1,4 @@
-use Rattle.std.proofs.Common.{Option, None, option_map, ap, sym, ◌∙◌}
+use Rattle.std.proofs.Common.{Option, option_map, ap, sym, ◌∙◌}
 use Rattle.hub_cells.specs.Seen.{side, kind, tuple}
 use Rattle.hub_cells.specs.declared.cell.Tuple.{Tuple}
 use Rattle.keep_laws.specs.Marked.{crossed_mark}

@@ -1,10 +1,11 @@
-use Rattle.std.proofs.Common.{◌≡◌, ◌+◌, ◌*◌, ◌++◌, drop}
+use Rattle.std.proofs.Common.{◌≡◌, ◌+◌, ◌*◌, ◌++◌, map, drop}
 use Rattle.hub_cells.specs.LevelDepth.{level_depth, inners_depth}
 use Rattle.hub_cells.specs.Seen.{side}
 use Rattle.hub_cells.specs.SeenFit.{inners_of}
 use Rattle.keep_laws.specs.Body.{read_inners}
 use Rattle.keep_laws.specs.Settle.{InnersAllowed}
 use Rattle.spoke_keep.specs.Left.{entries_left}
+use Rattle.spoke_keep.specs.Turned.{turned}
 use Rattle.spoke_keep.specs.Over.{inner_fields, inner_kept}
 use Rattle.spoke_keep.proofs.level.+over.Given as goal
 
@@ -24,5 +25,5 @@ abbrev pub invariant-inners_over-loop-o : goal.invariant-inners_over-loop-o
 invariant-inners_over-loop-o l = record {
   allowed : InnersAllowed (side l.from) (inners_of (drop l.o-index l.inners)) (read_inners (side l.from) (inners_of (drop l.o-index l.inners)) l.x (entries_left l.kept));
   fields : inner_fields (side l.from) (inners_of (drop l.o-index l.inners)) l.x (entries_left l.kept) l.fields ≡ inner_fields (side l.from) (inners_of l.inners) l.x (entries_left l.kept) l.initial.fields;
-  entries : l.entries.items ++ inner_kept (side l.from) (inners_of (drop l.o-index l.inners)) l.x (entries_left l.kept) ≡ l.initial.entries.items ++ inner_kept (side l.from) (inners_of l.inners) l.x (entries_left l.kept);
+  entries : map turned l.entries.items ++ inner_kept (side l.from) (inners_of (drop l.o-index l.inners)) l.x (entries_left l.kept) ≡ map turned l.initial.entries.items ++ inner_kept (side l.from) (inners_of l.inners) l.x (entries_left l.kept);
 }

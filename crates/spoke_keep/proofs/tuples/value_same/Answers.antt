@@ -1,5 +1,4 @@
 use Rattle.std.proofs.Common.{Option, option_map, ap₂, sym, ◌∙◌}
-use Rattle.kj_value.specs.Json.{Json}
 use Rattle.kj_value.specs.Seen.{json}
 use Rattle.kj_value.specs.declared.value.JVal.{JVal}
 use Rattle.keep_laws.specs.Settle.{value_same}
