@@ -1,0 +1,11 @@
+pub mod Tests
+pub mod Each
+pub mod Object
+pub mod Allowed
+pub mod Levels
+pub mod Room
+pub mod Written
+pub mod Ordered
+pub mod Settled
+pub mod Fitted
+pub mod Example
