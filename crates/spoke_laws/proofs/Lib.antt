@@ -1,0 +1,14 @@
+pub mod Texts
+pub mod Keys
+pub mod Shallow
+pub mod Levels
+pub mod Notes
+pub mod Fitted
+pub mod Pairs
+pub mod Forms
+pub mod Judged
+pub mod Hubs
+pub mod Trips
+pub mod Carried
+pub mod Made
+pub mod Adding

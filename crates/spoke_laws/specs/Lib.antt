@@ -1,0 +1,9 @@
+pub mod Spokes
+pub mod Keys
+pub mod Notes
+pub mod Pair
+pub mod Whole
+pub mod Settling
+pub mod Over
+pub mod Given
+pub mod Place
