@@ -1,0 +1,5 @@
+pub mod Nones
+pub mod Rows
+pub mod Standing
+pub mod Accepting
+pub mod Few

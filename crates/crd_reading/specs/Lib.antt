@@ -1,0 +1,15 @@
+pub mod Words
+pub mod Table
+pub mod Allowed
+pub mod View
+pub mod ViewCode
+pub mod Seen
+pub mod Spelled
+pub mod Offered
+pub mod Accepted
+pub mod Whole
+pub mod Path
+pub mod Refusal
+pub mod Walk
+pub mod First
+pub mod Told
