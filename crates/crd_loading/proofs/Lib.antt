@@ -1,0 +1,3 @@
+pub mod Fields
+pub mod Fits
+pub mod Hub
