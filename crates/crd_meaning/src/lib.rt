@@ -1,0 +1,13 @@
+//! What a loaded definition means: which objects are whole at the hub, which object of each version is one with them,
+//! which requests are admitted and with which hub value, and why each other request is refused.
+//!
+//! The one contract: `standing`, `unstamped`, `one_to_one` and `deciding`, the laws that a server asks of a definition.
+//!
+//! It knows nothing of how objects are held in memory, of how a definition is read, nor of flags and stored versions.
+#![tactic(auto)]
+
+mod laws;
+mod limits;
+
+pub use laws::{deciding, known, one_to_one, standing, unstamped};
+pub use limits::MAX_MEASURE;
