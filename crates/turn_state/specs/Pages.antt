@@ -1,0 +1,45 @@
+-- What a page shows, and when it is the one that is decided of a list.
+use Rattle.std.specs.Prelude.{◌≡◌, map}
+use Rattle.kube_meta.specs.Page.{Page as PageOf}
+use Rattle.kube_meta.specs.WindowPairs.{AllPair}
+use Rattle.record_store.specs.View.{Item as RecordItem}
+use Rattle.api_calls.specs.Meaning.{Meaning}
+use Rattle.api_calls.specs.Objects.{Stored}
+use Rattle.api_calls.specs.Pages.{Place, PageEnd, shown, unserved, ahead, expired, no_memory}
+use Rattle.api_calls.specs.declared.token.Token.{Token}
+use Rattle.turn_state.specs.declared.pages.Page.{Page}
+use Rattle.turn_state.specs.declared.pages.PageFault.{PageFault}
+use Rattle.turn_state.specs.declared.pages.PageFault.TheVariants as fault
+use Rattle.turn_state.specs.Keeps.{Keeps}
+use Rattle.turn_state.specs.Prepared.{seen_item}
+
+-- where a token goes on
+abbrev pub place_of : Token → Place
+place_of t = record { number = t.rv; key = t.key }
+
+-- a page has the number of another, keeps its objects one by one, and leaves as many behind
+pub record KeepsPage (m : Meaning) (p : Page) (q : PageOf Stored) : Type 0 where
+  pub number : p.rv ≡ q.number
+  pub records : AllPair (Keeps m) (map seen_item p.items) q.items
+  pub remaining : p.remaining ≡ q.remaining
+
+-- a page is decided, and this one keeps it
+abbrev pub Shows : Meaning → Page → PageEnd → Type 0
+Shows m p (shown q) = KeepsPage m p q
+Shows m p unserved = ⊥
+Shows m p (ahead r) = ⊥
+Shows m p (expired f) = ⊥
+Shows m p no_memory = ⊥
+
+-- a refusal is the one that is decided; want of memory tells nothing
+abbrev pub Refuses : PageFault → PageEnd → Type 0
+Refuses fault.Unserved d = d ≡ unserved
+Refuses (fault.Ahead r) d = d ≡ ahead r
+Refuses (fault.Expired f) d = d ≡ expired f
+Refuses fault.NoMemory d = Unit {0}
+
+-- for private clauses: a page shows these records
+pub record IsPageOf (p : Page) (q : PageOf RecordItem) : Type 0 where
+  pub number : p.rv ≡ q.number
+  pub items : map seen_item p.items ≡ q.items
+  pub remaining : p.remaining ≡ q.remaining
