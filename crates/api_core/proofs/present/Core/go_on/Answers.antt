@@ -1,0 +1,22 @@
+use Rattle.std.specs.Arc.{arc_value}
+use Rattle.api_core.proofs.SettingTurns.{shown}
+use Rattle.api_core.proofs.WorkTurns.{go-prepare, go-done, go-next}
+use Rattle.api_core.proofs.present.Core.go_on.Goals as goal
+
+pub returns-in-Prepare-clause-turn : goal.returns-in-Prepare-clause-turn
+returns-in-Prepare-clause-turn g c =
+    let x = shown (arc_value c.self.inside.versions) c.self.inside.limits c.self.inside.boot c.self.inside.flags c.self.inside.stored c.self.inside.revision c.self.inside.store c.self.inside.migrations in
+    go-prepare g.V.Versions.meaning c.args.self.now x c.args.w.now.claim c.in-Prepare.key c.in-Prepare.rv c.advance.new.self c.self.view_is
+    (record { answer = c.in-Prepare.ensures.answer; plan = c.in-Prepare.ensures.plan })
+
+pub returns-in-Done-clause-turn : goal.returns-in-Done-clause-turn
+returns-in-Done-clause-turn g c =
+    let x = shown (arc_value c.self.inside.versions) c.self.inside.limits c.self.inside.boot c.self.inside.flags c.self.inside.stored c.self.inside.revision c.self.inside.store c.self.inside.migrations in
+    go-done g.V.Versions.meaning c.args.self.now x c.args.w.now.claim c.advance.new.self c.finished.ensures c.self.view_is
+    (record { answer = c.in-Done.ensures.answer; plan = c.in-Done.ensures.plan })
+
+pub returns-in-Prepare-clause-prepared : goal.returns-in-Prepare-clause-prepared
+returns-in-Prepare-clause-prepared g c =
+    let x = shown (arc_value c.self.inside.versions) c.self.inside.limits c.self.inside.boot c.self.inside.flags c.self.inside.stored c.self.inside.revision c.self.inside.store c.self.inside.migrations in
+    go-next g.V.Versions.meaning x c.args.w.now.claim c.in-Prepare.key c.in-Prepare.rv c.advance.new.self
+    (record { answer = c.in-Prepare.ensures.answer; plan = c.in-Prepare.ensures.plan })

@@ -1,0 +1,14 @@
+use Rattle.std.proofs.Common.{◌≡◌, ap, sym, ◌∙◌, rules}
+use Rattle.std.specs.Prelude.{option_map}
+use Rattle.record_index.specs.ByKey.{find}
+use Rattle.record_store.specs.View.{item_key}
+use Rattle.turn_state.specs.Pairing.{record-key, record-told}
+use Rattle.api_core.proofs.present.Core.seen.Goals as goal
+
+pub returns : goal.returns
+returns g c =
+    let key_is : c.in_ok-key.key ≡ c.args.key.now = search rules in
+    let told = record-told c.args.key.now (find item_key c.args.key.now c.self.inside.store.items) c.in-Some.record c.in-Some-2.bytes.bytes
+    (record-key c.args.key.now c.self.inside.store.items) (sym c.look.ensures ∙ c.in-Some.is)
+    (sym c.in_ok-bytes.ensures ∙ ap (option_map (λ t. t.bytes)) c.in-Some-2.is) in
+    rw (← c.self.view_is, key_is) told

@@ -1,0 +1,23 @@
+//! The core: what the turn lock hands out. It takes one event at a time and decides.
+//!
+//! The crate's one contract: from a core that stands for a list of the history each call leaves one that stands for that
+//! list, or for it and one item more, with the same definition, limits and boot number, and answers what the
+//! definitions decide at that list. Commits take no memory.
+//!
+//! It asks `Versions` for flags and counts only: it converts nothing. It knows nothing of locks, threads or requests.
+#![tactic(auto)]
+
+mod meaning;
+mod pages;
+mod present;
+mod served;
+mod settings;
+mod store_rows;
+mod stored_versions;
+mod work;
+mod writes;
+
+pub use present::Core;
+
+#[cfg(test)]
+mod tests;

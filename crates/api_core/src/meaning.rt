@@ -1,0 +1,15 @@
+//! What a core means.
+use crate::present::Core;
+use api_calls::Versions;
+use api_calls::laws::Means;
+use page_laws::Texts;
+
+impl<V: Versions> Means for Core<V> {
+    ghost meaning = { λ c. V.meaning c.versions };
+}
+
+impl<V: Versions> Texts for Core<V> {
+    ghost use Rattle.turn_state.specs.Keeps.{IsText};
+
+    ghost text = { λ c e bytes. IsText (V.meaning c.versions) e.at e.h bytes };
+}
