@@ -1,0 +1,5 @@
+pub mod Asked
+pub mod Known
+pub mod Runs
+pub mod Sizes
+pub mod Bridges
