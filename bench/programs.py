@@ -2,6 +2,7 @@
 
 import os
 import pathlib
+import resource
 import subprocess
 import sys
 import tempfile
@@ -32,6 +33,12 @@ def timed(words, given=b""):
             sys.exit(f"{' '.join(map(str, words))} ended with status {status}")
         sink.seek(0)
         return seconds, sink.read()
+
+
+def processor_seconds():
+    """The processor time of all runs so far."""
+    used = resource.getrusage(resource.RUSAGE_CHILDREN)
+    return used.ru_utime + used.ru_stime
 
 
 def best_of(rounds, tasks):

@@ -5,17 +5,10 @@ Prints turns per second, how many times as long a turn takes as with one thread,
 shows what waiting costs: a thread that waits sleeps. The time of a run with no turns is taken off."""
 
 import argparse
-import resource
 
-from programs import best_of, built, timed
+from programs import best_of, built, processor_seconds, timed
 
 THREADS = (1, 2, 4, 8)
-
-
-def processor_seconds():
-    """The processor time of all runs so far."""
-    used = resource.getrusage(resource.RUSAGE_CHILDREN)
-    return used.ru_utime + used.ru_stime
 
 
 def main():

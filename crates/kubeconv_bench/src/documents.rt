@@ -19,8 +19,8 @@ const LIST_TAIL: &str = r#"],"kind":"CronTabList"}"#;
 // The digits of a name.
 const NAME_DIGITS: usize = 8;
 
-// Adds the name of a number. As numbers rise, their names stand in no order.
-fn add_name(text: &mut String, number: u32) -> Result<(), AllocError> {
+/// Adds the name of a number, 8 digits. As numbers rise, their names stand in no order.
+pub(crate) fn add_name(text: &mut String, number: u32) -> Result<(), AllocError> {
     let name = number.wrapping_mul(STRIDE);
     write!(text, "{name:08x}")
 }

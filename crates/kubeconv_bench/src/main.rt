@@ -3,16 +3,24 @@
 //!
 //! `json BYTES N` reads and writes a list of objects of about `BYTES` bytes `N` times, and `wide NAMES N` one object of
 //! `NAMES` names; with 0 for `N` only the document is made. `turns THREADS N` takes the turn of one lock `N` times in each of
-//! 1, 2, 4 or 8 threads. It knows nothing of what the documents mean.
+//! 1, 2, 4 or 8 threads. `store CHORE RECORDS N` does a chore `N` times on a store of `RECORDS` records, at most 16,384: `creates`
+//! (a new record, which goes again), `puts` (one is written over), `touches` or `pages` (copies of the first 500).
+//! `core commits OBJECTS N` looks at an object of a core of `OBJECTS` and writes over it, `N` times, and `core turns OBJECTS N`
+//! moves all of them to the other version, `N` times, at most 256. It knows nothing of what the documents mean.
 #![tactic(auto)]
 
+mod commits;
 mod documents;
+mod migrations;
+mod records;
 mod rounds;
 mod task;
 #[cfg(test)]
 mod tests;
 mod turns;
 
+use commits::{CoreChore, drive};
+use records::keep;
 use rounds::{WorkFault, repeat};
 use std::alloc::Global;
 use std::env;
@@ -21,9 +29,10 @@ use std::sync::Wait;
 use std::thread::Threads;
 use task::{Task, task_of};
 use turns::take_turns;
+use versions_fixture::TwoNames;
 
 const USAGE: &str =
-    "give `json BYTES N`, `wide NAMES N` or `turns THREADS N`, whole numbers below 2^32, and 1, 2, 4 or 8 threads";
+    "give `json BYTES N`, `wide NAMES N`, `turns THREADS N`, `store creates|puts|touches|pages RECORDS N` or `core commits|turns OBJECTS N`, whole numbers below 2^32, and 1, 2, 4 or 8 threads";
 
 const FAILED: u8 = 1;
 
@@ -38,7 +47,7 @@ fn read_words(rt: &HostRuntime) -> Option<Task> {
     task_of(words.as_slice())
 }
 
-// What the task's rounds made, and how many: the bytes that were written, or the turns that were taken.
+// What the task's rounds made, and how many: the bytes that were written, or the turns or chores that were done.
 fn work<R: Threads + Wait + Sync>(
     rt: &R,
     alloc: Global,
@@ -54,6 +63,23 @@ fn work<R: Threads + Wait + Sync>(
             Ok((repeat(alloc, document.as_str(), *rounds)?, "bytes"))
         }
         Task::Turns { threads, rounds } => Ok((take_turns(rt, alloc, *threads, *rounds)?, "turns")),
+        Task::Store {
+            chore,
+            records,
+            rounds,
+        } => Ok((keep(alloc, *chore, *records, *rounds)?, "times")),
+        Task::Core {
+            chore,
+            objects,
+            rounds,
+        } => {
+            let made = match chore {
+                CoreChore::Commits => "times",
+                CoreChore::Turns => "turns",
+            };
+            let versions = TwoNames::new(alloc)?;
+            Ok((drive(alloc, versions, *chore, *objects, *rounds)?, made))
+        }
     }
 }
 

@@ -23,6 +23,12 @@ pub enum WorkFault {
     /// The count is 2^64 or more.
     #[error("the bytes that were written are too many to count")]
     TooMany,
+    /// A name is longer than the name of an object may be.
+    #[error("a name is too long for an object")]
+    LongName,
+    /// The store answered that it didn't do what was asked.
+    #[error("the store has no room for so many records")]
+    NotDone,
 }
 
 impl From<AllocError> for WorkFault {

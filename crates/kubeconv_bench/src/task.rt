@@ -1,15 +1,38 @@
 //! The command line.
+use crate::commits::CoreChore;
+use crate::records::Chore;
 use crate::turns::Threaded;
 
 /// What the words ask for.
 #[derive(Clone, Copy, Debug, Drop, PartialEq, Eq)]
 pub enum Task {
     /// To read and write a list of objects of about so many bytes.
-    Json { bytes: u32, rounds: u32 },
+    Json {
+        bytes: u32,
+        rounds: u32,
+    },
     /// To read and write one object of so many names.
-    Wide { names: u32, rounds: u32 },
+    Wide {
+        names: u32,
+        rounds: u32,
+    },
     /// To take so many turns in each of so many threads.
-    Turns { threads: Threaded, rounds: u32 },
+    Turns {
+        threads: Threaded,
+        rounds: u32,
+    },
+    /// To do a chore so many times on a store of so many records.
+    Store {
+        chore: Chore,
+        records: u32,
+        rounds: u32,
+    },
+    /// To do a chore so many times on a core of so many objects.
+    Core {
+        chore: CoreChore,
+        objects: u32,
+        rounds: u32,
+    },
 }
 
 // So many threads, where there is a way to start them.
@@ -23,14 +46,48 @@ fn threaded(threads: u32) -> Option<Threaded> {
     }
 }
 
+fn chore_of(word: &str) -> Option<Chore> {
+    match word {
+        "creates" => Some(Chore::Creates),
+        "puts" => Some(Chore::Puts),
+        "touches" => Some(Chore::Touches),
+        "pages" => Some(Chore::Pages),
+        _ => None,
+    }
+}
+
+fn core_chore_of(word: &str) -> Option<CoreChore> {
+    match word {
+        "commits" => Some(CoreChore::Commits),
+        "turns" => Some(CoreChore::Turns),
+        _ => None,
+    }
+}
+
+fn number_of(word: &String) -> Option<u32> {
+    word.as_str().parse::<u32>().ok()
+}
+
 /// The task that the words after the program's name ask for; `None` where they ask for none.
 pub fn task_of(words: &[String]) -> Option<Task> {
-    let [kind, size, rounds] = words else {
-        return None;
-    };
-    let size = size.as_str().parse::<u32>().ok()?;
-    let rounds = rounds.as_str().parse::<u32>().ok()?;
-    match kind.as_str() {
+    match words {
+        [kind, size, rounds] => sized(kind.as_str(), number_of(size)?, number_of(rounds)?),
+        [store, chore, records, rounds] if store.as_str() == "store" => Some(Task::Store {
+            chore: chore_of(chore.as_str())?,
+            records: number_of(records)?,
+            rounds: number_of(rounds)?,
+        }),
+        [core, chore, objects, rounds] if core.as_str() == "core" => Some(Task::Core {
+            chore: core_chore_of(chore.as_str())?,
+            objects: number_of(objects)?,
+            rounds: number_of(rounds)?,
+        }),
+        _ => None,
+    }
+}
+
+fn sized(kind: &str, size: u32, rounds: u32) -> Option<Task> {
+    match kind {
         "json" => Some(Task::Json {
             bytes: size,
             rounds,
