@@ -6,3 +6,4 @@ pub mod Forms
 pub mod SoundParts
 pub mod Made
 pub mod Verdicts
+pub mod Left

@@ -156,7 +156,7 @@ module _ (known : Given) (o : Settings) (d : Definition) (loaded : IsLoaded d) w
       let k = filling_one (schema_of d r) a.taken.body b.taken.body x.body y.body (ap (λ (w : ObjectView). w.body) t.0) a.filling b.filling in
       (a.rest ∙ ap₂ (λ (w : ObjectView) (body : Pairs). record w { body = body }) t.0 k ∙ sym b.rest, t.1)
 
-  hub_one : (v : ℕ) (x g h : ObjectView) → IsHubOf d v x g → IsHubOf d v x h → g ≡ h
+  pub hub_one : (v : ℕ) (x g h : ObjectView) → IsHubOf d v x g → IsHubOf d v x h → g ≡ h
   hub_one v x g h a b =
       let same = one_left known d loaded v x a.left b.left a.settles b.settles in
       only_hub known d loaded v g h b.left a.whole b.whole (subst (λ (y : ObjectView). IsFormAt d v g y) same a.pairs) b.pairs

@@ -1,7 +1,18 @@
 //! Laws of a loaded definition. Each function does nothing, and its clause is the law. The settings of a meaning aren't
 //! looked at by them.
+ghost use Rattle.std.specs.Prelude.{◌≡◌, ◌<◌, ℕ};
+ghost use Rattle.kj_value.specs.Json.{members_of};
+ghost use Rattle.kj_value.specs.Sound.{AreRising};
+ghost use Rattle.kube_meta.specs.View.{ObjectView};
 ghost use Rattle.api_calls.specs.Versions.{Decides, IgnoresStamps, IsOneToOne, Stand};
-ghost use Rattle.crd_meaning.specs.Definition.{Definition, IsLoaded};
+ghost use Rattle.hub_cells.specs.Side.{spoke};
+ghost use Rattle.hub_cells.specs.Level.{Name};
+ghost use Rattle.fitted_bodies.specs.Body.{IsBodyOf};
+ghost use Rattle.spoke_laws.specs.Spokes.{Spoke, api_version};
+ghost use Rattle.spoke_laws.specs.Over.{GoesOver, IsFirstBad};
+ghost use Rattle.crd_meaning.specs.Definition.{Definition, IsLoaded, count_of, seat, at_spoke};
+ghost use Rattle.crd_meaning.specs.Objects.{IsWholeValue};
+ghost use Rattle.crd_meaning.specs.Admission.{own_name, IsHubOf};
 ghost use Rattle.crd_meaning.specs.Meant.{meant};
 ghost use Rattle.crd_meaning.specs.Given.{Given};
 
@@ -40,6 +51,27 @@ pub fn one_to_one()
 /// A request is admitted in one way or refused, and not both.
 pub fn deciding()
     ensures { (d : Definition) → IsLoaded d → Decides (meant d) }
+{
+    known();
+}
+
+/// What a spoke's object becomes at the hub is its hub value, where it is a whole one. The form of that value is what is
+/// left of the object once settled.
+pub fn going_over()
+    ensures { (d : Definition) → IsLoaded d → (v : ℕ) (s : Spoke) (x h : ObjectView) → v < count_of d
+        → seat d v ≡ at_spoke s → x.api_version ≡ api_version d.spokes.group s.name
+        → AreRising (members_of x.body) → IsBodyOf spoke s.fit x.body
+        → GoesOver d.spokes s x h → IsWholeValue d h → IsHubOf d v x h }
+{
+    given();
+}
+
+/// An object has one hub value, and where it has one, no annotation that is read is badly kept.
+pub fn one_hub()
+    ensures one { (d : Definition) → IsLoaded d → (v : ℕ) (x g h : ObjectView)
+        → IsHubOf d v x g → IsHubOf d v x h → g ≡ h }
+    ensures read { (d : Definition) (v : ℕ) (x h : ObjectView) → IsHubOf d v x h → (k : Name)
+        → IsFirstBad d.spokes (own_name (seat d v)) x.meta.annotations k → ⊥ }
 {
     known();
 }
