@@ -1,14 +1,18 @@
 -- The fits of the spokes.
-use Rattle.std.proofs.Common.{◌≡◌, ℕ, suc, ◌+◌, List, [], ◌∷◌, ◌++◌, Bool, true, false, ◌||◌, cond, Option, Some, None, refl, ap, sym, subst, ◌∙◌, arith}
+use Rattle.std.proofs.Common.{◌≡◌, ◌≤◌, ℕ, suc, ◌+◌, List, [], ◌∷◌, ◌++◌, Bool, true, false, ◌||◌, cond, Option, Some, None, refl, ap, sym, subst, ◌∙◌, arith}
 use Rattle.std.specs.Prelude.{slice_get}
 use Rattle.std.specs.Str.{bytes_eq}
 use Rattle.struct_schema.specs.Shape.{Shape}
 use Rattle.hub_cells.specs.Fit.{Fit, IsFitted}
 use Rattle.rule_reading.specs.SetRead.{Spoke}
 use Rattle.kj_value.specs.Txt.{Bytes}
+use Rattle.hub_rules.specs.Rule.{Rules, inner_depth}
+use Rattle.hub_rules.specs.Sound.{AreSound}
 use Rattle.hub_rules.specs.Refusal.{Fault, Why, name_twice, name_missing, schema_differs, unpaired_default, required_lost, range_lost}
 use Rattle.hub_rules.specs.Told.{path_text}
+use Rattle.hub_fit.specs.Chosen.{fit_of}
 use Rattle.hub_fit.specs.Refuses.{Refuses}
+use Rattle.hub_rules.specs.declared.rules.TheConstants.{MAX_OBJECTS}
 use Rattle.hub_rules.specs.declared.refusal.FitFault.TheVariants.{NameTwice, NameMissing, SchemaDiffers, UnpairedDefault, RequiredLost, RangeLost}
 use Rattle.crd_reading.specs.View.{VersionView}
 use Rattle.crd_reading.specs.Offered.{has_version}
@@ -17,11 +21,15 @@ use Rattle.crd_reading.specs.Refusal.{Refusal}
 use Rattle.crd_reading.specs.Told.{Names as NamesRefusal}
 use Rattle.crd_reading.specs.declared.reading.DefinitionFault.TheVariants.{Refused}
 use Rattle.crd_loading.specs.Blame.{blame, of_definition, of_fit}
-use Rattle.crd_loading.specs.Fits.{Placed, version_from, spokes_of, fits_of}
+use Rattle.crd_loading.specs.Fits.{IsRuled, Placed, version_from, spokes_of, fits_of}
 use Rattle.crd_loading.specs.AllFitted.{AllFitted}
 use Rattle.crd_loading.specs.View.{FitVersions, FitHub}
 
-pub all_push : (fs : List Fit) (f : Fit) → AllFitted fs → IsFitted f → AllFitted (fs ++ f ∷ [])
+pub ruled : (s h : Shape) (rs : Rules) (f : Fit) → f ≡ fit_of 0 s h rs → AreSound rs → inner_depth rs ≤ MAX_OBJECTS → IsFitted f → IsRuled f
+ruled s h rs f e a d k =
+    subst IsRuled (sym e) (record { rules = rs; is = refl; sound = a; depth = d; fitted = subst IsFitted e k })
+
+pub all_push : (fs : List Fit) (f : Fit) → AllFitted fs → IsRuled f → AllFitted (fs ++ f ∷ [])
 all_push [] f h k = (k, tt)
 all_push (g ∷ fs) f h k = (h.0, all_push fs f h.1 k)
 

@@ -1,13 +1,15 @@
 -- The rules of each spoke for its schema and the hub's: a version but the hub without rules has none.
-use Rattle.std.specs.Prelude.{ℕ, suc, List, [], ◌∷◌, cond, nat_eq, Option, None, Some, Result, Ok, Err}
+use Rattle.std.specs.Prelude.{◌≡◌, ◌≤◌, ℕ, suc, List, [], ◌∷◌, cond, nat_eq, Option, None, Some, Result, Ok, Err}
 use Rattle.std.specs.Str.{bytes_eq}
 use Rattle.kj_value.specs.Json.{Json}
 use Rattle.kj_value.specs.Fields.{field}
 use Rattle.struct_schema.specs.Shape.{Shape}
 use Rattle.struct_schema.specs.Fault.{or_else}
 use Rattle.hub_cells.specs.Level.{Name}
-use Rattle.hub_cells.specs.Fit.{Fit}
-use Rattle.hub_rules.specs.Rule.{Rule, Rules, no_rules, rules_of}
+use Rattle.hub_cells.specs.Fit.{Fit, IsFitted}
+use Rattle.hub_rules.specs.Rule.{Rule, Rules, no_rules, rules_of, inner_depth}
+use Rattle.hub_rules.specs.Sound.{AreSound}
+use Rattle.hub_rules.specs.declared.rules.TheConstants.{MAX_OBJECTS}
 use Rattle.hub_rules.specs.Refusal.{fit_fault}
 use Rattle.hub_fit.specs.Chosen.{fit_of}
 use Rattle.rule_reading.specs.Path.{Path}
@@ -52,6 +54,15 @@ fits_blame h ss (v ∷ vs) = or_else (of_fit (fit_fault v.schema h (rules_for v.
 abbrev pub fits_of : Shape → List Spoke → List VersionView → List Fit
 fits_of h ss [] = []
 fits_of h ss (v ∷ vs) = fit_of 0 v.schema h (rules_for v.name ss) ∷ fits_of h ss vs
+
+-- what rules mean for two schemas, from the root on: their tables list scalars, and no more than eight objects stand one
+-- inside the other
+pub record IsRuled (f : Fit) : Type 0 where
+  pub rules : Rules
+  pub is : f ≡ fit_of 0 f.spoke f.hub rules
+  pub sound : AreSound rules
+  pub depth : inner_depth rules ≤ MAX_OBJECTS
+  pub fitted : IsFitted f
 
 -- ---- a document of rules, for the versions of a definition
 

@@ -1,5 +1,5 @@
 -- How an answer of the program tells what is refused.
-use Rattle.std.specs.Prelude.{◌≡◌, List, ℕ, Option, None, Some, Result, Ok, Err}
+use Rattle.std.specs.Prelude.{List, ℕ, Option, None, Some, Result, Ok, Err}
 use Rattle.crd_loading.specs.Blame.{Blame, blame}
 use Rattle.crd_loading.specs.Load.{RefusesDefinition, RefusesRules}
 use Rattle.crd_loading.specs.declared.blamed.Blamed.{Blamed}

@@ -2,12 +2,12 @@
 use Rattle.std.specs.Prelude.{◌≡◌, ℕ, List, [], ◌∷◌, Option, None, Some, Result, Ok, Err, slice_get}
 use Rattle.kj_value.specs.Json.{Json}
 use Rattle.struct_schema.specs.Shape.{Shape}
-use Rattle.hub_cells.specs.Fit.{Fit, IsFitted}
+use Rattle.hub_cells.specs.Fit.{Fit}
 use Rattle.rule_reading.specs.Path.{Path}
 use Rattle.rule_reading.specs.SetRead.{Spoke}
 use Rattle.crd_reading.specs.View.{VersionView, DefinitionView}
 use Rattle.crd_reading.specs.Whole.{IsWhole}
-use Rattle.crd_loading.specs.Fits.{Placed, version_from, spokes_of, fits_of, RuleSet, rules_in}
+use Rattle.crd_loading.specs.Fits.{IsRuled, Placed, version_from, spokes_of, fits_of, RuleSet, rules_in}
 
 pub record LoadedView : Type 0 where
   pub definition : DefinitionView
@@ -16,12 +16,12 @@ pub record LoadedView : Type 0 where
 
 -- ---- what every one keeps in its type
 
--- each level stands for the schema of its version and the hub's, and no names of objects lead to it
+-- each level is what some rules mean for the schema of its version and the hub's, and no names of objects lead to it
 abbrev pub FitVersions : Shape → List VersionView → List Fit → Type 0
 FitVersions h [] [] = Unit {0}
 FitVersions h [] (f ∷ fs) = ⊥
 FitVersions h (v ∷ vs) [] = ⊥
-FitVersions h (v ∷ vs) (f ∷ fs) = (f.spoke ≡ v.schema) × (f.hub ≡ h) × (f.depth ≡ 0) × IsFitted f × FitVersions h vs fs
+FitVersions h (v ∷ vs) (f ∷ fs) = (f.spoke ≡ v.schema) × (f.hub ≡ h) × (f.depth ≡ 0) × IsRuled f × FitVersions h vs fs
 
 -- the hub is a version, and each other version has a fit
 abbrev pub FitHub : Option VersionView → ℕ → List VersionView → List Fit → Type 0

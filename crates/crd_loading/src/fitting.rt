@@ -1,8 +1,8 @@
 //! The rules of the spokes, fitted to their schemas and the hub's.
 ghost use Rattle.std.specs.Prelude.{◌≡◌, ◌++◌, ◌∷◌, [], cond, true, Option, Some, Ok, IfOk, IfErr, IfNone, OnOk, None, map, option_map, slice_get};
 ghost use Rattle.struct_schema.specs.ShapeOf.{shape_of};
-ghost use Rattle.hub_cells.specs.Fit.{IsFitted};
 ghost use Rattle.hub_rules.specs.Refusal.{Fault, fit_fault};
+ghost use Rattle.hub_rules.specs.Rule.{rules_of};
 ghost use Rattle.hub_rules.specs.Spots.{why};
 ghost use Rattle.hub_fit.specs.Chosen.{fit_of};
 ghost use Rattle.hub_fit.specs.Refuses.{Refuses};
@@ -11,7 +11,7 @@ ghost use Rattle.crd_reading.specs.Seen.{version_of};
 ghost use Rattle.crd_reading.specs.Offered.{has_version};
 ghost use Rattle.crd_loading.specs.Words.{fit_word};
 ghost use Rattle.crd_loading.specs.Blame.{blame, of_fit};
-ghost use Rattle.crd_loading.specs.Fits.{version_from, spokes_of, rules_or_none, rules_for, fits_blame, fits_of, fit_blame};
+ghost use Rattle.crd_loading.specs.Fits.{IsRuled, version_from, spokes_of, rules_or_none, rules_for, fits_blame, fits_of, fit_blame};
 ghost use Rattle.crd_loading.specs.View.{FitVersions, FitHub, placed_by};
 ghost use Rattle.crd_loading.specs.Told.{blame_of, blamed_in};
 ghost use Rattle.crd_loading.specs.AllFitted.{AllFitted};
@@ -62,6 +62,23 @@ fn told(alloc: Global, fault: FitFault) -> Result<Blamed, NoMemory>
     }
 }
 
+// Rules fitted to two schemas, with what their type keeps of them.
+fn fit_rules(alloc: Global, rules: &Rules, spoke: &Schema, hub: &Schema) -> Result<Fitted, FitFault>
+    ensures ok { IfOk result (λ f. f ≡ fit_of 0 (shape_of spoke.now) (shape_of hub.now) (rules_of rules.now)) }
+    ensures ruled { IfOk result IsRuled }
+    ensures fits { OnOk result (fit_fault (shape_of spoke.now) (shape_of hub.now) (rules_of rules.now) ≡ None) }
+    ensures err { IfErr result (Refuses (fit_fault (shape_of spoke.now) (shape_of hub.now) (rules_of rules.now))) }
+{
+    let _ = rules.as_slice();
+    match fit(alloc, rules, spoke, hub) {
+        Err(fault) => Err(fault),
+        Ok(f) => {
+            let _ = f.cells();
+            Ok(f)
+        }
+    }
+}
+
 // Rules, or none, fitted to two schemas.
 fn fit_given(
     alloc: Global,
@@ -71,22 +88,16 @@ fn fit_given(
 ) -> Result<Fitted, FitFault>
     ensures ok { IfOk result (λ f. f ≡ fit_of 0 (shape_of spoke.now) (shape_of hub.now)
         (rules_or_none (option_map (λ rs. rs.now) rules.entry))) }
+    ensures ruled { IfOk result IsRuled }
     ensures fits { OnOk result (fit_fault (shape_of spoke.now) (shape_of hub.now)
         (rules_or_none (option_map (λ rs. rs.now) rules.entry)) ≡ None) }
     ensures err { IfErr result (Refuses (fit_fault (shape_of spoke.now) (shape_of hub.now)
         (rules_or_none (option_map (λ rs. rs.now) rules.entry)))) }
 {
     match rules {
-        None => fit(alloc, &Rules::new(alloc), spoke, hub),
-        Some(rules) => fit(alloc, rules, spoke, hub),
+        None => fit_rules(alloc, &Rules::new(alloc), spoke, hub),
+        Some(rules) => fit_rules(alloc, rules, spoke, hub),
     }
-}
-
-// What a fit keeps in its type.
-fn fitted(f: &Fitted)
-    ensures { IsFitted f.now }
-{
-    let _ = f.cells();
 }
 
 fn fit_version(
@@ -97,15 +108,12 @@ fn fit_version(
 ) -> Result<Result<Fitted, Blamed>, NoMemory>
     ensures fit { IfOk result (λ r. IfOk r (λ f. f ≡ fit_of 0 (version_of v.now).schema
         (shape_of hub.now) (rules_for (version_of v.now).name spokes.now))) }
-    ensures fitted { IfOk result (λ r. IfOk r IsFitted) }
+    ensures ruled { IfOk result (λ r. IfOk r IsRuled) }
     ensures blame { IfOk result (λ r. blamed_in r ≡ of_fit (fit_fault (version_of v.now).schema
         (shape_of hub.now) (rules_for (version_of v.now).name spokes.now))) }
 {
     match fit_given(alloc, spokes.get(v.name.as_str()), &v.schema, hub) {
-        Ok(f) => {
-            fitted(&f);
-            Ok(Ok(f))
-        }
+        Ok(f) => Ok(Ok(f)),
         Err(fault) => Ok(Err(told(alloc, fault)?)),
     }
 }
