@@ -1,0 +1,2 @@
+pub mod SetCode
+pub mod Passed
