@@ -1,0 +1,7 @@
+mod Tests
+mod Labels
+mod Names
+mod Keys
+mod Passed
+mod Weights
+mod Results

@@ -1,0 +1,2 @@
+pub mod NoHub
+pub mod Weighing

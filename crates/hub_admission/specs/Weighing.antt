@@ -1,0 +1,27 @@
+-- For private clauses: what the forms of a hub value weigh.
+use Rattle.std.specs.Prelude.{◌≡◌, ◌⊎◌, ℕ, ◌<◌, ◌≤◌, Option, None, Some, MatchOption}
+use Rattle.kube_meta.specs.View.{ObjectView}
+use Rattle.api_calls.specs.Meaning.{Weighs, chunks, measure}
+use Rattle.crd_meaning.specs.declared.limits.TheConstants.{MAX_MEASURE}
+use Rattle.crd_meaning.specs.Definition.{Definition}
+use Rattle.crd_meaning.specs.Objects.{IsFormAt}
+use Rattle.crd_meaning.specs.Admission.{IsLight}
+use Rattle.crd_meaning.specs.Meant.{meant}
+
+-- the measure of a form, where it isn't above the limit
+abbrev pub IsMeasure : ObjectView → Option ℕ → Type 0
+IsMeasure x o = MatchOption o (MAX_MEASURE < measure x) (λ n. (n ≡ measure x) × (n ≤ MAX_MEASURE))
+
+-- the one of the form at the version
+abbrev pub IsMeasured : Definition → ObjectView → ℕ → Option ℕ → Type 0
+IsMeasured d h v o = (x : ObjectView) × IsFormAt d v h x × IsMeasure x o
+
+-- the forms at the versions before v are light, and weigh at most so many chunks, of which there are as many as at one of
+-- them
+pub record AreWeighed (d : Definition) (h : ObjectView) (v most : ℕ) : Type 0 where
+  pub within : (u : ℕ) (x : ObjectView) → u < v → IsFormAt d u h x → (measure x ≤ MAX_MEASURE) × (chunks (measure x) ≤ most)
+  pub met : ((v ≡ 0) × (most ≡ 0)) ⊎ ((u : ℕ) × (x : ObjectView) × (u < v) × IsFormAt d u h x × (chunks (measure x) ≡ most))
+
+abbrev pub IsWeightOf : Definition → ObjectView → Option ℕ → Type 0
+IsWeightOf d h None = IsLight d h → ⊥
+IsWeightOf d h (Some w) = IsLight d h × Weighs (meant d) h w × (0 < w)
