@@ -1,0 +1,9 @@
+mod Lookup
+mod Depths
+mod Schemas
+mod Agrees
+mod Lists
+mod Refusing
+mod Rows
+mod Numerals
+mod Ready
