@@ -1,0 +1,3 @@
+pub mod Document
+pub mod Converted
+pub mod Refusal
