@@ -1,0 +1,85 @@
+-- The laws of a definition, from facts that are propositions each.
+use Rattle.std.proofs.Common.{ℕ, ◌≤◌, Option}
+use Rattle.std.proofs.Math.Logic.{∥∥₁_elim}
+use Rattle.std.specs.Coded.{×_prop, le_prop}
+use Rattle.kube_meta.specs.View.{ObjectView}
+use Rattle.api_calls.specs.Meaning.{Request, Weighs}
+use Rattle.api_calls.specs.Versions.{AreFlags, StandsAt, Stand, IgnoresStamps, IsOneToOne, IsAdmitted, Decides}
+use Rattle.crd_reading.specs.Accepted.{AreOffered}
+use Rattle.spoke_laws.specs.Given.{OneList}
+use Rattle.crd_meaning.specs.Definition.{Definition, count_of, opening_of, IsLoaded}
+use Rattle.crd_meaning.specs.Meant.{Settings, meaning_of, meant}
+use Rattle.crd_meaning.proofs.Places as places
+use Rattle.crd_meaning.proofs.Forms.{one_form, only_hub}
+use Rattle.crd_meaning.proofs.Made.{has_form}
+use Rattle.crd_meaning.proofs.Verdicts as verdicts
+use Rattle.crd_laws.specs.Loaded.{loaded_meaning}
+use Rattle.crd_laws.specs.Known.{laws, given}
+use Rattle.crd_laws.specs.Opening.{opening_flags}
+
+module _ (d : Definition) where
+  pub few : ∥ IsLoaded d ∥₁ → (2 ≤ count_of d) × (count_of d ≤ 8)
+  few loaded = ∥∥₁_elim loaded (×_prop le_prop le_prop) (λ l. l.few)
+
+  pub opens : ∥ IsLoaded d ∥₁ → AreOffered d.view.versions → AreFlags (count_of d) (opening_of d)
+  opens loaded offered = opening_flags d offered (few loaded).1
+
+module _ (d : Definition) (o : Settings) where
+  -- what is said of an object at a version doesn't look at what is whole or admitted
+  stands_so : (v : ℕ) (x : ObjectView) → StandsAt (meaning_of d o) v x → StandsAt (loaded_meaning d o) v x
+  stands_so v x s = record {
+    api_version = s.api_version;
+    kind = s.kind;
+    name = s.name;
+    no_number = s.no_number;
+    no_uid = s.no_uid;
+    stamps = s.stamps;
+    body = s.body;
+    sound = s.sound;
+    levels = s.levels;
+  }
+
+  pub stand : OneList → ∥ IsLoaded d ∥₁ → Stand (loaded_meaning d o)
+  stand one loaded = record {
+    hub = ∥∥₁_elim loaded le_prop (λ l. l.hub);
+    whole = λ h w. stands_so d.hub h ((places.stand (given one) o d w.0).whole h w.1);
+    pair = λ v h x known w p. stands_so v x ((places.stand (given one) o d w.0).pair v h x known w.1 p);
+  }
+
+  pub unstamped : IgnoresStamps (loaded_meaning d o)
+  unstamped = record {
+    whole = λ h created deleted generation s w. (w.0, (places.unstamped o d).whole h created deleted generation s w.1);
+    pair = λ v h x created deleted generation p. (places.unstamped o d).pair v h x created deleted generation p;
+  }
+
+  pub one_to_one : OneList → IsOneToOne (loaded_meaning d o)
+  one_to_one one = record {
+    total = λ v h known w. has_form (laws one) d w.0 v h known w.1;
+    function = λ v h x y known w p q. one_form (given one) d w.0 v h x y w.1 p q;
+    injective = λ v g h x known wg wh p q. only_hub (given one) d wg.0 v g h x wg.1 wh.1 p q;
+  }
+
+  admitted_so : (r : Request) (h : ObjectView) (e : Option ℕ) → IsLoaded d → IsAdmitted (meaning_of d o) r h e → IsAdmitted (loaded_meaning d o) r h e
+  admitted_so r h e l a = record {
+    namespace = a.namespace;
+    name = a.name;
+    expected = a.expected;
+    whole = (l, a.whole);
+    created = a.created;
+    deleted = a.deleted;
+    generation = a.generation;
+  }
+
+  pub decides : OneList → ∥ IsLoaded d ∥₁ → Decides (loaded_meaning d o)
+  decides one loaded = record {
+    admitted = λ r h e a. admitted_so r h e a.0 ((verdicts.decides (given one) o d a.0).admitted r h e a.1);
+    one = λ r g h e f a b. (verdicts.decides (given one) o d a.0).one r g h e f a.1 b.1;
+    excludes = λ r h e f a n. (verdicts.decides (given one) o d a.0).excludes r h e f a.1 n;
+    complete = λ r is never_admitted never_refused.
+        ∥∥₁_elim loaded (λ x y. absurd x)
+        (λ l. (verdicts.decides (given one) o d l).complete r (record { known = is.known; ns = is.ns }) (λ h e a. never_admitted h e (l, a)) never_refused);
+  }
+
+  -- a weight doesn't look at the settings, nor at what is whole or admitted
+  pub weighs_so : (h : ObjectView) (w : ℕ) → Weighs (meant d) h w → Weighs (loaded_meaning d o) h w
+  weighs_so h w m = record { within = m.within; met = m.met }

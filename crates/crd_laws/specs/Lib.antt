@@ -1,0 +1,5 @@
+pub mod Loaded
+pub mod OneText
+pub mod Known
+pub mod Opening
+pub mod Laws
