@@ -1,0 +1,47 @@
+//! What a request is admitted with.
+ghost use Rattle.std.specs.Prelude.{◌≡◌, ◌<◌, ◌≤◌, ◌↔◌, true, IfOk, IfErr, IsSome, IsTrue};
+ghost use Rattle.kj_value.specs.Json.{depth};
+ghost use Rattle.kube_meta.specs.Document.{document};
+ghost use Rattle.kube_meta.specs.Names.{is_namespace};
+ghost use Rattle.kube_meta.specs.View.{object_of};
+ghost use Rattle.api_calls.specs.Meaning.{Weighs};
+ghost use Rattle.api_calls.specs.Versions.{Refused, request_of};
+ghost use Rattle.api_calls.specs.declared.versions.TheConstants.{OBJECT_LEVELS};
+ghost use Rattle.crd_meaning.specs.Definition.{IsLoaded, count_of};
+ghost use Rattle.crd_meaning.specs.Admission.{Admits};
+ghost use Rattle.crd_meaning.specs.Refusal.{Refuses};
+ghost use Rattle.crd_meaning.specs.Meant.{meant};
+
+use api_calls::{AdmitFault, Admitted, Incoming};
+use crd_meaning::standing;
+use hub_admission::hub_value;
+use loaded_versions::LoadedVersions;
+use request_taking::pass;
+use std::alloc::Global;
+
+// The hub value of a request, its weight, and the number that the request gives. It is refused exactly where the definition
+// refuses it.
+pub(crate) fn admitted(
+    alloc: Global,
+    set: &LoadedVersions,
+    input: &Incoming<'_>,
+) -> Result<Admitted, AdmitFault>
+    requires known { input.now.version < count_of set.now }
+    requires ns { is_namespace input.now.ns.now ≡ true }
+    requires creating { IsTrue input.now.creating ↔ (IsSome input.now.name → ⊥) }
+    ensures ok { IfOk result (λ a. Admits set.now (request_of input.now) (object_of a.hub) a.expected) }
+    ensures weighs { IfOk result (λ a. Weighs (meant set.now) (object_of a.hub) a.weight) }
+    ensures levels { IfOk result (λ a. depth (document (object_of a.hub)) ≤ OBJECT_LEVELS) }
+    ensures refused { IfErr result (Refused (Refuses set.now (request_of input.now)) ⊥) }
+    ensures loaded { IsLoaded set.now }
+{
+    standing();
+    let _ = set.hub();
+    let passed = pass(alloc, set, input)?;
+    let weighed = hub_value(alloc, set, input.version, passed.object)?;
+    Ok(Admitted {
+        hub: weighed.hub,
+        weight: weighed.weight,
+        expected: passed.expected,
+    })
+}

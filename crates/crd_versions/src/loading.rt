@@ -1,0 +1,30 @@
+//! From two texts to the versions of a definition.
+ghost use Rattle.std.specs.Prelude.{◌≡◌, IfOk, IfErr};
+ghost use Rattle.crd_loading.specs.View.{LoadedView};
+ghost use Rattle.crd_loading.specs.Load.{Loads};
+ghost use Rattle.crd_loading.specs.Told.{Refuses};
+ghost use Rattle.versions_loading.specs.Set.{set_of};
+ghost use Rattle.crd_versions.specs.Set.{definition_of};
+
+use crate::again::definition_again;
+use crate::set::VersionSet;
+use crd_loading::LoadFault;
+use crd_settings::Shown;
+use std::alloc::Global;
+use versions_loading::load_versions;
+
+/// The versions of the CustomResourceDefinition (apiextensions.k8s.io/v1) that the first text is, with the rules of conversion
+/// of the second, or the first thing that is refused: the file, a path with names joined by points and items in brackets, and a
+/// word. Both texts are JSON, read at 100 levels, and the whole definition is tried before the rules are read. `NoMemory` may
+/// come for any texts.
+///
+/// The definition is read twice, since its text is kept apart from what objects are judged by.
+pub fn load(alloc: Global, crd: &[u8], rules: &[u8]) -> Result<VersionSet, LoadFault>
+    ensures loaded { IfOk result
+        (λ s. (l : LoadedView) × Loads crd.now rules.now l × (definition_of s ≡ set_of l)) }
+    ensures refused { IfErr result (Refuses crd.now rules.now) }
+{
+    let set = load_versions(alloc, crd, rules)?;
+    let shown = Shown::new(alloc, definition_again(alloc, crd)?)?;
+    Ok(VersionSet::new(set, shown))
+}

@@ -1,0 +1,147 @@
+//! The versions of a loaded definition.
+ghost use Rattle.std.specs.Prelude.{◌≡◌};
+ghost use Rattle.spoke_laws.specs.Given.{OneList};
+ghost use Rattle.crd_reading.specs.Accepted.{AreOffered};
+ghost use Rattle.crd_meaning.specs.Definition.{IsLoaded};
+ghost use Rattle.crd_laws.specs.OneText.{OneList-prop};
+
+use crate::admission::admitted;
+use crate::names::{count, find, name};
+use api_calls::{AdmitFault, Admitted, ConvFault, Flags, Incoming, NoTool, StoredList, Versions};
+use crd_settings::{Shown, opening, read_flags, read_keep};
+use kept_entries::one_list;
+use kj_value::Txt;
+use kube_meta::Object;
+use loaded_versions::LoadedVersions;
+use object_forms::{form, hub_of};
+use std::alloc::Global;
+
+/// A definition of several versions as it was loaded, with its text at hand. It asks nothing of the outside, so its tool
+/// has no faults.
+#[derive(Drop)]
+pub struct VersionSet {
+    set: LoadedVersions,
+    shown: Shown,
+    ghost one_list: { OneList } by { OneList-prop },
+    ghost loaded: { ∥ IsLoaded set ∥₁ },
+    ghost offered: { AreOffered set.view.versions },
+    ghost shows: { shown ≡ set.view },
+}
+
+impl VersionSet {
+    pub(crate) fn new(set: LoadedVersions, shown: Shown) -> VersionSet
+        requires { shown ≡ set.view }
+        ensures { result.set ≡ set }
+    {
+        one_list();
+        let _ = set.definition().versions();
+        VersionSet { set, shown }
+    }
+}
+
+impl Versions for VersionSet {
+    ghost use Rattle.std.specs.Prelude.{true, refl};
+    ghost use Rattle.crd_settings.specs.Settled.{settings_of};
+    ghost use Rattle.crd_laws.specs.Loaded.{loaded_meaning};
+    ghost use Rattle.crd_laws.specs.Laws.{few, opens, stand, unstamped, one_to_one, decides};
+
+    type Tool = NoTool;
+
+    ghost HONEST = { true };
+
+    const HONEST: bool = true;
+
+    ghost meaning = { λ it. loaded_meaning it.set (settings_of it.set.view) };
+
+    ghost told = { λ it. refl };
+
+    ghost few = { λ it. few it.set it.loaded };
+
+    ghost opens = { λ it. opens it.set it.loaded it.offered };
+
+    ghost stand = { λ it. stand it.set (settings_of it.set.view) it.one_list it.loaded };
+
+    ghost unstamped = { λ it. unstamped it.set (settings_of it.set.view) };
+
+    ghost one_to_one = { λ it honest. one_to_one it.set (settings_of it.set.view) it.one_list };
+
+    ghost decides = { λ it honest. decides it.set (settings_of it.set.view) it.one_list it.loaded };
+
+    fn count(&self) -> u8 {
+        count(&self.set)
+    }
+
+    fn name(&self, v: u8) -> &Txt {
+        name(&self.set, v)
+    }
+
+    fn find(&self, name: &str) -> Option<u8> {
+        find(&self.set, name)
+    }
+
+    fn opening(&self) -> Flags {
+        opening(self.set.definition())
+    }
+
+    fn plural(&self) -> &Txt {
+        self.set.definition().plural()
+    }
+
+    fn group(&self) -> &Txt {
+        self.set.definition().group()
+    }
+
+    fn kind(&self) -> &Txt {
+        self.set.definition().kind()
+    }
+
+    fn list_kind(&self) -> &Txt {
+        self.set.definition().list_kind()
+    }
+
+    fn admit(
+        &self,
+        alloc: Global,
+        _tool: &mut NoTool,
+        input: &Incoming<'_>,
+    ) -> Result<Admitted, AdmitFault> {
+        admitted(alloc, &self.set, input)
+    }
+
+    fn hub_of(
+        &self,
+        alloc: Global,
+        _tool: &mut NoTool,
+        v: u8,
+        stored: &[u8],
+    ) -> Result<Object, ConvFault> {
+        let _ = self.set.hub();
+        Ok(hub_of(alloc, &self.set, v, stored)?)
+    }
+
+    fn form(
+        &self,
+        alloc: Global,
+        _tool: &mut NoTool,
+        v: u8,
+        hub: &Object,
+    ) -> Result<Object, ConvFault> {
+        Ok(form(alloc, &self.set, v, hub)?)
+    }
+
+    fn read_flags(&self, alloc: Global, bytes: &[u8]) -> Result<Flags, AdmitFault> {
+        read_flags(alloc, self.set.definition(), bytes)
+    }
+
+    fn read_keep(&self, alloc: Global, bytes: &[u8]) -> Result<StoredList, AdmitFault> {
+        read_keep(alloc, self.set.definition(), bytes)
+    }
+
+    fn show_room(&self) -> u64 {
+        self.shown.room()
+    }
+
+    fn show(&self, flags: &Flags, stored: &StoredList, out: &mut Txt) {
+        self.shown.show(flags, stored, out)
+    }
+}
