@@ -1,0 +1,10 @@
+pub mod Segments
+pub mod Ascii
+pub mod Codes
+pub mod Levels
+pub mod Born
+pub mod Deciding
+pub mod Entering
+pub mod Values
+pub mod Showing
+pub mod Answering

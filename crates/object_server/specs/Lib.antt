@@ -1,0 +1,10 @@
+pub mod Paths
+pub mod PathEnds
+pub mod Routes
+pub mod Calls
+pub mod Replies
+pub mod View
+pub mod Answered
+pub mod Faults
+pub mod Outcomes
+pub mod Known

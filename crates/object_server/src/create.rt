@@ -1,0 +1,174 @@
+//! A create of an object.
+ghost use Rattle.std.specs.Prelude.{◌≡◌, ◌+◌, ◌<◌, ◌≤◌, ◌^◌, List, ℕ, None, Err, IfOk, IsErrOf, IsTrue};
+ghost use Rattle.http_wire.specs.Response.{HasPhrase};
+ghost use Rattle.kube_meta.specs.View.{ObjectView, object_of};
+ghost use Rattle.api_calls.specs.Item.{Item};
+ghost use Rattle.api_calls.specs.Meaning.{Weighs};
+ghost use Rattle.api_calls.specs.Refusal.{RefusalView};
+ghost use Rattle.api_calls.specs.Values.{created_value};
+ghost use Rattle.api_calls.specs.Versions.{IsRequest, IsStamp, request_of};
+ghost use Rattle.api_core.specs.View.{SameBase, StandsFor};
+ghost use Rattle.turn_state.specs.Prepared.{IsSized};
+ghost use Rattle.object_server.specs.Answered.{decided};
+ghost use Rattle.object_server.specs.Calls.{create};
+ghost use Rattle.object_server.specs.Known.{Created, MeansNew};
+ghost use Rattle.object_server.specs.Replies.{Ends};
+ghost use Rattle.object_server.specs.View.{base_of};
+
+use crate::given::Given;
+use crate::refused::{Refused, not_admitted};
+use crate::served::is_served;
+use api_calls::{
+    Admitted, BORN_END, ConvFault, Incoming, Refusal, Reply, Versions, one_weight, stored_fits,
+};
+use api_core::Core;
+use kj_value::{Stamp, Txt};
+use kube_meta::{Key, Object};
+use turn_state::{CreateEnd, Prepared};
+
+/// A value that is ready to be stored, its name, and the text that shows it.
+#[derive(Drop)]
+pub struct Ready {
+    pub prepared: Prepared,
+    pub name: Txt,
+    pub text: Txt,
+}
+
+// What a create stores of an admitted value.
+fn new_value(mut hub: Object, stamp: Stamp) -> Object
+    ensures { object_of result ≡ created_value stamp.text (object_of hub) }
+{
+    hub.meta.created = Some(stamp);
+    hub.meta.deleted = None;
+    hub.meta.generation = 1;
+    hub
+}
+
+// Stores what is ready, and tells how that ended.
+#[tactic(auto, using(http_wire::specs::Phrases::phrases))]
+fn commit<V: Versions>(core: &mut Core<V>, v: u8, ready: Ready) -> Result<Reply, Refused>
+    requires honest { IsTrue V.HONEST }
+    requires few { core.old.view.revision ≤ 2 ^ 61 }
+    requires sized { IsSized ready.prepared }
+    requires at { ready.prepared.at ≡ core.old.view.flags.storage }
+    requires stands { (log : List Item) × (h : ObjectView) × StandsFor V.meaning core.old log
+        × MeansNew (V.meaning core.old.versions) core.old.view.boot v (core.old.view.revision + 1) h ready }
+    ensures created { (log : List Item) (h : ObjectView) → StandsFor V.meaning core.old log
+        → MeansNew (V.meaning core.old.versions) core.old.view.boot v (core.old.view.revision + 1) h ready
+        → (after : List Item) × StandsFor V.meaning core.new after
+        × Created (base_of V.meaning core.old) v log h ready.prepared.weight (decided result) after }
+    ensures phrase { IfOk result (λ r. HasPhrase r.code) }
+    ensures revision { core.new.view.revision ≤ core.old.view.revision + 1 }
+    ensures base { SameBase core.old core.new }
+{
+    let Ready {
+        prepared,
+        name,
+        text,
+    } = ready;
+    match core.commit_create(v, prepared) {
+        CreateEnd::Done { rv: _ } => Ok(Reply { code: 201, text }),
+        CreateEnd::Unserved => Err(Refused {
+            refusal: Refusal::NoResource,
+        }),
+        CreateEnd::AlreadyExists => Err(Refused {
+            refusal: Refusal::AlreadyExists { name },
+        }),
+        CreateEnd::Full(room) => Err(Refused {
+            refusal: Refusal::Full { room },
+        }),
+        CreateEnd::StorageMoved { now: _ } => unreachable!(),
+    }
+}
+
+impl<V: Versions> Given<'_, V> {
+    // What a create stores at the storage version, and shows as the object of a number.
+    fn prepare(
+        &self,
+        tool: &mut V::Tool,
+        stamp: Stamp,
+        input: &Incoming<'_>,
+        storage: u8,
+        number: u64,
+        admitted: Admitted,
+    ) -> Result<Ready, ConvFault>
+        requires honest { IsTrue V.HONEST }
+        requires stamp { IsStamp stamp.text }
+        requires request { IsRequest (V.meaning self.now.versions.now) (request_of input.now) }
+        requires storage { storage < (V.meaning self.now.versions.now).count }
+        requires number { number < BORN_END }
+        requires admits { (V.meaning self.now.versions.now).admits (request_of input.now) (object_of admitted.hub) admitted.expected }
+        requires weighs { Weighs (V.meaning self.now.versions.now) (object_of admitted.hub) admitted.weight }
+        ensures sized { IfOk result (λ r. IsSized r.prepared) }
+        ensures at { IfOk result (λ r. r.prepared.at ≡ storage) }
+        ensures weight { IfOk result (λ r. r.prepared.weight ≡ admitted.weight) }
+        ensures means { IfOk result (λ r. MeansNew (V.meaning self.now.versions.now) self.now.boot input.now.version number
+            (created_value stamp.text (object_of admitted.hub)) r) }
+        ensures tool { IsErrOf result ConvFault.Tool → V.Tool.faults tool.old < V.Tool.faults tool.new }
+        ensures rises { V.Tool.faults tool.old ≤ V.Tool.faults tool.new }
+    {
+        // Asked for what their clauses say: the weight is that of the value with its stamps, and bounds its stored text.
+        one_weight::<V>();
+        stored_fits::<V>();
+        let Admitted {
+            hub,
+            weight,
+            expected: _,
+        } = admitted;
+        let hub = new_value(hub, stamp);
+        let key = Key::of(self.alloc, input.ns, hub.meta.name.as_str())?;
+        let name = Txt::of(self.alloc, hub.meta.name.as_str())?;
+        let text = self.shown(tool, input.version, number, number, &hub)?;
+        let bytes = self.stored(tool, storage, &hub)?;
+        Ok(Ready {
+            prepared: Prepared {
+                key,
+                at: storage,
+                bytes,
+                weight,
+            },
+            name,
+            text,
+        })
+    }
+
+    /// The reply to a create, at a moment. Where it is refused nothing is entered.
+    pub fn create(
+        &self,
+        tool: &mut V::Tool,
+        core: &mut Core<V>,
+        stamp: Stamp,
+        input: &Incoming<'_>,
+    ) -> Result<Reply, Refused>
+        requires honest { IsTrue V.HONEST }
+        requires stamp { IsStamp stamp.text }
+        requires request { IsRequest (V.meaning self.now.versions.now) (request_of input.now) }
+        requires creating { IsTrue input.now.creating }
+        requires unnamed { input.now.name ≡ None }
+        requires same { core.old.versions ≡ self.now.versions.now }
+        requires boot { core.old.view.boot ≡ self.now.boot }
+        requires few { core.old.view.revision ≤ 2 ^ 61 }
+        requires stands { (log : List Item) × StandsFor V.meaning core.old log }
+        ensures ends { (log : List Item) → StandsFor V.meaning core.old log → (after : List Item) × StandsFor V.meaning core.new after
+            × Ends (base_of V.meaning core.old) (V.Tool.faults tool.old < V.Tool.faults tool.new) stamp.text log (create (request_of input.now)) (decided result) after
+            × ((e : RefusalView) → decided result ≡ Err e → after ≡ log) }
+        ensures phrase { IfOk result (λ r. HasPhrase r.code) }
+        ensures rises { V.Tool.faults tool.old ≤ V.Tool.faults tool.new }
+        ensures revision { core.new.view.revision ≤ core.old.view.revision + 1 }
+        ensures base { SameBase core.old core.new }
+    {
+        let (flags, _stored, revision) = core.settings();
+        if !is_served(&flags, input.version) {
+            return Err(Refused {
+                refusal: Refusal::NoResource,
+            });
+        }
+        let admitted = match self.versions.admit(self.alloc, tool, input) {
+            Ok(admitted) => admitted,
+            Err(fault) => return Err(not_admitted(self.alloc, self.versions, fault)),
+        };
+        let number = revision + 1;
+        let ready = self.prepare(tool, stamp, input, flags.storage, number, admitted)?;
+        commit(core, input.version, ready)
+    }
+}
