@@ -1,8 +1,13 @@
 -- The text of a moment in UTC: RFC 3339, section 5.6, with whole seconds.
-use Rattle.std.specs.Prelude.{◌≡◌, ◌<◌, ◌+◌, ◌/◌, ◌%◌, ◌++◌, ◌∷◌, [], ℕ, List, pos, codes}
+use Rattle.std.specs.Prelude.{◌≡◌, ◌<◌, ◌+◌, ◌/◌, ◌%◌, ◌++◌, ◌∷◌, [], ℕ, List, pos, codes, flat_map}
+use Rattle.kj_value.specs.Text.{escaped_byte}
 use Rattle.jiff.specs.Words.{epoch_day}
 use Rattle.jiff_core.specs.declared.civil.date.Date.{Date}
 use Rattle.edge_io.specs.declared.stamps.TheConstants.{SECONDS_PER_DAY, SECONDS_PER_HOUR, SECONDS_PER_MINUTE}
+
+-- a text that JSON spells as it stands
+abbrev pub IsPlain : List ℕ → Type 0
+IsPlain text = flat_map escaped_byte text ≡ text
 
 -- the byte of the digit 0
 abbrev pub zero_digit : ℕ

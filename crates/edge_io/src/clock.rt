@@ -1,5 +1,6 @@
 //! What tells the time.
 ghost use Rattle.std.specs.Prelude.{◌≡◌, List, ℕ, Option, Some, IfSome};
+ghost use Rattle.edge_io.specs.Stamps.{IsPlain};
 
 use kj_value::Stamp;
 
@@ -8,20 +9,23 @@ pub trait Clock {
     /// The one stamp that it always answers, where the object tells it.
     ghost told: { Self → Option (List ℕ) };
 
-    /// The stamp of this moment.
+    /// The stamp of this moment, which JSON spells as it stands.
     fn stamp(&self) -> Stamp
-        ensures { IfSome (told self.now) (λ text. result.text ≡ text) };
+        ensures told { IfSome (told self.now) (λ text. result.text ≡ text) }
+        ensures plain { IsPlain result.text };
 }
 
 /// A clock that always answers one stamp.
 #[derive(Clone, Copy, Debug, Drop)]
 pub struct FixedClock {
     stamp: Stamp,
+    ghost plain: { IsPlain stamp.text },
 }
 
 impl FixedClock {
     /// A clock that answers this stamp.
     pub fn new(stamp: Stamp) -> FixedClock
+        requires { IsPlain stamp.text }
         ensures { result.stamp ≡ stamp }
     {
         FixedClock { stamp }

@@ -8,6 +8,7 @@
 mod adapters;
 mod calls;
 mod clock;
+mod disk_files;
 mod ears;
 mod files;
 mod mem_ears;
@@ -23,6 +24,7 @@ mod sure;
 
 pub use adapters::{StdSink, StdSource};
 pub use clock::{Clock, FixedClock};
+pub use disk_files::DiskFiles;
 pub use ears::Ears;
 pub use files::{FileFault, Files, MOST_FILE_BYTES};
 pub use mem_ears::{MemClosed, MemConnection, MemEars, MemInput};

@@ -1,7 +1,7 @@
 //! The system's clock.
 ghost use Rattle.std.specs.Prelude.{◌≡◌, ◌<◌, ◌^◌, ◌/◌, ℕ, None, IfOk, OnErr, MatchResult};
 ghost use Rattle.std.specs.Duration.{as_nanos};
-ghost use Rattle.edge_io.specs.Stamps.{IsDateTime};
+ghost use Rattle.edge_io.specs.Stamps.{IsDateTime, IsPlain};
 
 use crate::{Clock, stamp_of};
 use kj_value::Stamp;
@@ -40,7 +40,8 @@ impl<R: time::Clock> Clock for RealClock<R> {
     ghost told = { λ c. None };
 
     fn stamp(&self) -> Stamp
-        ensures { (seconds : ℕ) × (seconds < 2 ^ 37) × IsDateTime seconds result.text }
+        ensures date { (seconds : ℕ) × (seconds < 2 ^ 37) × IsDateTime seconds result.text }
+        ensures plain { IsPlain result.text }
     {
         stamp_of(second_in(self.system.since_1970()))
     }

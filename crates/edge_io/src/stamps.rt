@@ -1,7 +1,7 @@
 //! The stamp of a second.
-ghost use Rattle.std.specs.Prelude.{◌≡◌, ◌+◌, ◌/◌, ◌%◌, ◌<◌, ◌^◌, ◌≤ℤ◌, pos};
+ghost use Rattle.std.specs.Prelude.{◌≡◌, ◌+◌, ◌/◌, ◌%◌, ◌<◌, ◌≤◌, ◌^◌, ◌≤ℤ◌, pos};
 ghost use Rattle.jiff.specs.Words.{epoch_day};
-ghost use Rattle.edge_io.specs.Stamps.{zero_digit, IsDateTime};
+ghost use Rattle.edge_io.specs.Stamps.{zero_digit, IsDateTime, IsPlain};
 
 use jiff::ToSpan;
 use jiff::civil::{Date, date};
@@ -17,7 +17,8 @@ pub(crate) const SECONDS_PER_MINUTE: u64 = 60;
 /// memory.
 pub fn stamp_of(seconds: u64) -> Stamp
     requires { seconds < 2 ^ 37 }
-    ensures { IsDateTime seconds result.text }
+    ensures date { IsDateTime seconds result.text }
+    ensures plain { IsPlain result.text }
 {
     let date = date_of(seconds / SECONDS_PER_DAY);
     let year = year_of(date);
@@ -76,13 +77,15 @@ fn year_of(date: Date) -> u16
 
 fn tens(n: u8) -> u8
     requires { n < 100 }
-    ensures { result ≡ zero_digit + n / 10 }
+    ensures value { result ≡ zero_digit + n / 10 }
+    ensures digit { (48 ≤ result) × (result < 58) }
 {
     b'0' + n / 10
 }
 
 fn ones(n: u8) -> u8
-    ensures { result ≡ zero_digit + n % 10 }
+    ensures value { result ≡ zero_digit + n % 10 }
+    ensures digit { (48 ≤ result) × (result < 58) }
 {
     b'0' + n % 10
 }

@@ -2,9 +2,9 @@
 ghost use Rattle.std.specs.Prelude.{◌≡◌, ◌<◌};
 
 use crate::{
-    Clock, Ears, Failed, FileFault, Files, FixedClock, MOST_FILE_BYTES, MemConnection, MemEars,
-    MemFile, MemFiles, MemSink, MemSource, RealClock, Sink, Source, StdSink, StdSource, SureFiles,
-    SureSink, SureSource, send, stamp_of,
+    Clock, DiskFiles, Ears, Failed, FileFault, Files, FixedClock, MOST_FILE_BYTES, MemConnection,
+    MemEars, MemFile, MemFiles, MemSink, MemSource, RealClock, Sink, Source, StdSink, StdSource,
+    SureFiles, SureSink, SureSource, send, stamp_of,
 };
 use kj_value::Txt;
 use std::alloc::Global;
@@ -12,7 +12,7 @@ use std::io::{Read, Write};
 use std::process::Abort;
 use std::test::*;
 use std::time::Duration;
-use std::{io, time};
+use std::{fs, io, time};
 
 fn stamped(rt: &impl Abort, seconds: u64, text: &str)
     requires { seconds < 137_438_953_472 }
@@ -268,5 +268,22 @@ fn ears_in_memory(rt: HostRuntime) -> Result<(), Fail> {
     assert_eq!(rt; ears.handed_out(), 1);
     assert_eq!(rt; ears.calls(), 4);
     assert_eq!(rt; ears.faults(), 2);
+    Ok(())
+}
+
+// A file of the system is read whole, and one that isn't there is a fault.
+#[test]
+fn files_of_the_system(rt: HostRuntime) -> Result<(), Fail> {
+    fs::write(&rt, "files_of_the_system", "text")?;
+    let mut files = DiskFiles::new(&rt);
+    let text = files.read_file(rt.alloc(), "files_of_the_system")?;
+    assert_eq!(rt; text.as_str(), "text");
+    fs::remove_file(&rt, "files_of_the_system")?;
+    assert!(rt;
+        matches!(
+            &files.read_file(rt.alloc(), "files_of_the_system"),
+            Err(FileFault::Failed)
+        )
+    );
     Ok(())
 }

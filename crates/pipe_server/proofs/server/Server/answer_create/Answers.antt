@@ -17,6 +17,6 @@ returns-in-Ok-clause-outcome g c = λ items stands.
         value = option_map bytes_of c.in-Ok-Some.given.value;
         in_namespace = c.in-Some.ensures.text.0;
         body = rw c.in-Ok-Some.field-0-is at c.in-Ok-Some.ensures;
-        creates = creates_from base items c.args.version _ _ c.stamp.result.text _ _ entered.0 c.stamp.ensures entered.2;
+        creates = creates_from base items c.args.version _ _ c.stamp.result.text _ _ entered.0 c.stamp.ensures.told entered.2;
       }),
     )
