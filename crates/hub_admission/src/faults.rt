@@ -31,8 +31,9 @@ fn annotation_path(alloc: Global, key: &str) -> Result<Txt, NoMemory>
     Ok(Txt::of_string(path))
 }
 
-/// What is told of an annotation that can't be read, in an object of that name.
-pub(crate) fn badly_kept(alloc: Global, name: Txt, fault: KeepFault) -> Result<AdmitFault, NoMemory>
+/// What is told of an annotation that can't be read, in an object of that name: `Invalid` at the annotation, with the rule
+/// `Kept`.
+pub fn badly_kept(alloc: Global, name: Txt, fault: KeepFault) -> Result<AdmitFault, NoMemory>
     ensures { IfOk result (Refused (IsTold name.bytes fault) ⊥) }
 {
     match fault {

@@ -11,4 +11,5 @@ mod faults;
 mod hubs;
 mod weighing;
 
+pub use faults::badly_kept;
 pub use hubs::{Weighed, hub_value};

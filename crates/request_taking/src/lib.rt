@@ -19,5 +19,7 @@ mod passing;
 mod placing;
 mod taking;
 
+pub use filling::filled;
 pub use laws::{default_depth, filled_depth};
+pub use opening::{defaults_of, order_of};
 pub use passing::{Passed, pass};

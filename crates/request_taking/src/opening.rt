@@ -13,7 +13,7 @@ use kube_meta::Object;
 use loaded_versions::LoadedVersions;
 
 /// Each default of the version's schema is its own filling, and with the levels above it no deeper than an object may be.
-pub(crate) fn defaults_of(set: &LoadedVersions, v: u8)
+pub fn defaults_of(set: &LoadedVersions, v: u8)
     requires { v < count_of set.now }
     ensures own { HasOwnDefaults (version_at set.now v).schema }
     ensures low { HasLowDefaults 0 (version_at set.now v).schema }
@@ -22,7 +22,7 @@ pub(crate) fn defaults_of(set: &LoadedVersions, v: u8)
 }
 
 /// The names of the object's maps rise, and its values are sound.
-pub(crate) fn order_of(o: &Object)
+pub fn order_of(o: &Object)
     ensures object { IsObject (object_of o.now) }
     ensures labels { AreInOrder o.now.meta.labels }
     ensures owners { AreSound (items_of o.now.meta.owners) }
