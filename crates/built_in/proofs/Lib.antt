@@ -1,0 +1,5 @@
+pub mod Sound
+pub mod Read
+pub mod Unread
+pub mod Allowed
+pub mod Standing
