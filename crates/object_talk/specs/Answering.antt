@@ -1,0 +1,19 @@
+-- How a request is answered in a conversation: by a definition without a tool, at a moment of the clock.
+use Rattle.std.specs.Prelude.{◌≡◌, ℕ, List, Option, IfSome}
+use Rattle.http_wire.specs.Head.{Request}
+use Rattle.api_calls.specs.Item.{Item}
+use Rattle.api_calls.specs.Reply.{ReplyView}
+use Rattle.object_server.specs.Replies as replies
+
+-- what no request changes: the server's base, and the clock's one stamp where the clock tells it
+pub record Base : Type 1 where
+  pub server : replies.Base
+  pub told : Option (List ℕ)
+
+-- a moment that the clock may have given
+abbrev pub MayStamp : Option (List ℕ) → List ℕ → Type 0
+MayStamp told stamp = IfSome told (λ text. stamp ≡ text)
+
+-- A request's reply at a list of the history, and the list after it. There is no tool that could fail.
+unfoldable pub Answers : Base → List Item → Request → ReplyView → List Item → Type 0
+Answers base log r a after = (stamp : List ℕ) × MayStamp base.told stamp × replies.Answers base.server ⊥ stamp log r a after

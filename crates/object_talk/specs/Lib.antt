@@ -1,0 +1,5 @@
+pub mod Answering
+pub mod Faults
+pub mod Talk
+pub mod Steps
+pub mod Conversed
