@@ -1,84 +1,92 @@
 //! Looks at a core, which change nothing.
-use crate::steps::key_of;
-use api_calls::{StoredList, Versions};
+use crate::answers::{listed, page_text, seen_text, told};
+use crate::order::Order;
+use crate::turns::key_of;
+use api_calls::{Token, Versions};
 use api_core::Core;
-use kube_meta::Condition;
+use kube_meta::Key;
 use std::alloc::Global;
 use std::process::Abort;
 use std::test::Fail;
+use turn_state::Seen;
 
-/// The object of a name stands at a version, with these numbers and this text.
-pub(crate) fn stands<V: Versions>(
+/// The object of a key.
+pub(crate) fn seen<V: Versions>(
+    alloc: Global,
+    core: &Core<V>,
+    key: &Key,
+) -> Result<Option<Seen>, Fail> {
+    Ok(core.peek(alloc, key)?.found)
+}
+
+// The object of a name.
+fn object<V: Versions>(
     rt: &impl Abort,
     alloc: Global,
     core: &Core<V>,
     name: &str,
-    at: u8,
-    rv: u64,
-    born: u64,
-    text: &str,
-) -> Result<(), Fail> {
+) -> Result<String, Fail> {
     let key = key_of(rt, alloc, name)?;
-    let Some(seen) = core.peek(alloc, &key)?.found else {
-        return Err("it stands".into());
-    };
-    assert_eq!(rt; seen.at, at);
-    assert_eq!(rt; seen.rv, rv);
-    assert_eq!(rt; seen.born, born);
-    assert_eq!(rt; seen.bytes.as_str(), text);
-    Ok(())
-}
-
-/// No object has the name.
-pub(crate) fn is_gone<V: Versions>(
-    rt: &impl Abort,
-    alloc: Global,
-    core: &Core<V>,
-    name: &str,
-) -> Result<(), Fail> {
-    let key = key_of(rt, alloc, name)?;
-    assert!(rt; core.peek(alloc, &key)?.found.is_none());
-    Ok(())
-}
-
-/// The storage version and the revision.
-pub(crate) fn is_at<V: Versions>(rt: &impl Abort, core: &Core<V>, storage: u8, number: u64) {
-    let (flags, _stored, revision) = core.settings();
-    assert_eq!(rt; flags.storage, storage);
-    assert_eq!(rt; revision, number);
-}
-
-/// Whether a version is in a stored list.
-pub(crate) fn is_stored(stored: &StoredList, v: u8) -> bool {
-    let len = stored.len as usize;
-    if len > 8 {
-        return false;
+    match seen(alloc, core, &key)? {
+        Some(seen) => seen_text(alloc, &seen),
+        None => Ok(String::from_str(alloc, "none")?),
     }
-    stored.items[..len].contains(&v)
 }
 
-/// So many versions are in the stored list, and this one is.
-pub(crate) fn has_stored<V: Versions>(rt: &impl Abort, core: &Core<V>, len: u8, v: u8) {
-    let (_flags, stored, _revision) = core.settings();
-    assert_eq!(rt; stored.len, len);
-    assert!(rt; is_stored(&stored, v));
+// The revision, the storage version and the stored list.
+fn settings<V: Versions>(alloc: Global, core: &Core<V>) -> Result<String, Fail> {
+    let (flags, stored, revision) = core.settings();
+    let storage = flags.storage;
+    let text = format!(in alloc; "#{revision} @{storage} of")?;
+    listed(alloc, text.as_str(), &stored)
 }
 
-/// The migration at a place, in the order of their starts.
-pub(crate) fn is_listed<V: Versions>(
+// The migration at a place, in the order of their starts.
+fn migration<V: Versions>(alloc: Global, core: &Core<V>, place: u64) -> Result<String, Fail> {
+    let items = core.migrations(alloc)?;
+    let Some(item) = items.as_slice().get(place as usize) else {
+        return Ok(String::from_str(alloc, "none")?);
+    };
+    let name = item.name();
+    let target = item.target();
+    let condition = item.condition();
+    Ok(format!(in alloc; "{name} to @{target} {condition:?}")?)
+}
+
+// Two objects behind that of a name, as they stood at a number, or with no name the first two as they stand.
+fn page<V: Versions>(
     rt: &impl Abort,
     alloc: Global,
     core: &Core<V>,
-    place: usize,
-    name: &str,
-    condition: Condition,
-) -> Result<(), Fail> {
-    let items = core.migrations(alloc)?;
-    let Some(item) = items.as_slice().get(place) else {
-        return Err("it is listed".into());
+    order: &Order<'_>,
+) -> Result<String, Fail> {
+    let token = Token {
+        rv: order.number,
+        key: key_of(rt, alloc, order.name)?,
     };
-    assert_eq!(rt; item.name(), name);
-    assert_eq!(rt; item.target(), 0);
-    assert_eq!(rt; item.condition(), condition);
-    Ok(())
+    let behind = if order.name.is_empty() {
+        None
+    } else {
+        Some(&token)
+    };
+    match core.page(alloc, 0, None, behind, 2) {
+        Ok(page) => page_text(alloc, &page),
+        Err(fault) => told(alloc, &fault),
+    }
+}
+
+/// What a look answers.
+pub(crate) fn looked<V: Versions>(
+    rt: &impl Abort,
+    alloc: Global,
+    core: &Core<V>,
+    order: &Order<'_>,
+) -> Result<String, Fail> {
+    match order.word {
+        "object" => object(rt, alloc, core, order.name),
+        "settings" => settings(alloc, core),
+        "migration" => migration(alloc, core, order.number),
+        "page" => page(rt, alloc, core, order),
+        _ => Err("a look".into()),
+    }
 }

@@ -1,20 +1,17 @@
 //! A long run of turns that a small generator chooses, with a look from outside after each.
-ghost use Rattle.std.specs.Prelude.{IfOk};
-ghost use Rattle.turn_state.specs.Prepared.{IsSized};
-
-use crate::looks::is_stored;
-use crate::migrating::name_of;
-use crate::steps::{keep_one, key_of, marked, opened, started, store_at, value, young};
-use crate::workers::{Worked, go_on};
+use crate::looks::seen;
+use crate::order::Order;
+use crate::script::{Team, answered};
+use crate::turns::{key_of, opened};
 use api_calls::{StoredList, Versions};
 use api_core::Core;
-use kube_meta::{Condition, Key, Limits};
-use migrate_core::{MigrationItems, Worker};
-use std::alloc::Global;
+use kube_meta::{Condition, Limits};
+use migrate_core::MigrationItems;
+use std::alloc::{AllocError, Global};
 use std::cmp::Ordering;
 use std::process::Abort;
 use std::test::Fail;
-use turn_state::{Page, Prepared, Seen};
+use turn_state::{Page, Seen};
 use versions_fixture::TwoNames;
 
 // Less room than the run asks for.
@@ -26,203 +23,94 @@ const TIGHT: Limits = Limits {
     migrations: 60,
 };
 
-// A number for each turn: its low bits choose the turn, the next the object, and so on.
-#[derive(Clone, Copy, Drop)]
+const LETTERS: [&str; 8] = ["a", "b", "c", "d", "e", "f", "g", "h"];
+
+/// A name of two letters, one of 64.
+pub(crate) fn name_of(alloc: Global, n: u64) -> Result<String, AllocError> {
+    let mut name = String::new(alloc);
+    name.push_str(LETTERS[(n / 8 % 8) as usize])?;
+    name.push_str(LETTERS[(n % 8) as usize])?;
+    Ok(name)
+}
+
+// ---- which turn
+
+// What a number chooses: its low bits the turn, the next the object, and so on.
+#[derive(Drop)]
 struct Draw {
-    n: u64,
-}
-
-impl Draw {
-    fn next(self) -> Draw {
-        let n = self
-            .n
-            .wrapping_mul(6_364_136_223_846_793_005)
-            .wrapping_add(1_442_695_040_888_963_407);
-        Draw { n }
-    }
-
-    fn turn(self) -> u64 {
-        self.n / 0x1_0000_0000 % 32
-    }
-
-    fn object(self) -> u64 {
-        self.n / 0x20_0000_0000 % 16
-    }
-
-    fn coin(self) -> bool {
-        self.n / 0x200_0000_0000 % 2 == 0
-    }
-
+    turn: u64,
+    object: u64,
+    coin: bool,
     // Once in eight turns.
-    fn rare(self) -> bool {
-        self.n / 0x400_0000_0000 % 8 == 0
-    }
+    rare: bool,
+    migration: u64,
+}
 
-    fn migration(self) -> u64 {
-        self.n / 0x2000_0000_0000 % 64
+fn drawn(n: u64) -> Draw {
+    Draw {
+        turn: n / 0x1_0000_0000 % 32,
+        object: n / 0x20_0000_0000 % 16,
+        coin: n / 0x200_0000_0000 % 2 == 0,
+        rare: n / 0x400_0000_0000 % 8 == 0,
+        migration: n / 0x2000_0000_0000 % 64,
     }
 }
 
-// The storage version, and once in eight turns the other one.
-fn place<V: Versions>(core: &Core<V>, draw: Draw) -> u8 {
-    let (flags, _stored, _revision) = core.settings();
-    if !draw.rare() {
-        return flags.storage;
+// What is to be done, and by whom.
+fn word_of(turn: u64) -> &'static str {
+    match turn {
+        0..=6 => "create",
+        7..=9 => "replace",
+        10 => "delete",
+        11 => "mark",
+        12 => "release",
+        13 => "store",
+        14 => "keep",
+        15..=16 => "start",
+        17 => "give_back",
+        _ => "work",
     }
-    if flags.storage == 0 { 1 } else { 0 }
 }
 
-// The number at which the object of a key stands, or 1.
-fn number_of<V: Versions>(alloc: Global, core: &Core<V>, key: &Key) -> Result<u64, Fail> {
-    match core.peek(alloc, key)?.found {
-        Some(seen) => Ok(seen.rv),
-        None => Ok(1),
+// The name of the object, of the migration or of the worker.
+fn chosen_name(alloc: Global, draw: &Draw) -> Result<String, AllocError> {
+    match draw.turn {
+        0..=14 => name_of(alloc, draw.object),
+        15..=16 => name_of(alloc, draw.migration),
+        17..=20 => String::from_str(alloc, "second"),
+        _ => String::from_str(alloc, "first"),
     }
 }
 
-fn prepared<V: Versions>(
+// One of the first two versions: to be set, any of them; else the storage version, and seldom the other one.
+fn place(draw: &Draw, storage: u8) -> u8 {
+    let first = match draw.turn {
+        13..=14 => draw.coin,
+        _ => (storage == 0) != draw.rare,
+    };
+    if first { 0 } else { 1 }
+}
+
+// The version of the request.
+fn asked(turn: u64) -> u8 {
+    match turn {
+        0..=6 => 1,
+        10 => 1,
+        _ => 0,
+    }
+}
+
+// The number at which the object of a name stands, or 1.
+fn number_of<V: Versions>(
     rt: &impl Abort,
     alloc: Global,
     core: &Core<V>,
-    draw: Draw,
-) -> Result<Prepared, Fail>
-    ensures { IfOk result IsSized }
-{
-    let name = name_of(alloc, draw.object())?;
-    let weight = if draw.coin() { 1 } else { 2 };
-    value(rt, alloc, name.as_str(), place(core, draw), "text", weight)
-}
-
-fn creates<V: Versions>(
-    rt: &impl Abort,
-    alloc: Global,
-    core: &mut Core<V>,
-    draw: Draw,
-) -> Result<(), Fail> {
-    let new = prepared(rt, alloc, core, draw)?;
-    young(rt, core);
-    let _end = core.commit_create(1, new);
-    Ok(())
-}
-
-fn replaces<V: Versions>(
-    rt: &impl Abort,
-    alloc: Global,
-    core: &mut Core<V>,
-    draw: Draw,
-) -> Result<(), Fail> {
-    let new = prepared(rt, alloc, core, draw)?;
-    let expected = number_of(alloc, core, &new.key)?;
-    young(rt, core);
-    let _end = core.commit_replace(0, expected, new);
-    Ok(())
-}
-
-fn deletes<V: Versions>(
-    rt: &impl Abort,
-    alloc: Global,
-    core: &mut Core<V>,
-    draw: Draw,
-) -> Result<(), Fail> {
-    let name = name_of(alloc, draw.object())?;
-    let key = key_of(rt, alloc, name.as_str())?;
-    let expected = number_of(alloc, core, &key)?;
-    young(rt, core);
-    let _end = core.commit_delete(1, &key, expected, None);
-    Ok(())
-}
-
-fn marks<V: Versions>(
-    rt: &impl Abort,
-    alloc: Global,
-    core: &mut Core<V>,
-    draw: Draw,
-) -> Result<(), Fail> {
-    let name = name_of(alloc, draw.object())?;
-    let key = key_of(rt, alloc, name.as_str())?;
-    let expected = number_of(alloc, core, &key)?;
-    let at = place(core, draw);
-    let _end = marked(rt, alloc, core, &key, at, expected)?;
-    Ok(())
-}
-
-fn releases<V: Versions>(
-    rt: &impl Abort,
-    alloc: Global,
-    core: &mut Core<V>,
-    draw: Draw,
-) -> Result<(), Fail> {
-    let name = name_of(alloc, draw.object())?;
-    let key = key_of(rt, alloc, name.as_str())?;
-    let expected = number_of(alloc, core, &key)?;
-    young(rt, core);
-    let _end = core.commit_release(0, &key, expected);
-    Ok(())
-}
-
-fn starts<V: Versions>(
-    rt: &impl Abort,
-    alloc: Global,
-    core: &mut Core<V>,
-    draw: Draw,
-) -> Result<(), Fail> {
-    let name = name_of(alloc, draw.migration())?;
-    let _end = started(rt, alloc, core, name.as_str())?;
-    Ok(())
-}
-
-// A turn of a worker. Where it marks the migration, every object stands at its target.
-fn works<V: Versions>(
-    rt: &impl Abort,
-    alloc: Global,
-    core: &mut Core<V>,
-    w: &mut Worker,
-    draw: Draw,
-) -> Result<(), Fail> {
-    let at = place(core, draw);
-    let end = go_on(rt, alloc, core, w, at)?;
-    let Worked::Finished(_) = end else {
-        return Ok(());
-    };
-    let (flags, _stored, _revision) = core.settings();
-    let page = all_objects(alloc, core)?;
-    for seen in page.items.as_slice() {
-        assert_eq!(rt; seen.at, flags.storage);
-    }
-    Ok(())
-}
-
-fn writes<V: Versions>(
-    rt: &impl Abort,
-    alloc: Global,
-    core: &mut Core<V>,
-    draw: Draw,
-) -> Result<(), Fail> {
-    match draw.turn() {
-        0..=6 => creates(rt, alloc, core, draw),
-        7..=9 => replaces(rt, alloc, core, draw),
-        10 => deletes(rt, alloc, core, draw),
-        11 => marks(rt, alloc, core, draw),
-        _ => releases(rt, alloc, core, draw),
-    }
-}
-
-fn sets<V: Versions>(
-    rt: &impl Abort,
-    alloc: Global,
-    core: &mut Core<V>,
-    draw: Draw,
-) -> Result<(), Fail> {
-    match draw.turn() {
-        13 => {
-            let _end = store_at(rt, core, if draw.coin() { 0 } else { 1 });
-            Ok(())
-        }
-        14 => {
-            let _end = keep_one(rt, core, if draw.coin() { 0 } else { 1 });
-            Ok(())
-        }
-        _ => starts(rt, alloc, core, draw),
+    name: &str,
+) -> Result<u64, Fail> {
+    let key = key_of(rt, alloc, name)?;
+    match seen(alloc, core, &key)? {
+        Some(seen) => Ok(seen.rv),
+        None => Ok(1),
     }
 }
 
@@ -231,38 +119,64 @@ fn takes_turn<V: Versions>(
     rt: &impl Abort,
     alloc: Global,
     core: &mut Core<V>,
-    first: &mut Worker,
-    second: &mut Worker,
-    draw: Draw,
-) -> Result<(), Fail> {
-    match draw.turn() {
-        0..=12 => writes(rt, alloc, core, draw),
-        13..=16 => sets(rt, alloc, core, draw),
-        17 => {
-            let _was = core.give_back(second);
-            Ok(())
-        }
-        18..=20 => works(rt, alloc, core, second, draw),
-        _ => works(rt, alloc, core, first, draw),
-    }
+    team: &mut Team,
+    draw: &Draw,
+    storage: u8,
+) -> Result<String, Fail> {
+    let name = chosen_name(alloc, draw)?;
+    let number = number_of(rt, alloc, core, name.as_str())?;
+    let order = Order {
+        word: word_of(draw.turn),
+        name: name.as_str(),
+        text: "text",
+        at: place(draw, storage),
+        number,
+        asked: asked(draw.turn),
+        weight: if draw.coin { 1 } else { 2 },
+    };
+    answered(rt, alloc, core, team, &order)
 }
 
-fn all_objects<V: Versions>(alloc: Global, core: &Core<V>) -> Result<Page, Fail> {
+// ---- what holds after each turn
+
+// All of a core that is seen from outside.
+#[derive(Drop)]
+struct Look {
+    storage: u8,
+    stored: StoredList,
+    revision: u64,
+    claims: u64,
+    page: Page,
+    migrations: MigrationItems,
+}
+
+fn looked<V: Versions>(alloc: Global, core: &Core<V>) -> Result<Look, Fail> {
+    let (flags, stored, revision) = core.settings();
     let Ok(page) = core.page(alloc, 0, None, None, 0) else {
         return Err("all are shown".into());
     };
-    Ok(page)
+    Ok(Look {
+        storage: flags.storage,
+        stored,
+        revision,
+        claims: core.last_claim(),
+        page,
+        migrations: core.migrations(alloc)?,
+    })
+}
+
+// Whether a version is in a stored list.
+fn is_stored(stored: &StoredList, v: u8) -> bool {
+    let len = stored.len as usize;
+    len <= 8 && stored.items[..len].contains(&v)
 }
 
 // An object stands at a version of the stored list. It was written at its creation or later, and no later than now.
-fn object_fits(seen: &Seen, stored: &StoredList, revision: u64) -> bool {
-    if !is_stored(stored, seen.at) {
-        return false;
-    }
-    if seen.rv > revision {
-        return false;
-    }
-    1 < seen.born && seen.born <= seen.rv
+fn object_fits(seen: &Seen, now: &Look) -> bool {
+    is_stored(&now.stored, seen.at)
+        && seen.rv <= now.revision
+        && 1 < seen.born
+        && seen.born <= seen.rv
 }
 
 // Keys rise.
@@ -280,19 +194,16 @@ fn objects_of(items: &[Seen], rv: u64) -> usize {
     items.iter().filter(|seen| seen.rv == rv).count()
 }
 
-fn objects_fit<V: Versions>(rt: &impl Abort, alloc: Global, core: &Core<V>) -> Result<(), Fail> {
-    let (_flags, stored, revision) = core.settings();
-    let page = all_objects(alloc, core)?;
-    assert_eq!(rt; page.rv, revision);
-    assert_eq!(rt; page.remaining, 0);
-    let items = page.items.as_slice();
+fn objects_fit(rt: &impl Abort, now: &Look) {
+    assert_eq!(rt; now.page.rv, now.revision);
+    assert_eq!(rt; now.page.remaining, 0);
+    let items = now.page.items.as_slice();
     assert!(rt; items.len() <= 12);
     assert!(rt; keys_rise(items));
     for seen in items {
-        assert!(rt; object_fits(seen, &stored, revision));
+        assert!(rt; object_fits(seen, now));
         assert_eq!(rt; objects_of(items, seen.rv), 1);
     }
-    Ok(())
 }
 
 fn stand_so(items: &MigrationItems, condition: Condition) -> usize {
@@ -304,73 +215,74 @@ fn stand_so(items: &MigrationItems, condition: Condition) -> usize {
 }
 
 // At most one migration runs, to the storage version.
-fn migrations_fit<V: Versions>(rt: &impl Abort, alloc: Global, core: &Core<V>) -> Result<(), Fail> {
-    let (flags, _stored, _revision) = core.settings();
-    let items = core.migrations(alloc)?;
-    assert!(rt; stand_so(&items, Condition::Running) <= 1);
-    for item in items.as_slice() {
+fn migrations_fit(rt: &impl Abort, now: &Look) {
+    assert!(rt; stand_so(&now.migrations, Condition::Running) <= 1);
+    for item in now.migrations.as_slice() {
         if item.condition() == Condition::Running {
-            assert_eq!(rt; item.target(), flags.storage);
+            assert_eq!(rt; item.target(), now.storage);
         }
     }
-    Ok(())
 }
 
-// The revision and the last claim, which rise by at most one in a turn.
-fn numbers_fit<V: Versions>(rt: &impl Abort, core: &Core<V>, revision: u64, claims: u64) {
-    let (flags, stored, now) = core.settings();
-    assert!(rt; is_stored(&stored, flags.storage));
-    assert!(rt; now >= revision);
-    assert!(rt; now - revision <= 1);
-    let last = core.last_claim();
-    assert!(rt; last >= claims);
-    assert!(rt; last - claims <= 1);
+// The storage version is in the stored list. The revision and the last claim rise by at most one in a turn.
+fn numbers_fit(rt: &impl Abort, was: &Look, now: &Look) {
+    assert!(rt; is_stored(&now.stored, now.storage));
+    assert!(rt; now.revision >= was.revision);
+    assert!(rt; now.revision - was.revision <= 1);
+    assert!(rt; now.claims >= was.claims);
+    assert!(rt; now.claims - was.claims <= 1);
+}
+
+// Where a turn marks a migration, every object stands at its target.
+fn objects_moved(rt: &impl Abort, now: &Look) {
+    for seen in now.page.items.as_slice() {
+        assert_eq!(rt; seen.at, now.storage);
+    }
 }
 
 fn step<V: Versions>(
     rt: &impl Abort,
     alloc: Global,
     core: &mut Core<V>,
-    first: &mut Worker,
-    second: &mut Worker,
-    draw: Draw,
-) -> Result<(), Fail> {
-    let (_flags, _stored, revision) = core.settings();
-    let claims = core.last_claim();
-    takes_turn(rt, alloc, core, first, second, draw)?;
-    numbers_fit(rt, core, revision, claims);
-    objects_fit(rt, alloc, core)?;
-    migrations_fit(rt, alloc, core)
+    team: &mut Team,
+    was: &Look,
+    n: u64,
+) -> Result<Look, Fail> {
+    let answer = takes_turn(rt, alloc, core, team, &drawn(n), was.storage)?;
+    let now = looked(alloc, core)?;
+    numbers_fit(rt, was, &now);
+    objects_fit(rt, &now);
+    migrations_fit(rt, &now);
+    if answer.as_str().starts_with("Finished") {
+        objects_moved(rt, &now);
+    }
+    Ok(now)
 }
 
 fn two_thousand<V: Versions>(
     rt: &impl Abort,
     alloc: Global,
     core: &mut Core<V>,
-) -> Result<(), Fail> {
-    let mut first = Worker { claim: None };
-    let mut second = Worker { claim: None };
-    let mut draw = Draw { n: 20_261_127 };
+) -> Result<Look, Fail> {
+    let mut team = Team::new();
+    let mut now = looked(alloc, core)?;
+    let mut n = 20_261_127u64;
     for _ in 0..2_000u32 {
-        draw = draw.next();
-        step(rt, alloc, core, &mut first, &mut second, draw)?;
+        n = n
+            .wrapping_mul(6_364_136_223_846_793_005)
+            .wrapping_add(1_442_695_040_888_963_407);
+        now = step(rt, alloc, core, &mut team, &now, n)?;
     }
-    Ok(())
+    Ok(now)
 }
 
 // The turns weren't all refused, and migrations ended in both ways.
-fn was_busy<V: Versions>(rt: &impl Abort, alloc: Global, core: &Core<V>) -> Result<(), Fail> {
-    let (_flags, _stored, revision) = core.settings();
-    assert!(rt; revision > 500);
-    let items = core.migrations(alloc)?;
-    assert!(rt; stand_so(&items, Condition::Succeeded) > 5);
-    assert!(rt; stand_so(&items, Condition::Failed) > 5);
-    Ok(())
-}
-
 #[test]
 fn random_turns(rt: HostRuntime) -> Result<(), Fail> {
     let mut core = opened(&rt, rt.alloc(), TwoNames::new(rt.alloc())?, TIGHT)?;
-    two_thousand(&rt, rt.alloc(), &mut core)?;
-    was_busy(&rt, rt.alloc(), &core)
+    let end = two_thousand(&rt, rt.alloc(), &mut core)?;
+    assert!(&rt; end.revision > 500);
+    assert!(&rt; stand_so(&end.migrations, Condition::Succeeded) > 5);
+    assert!(&rt; stand_so(&end.migrations, Condition::Failed) > 5);
+    Ok(())
 }
