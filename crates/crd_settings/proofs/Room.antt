@@ -19,6 +19,7 @@ use Rattle.crd_settings.specs.Pieces.{AreItsPieces, comma_before, behind_stored,
 use Rattle.crd_settings.specs.declared.parts.Mark.{Mark}
 use Rattle.crd_settings.specs.declared.cut.Part.{Part}
 use Rattle.crd_settings.specs.declared.cut.Part.TheVariants.{Text, Served, Storage}
+use Rattle.crd_settings.specs.declared.pieces.Pieces.{Pieces}
 
 -- ---- flags
 
@@ -177,24 +178,25 @@ longest-text d ps ns text is =
     sym (ap length (text unmarked (map (λ (x : VersionView). x.name) d.versions))
     ∙ ap (λ (ts : List (List ℕ)). length (joined unmarked ps ts)) (map-quoted d.versions ∙ sym is))
 
-known-length : (d : DefinitionView) (ps : List Part) (ns : List (List ℕ)) (n : ℕ) → AreItsPieces d ps ns n → length ns ≡ length d.versions
-known-length d ps ns n a = ap length a.names ∙ length-quoted d.versions
+known-length : (d : DefinitionView) (p : Pieces) → AreItsPieces d p → length (map bytes_of p.names.items) ≡ length d.versions
+known-length d p a = ap length a.names ∙ length-quoted d.versions
 
-pub shown-joined : (d : DefinitionView) (ps : List Part) (ns : List (List ℕ)) (n : ℕ) → AreItsPieces d ps ns n → (f : Flags) (stored : List ℕ)
-    → AreVersions (length d.versions) stored → shown d f stored ≡ joined (mark_of f) ps (map (name_at ns) stored)
-shown-joined d ps ns n a f stored known =
+-- definitions of the same pieces have as many versions
+pub same-count : (d e : DefinitionView) (p : Pieces) → AreItsPieces d p → AreItsPieces e p → (s : StoredList)
+    → IsStoredList (length d.versions) s → IsStoredList (length e.versions) s
+same-count d e p a b s known = subst (λ (k : ℕ). IsStoredList k s) (sym (known-length d p a) ∙ known-length e p b) known
+
+shown-joined : (d : DefinitionView) (p : Pieces) → AreItsPieces d p → (f : Flags) (stored : List ℕ)
+    → AreVersions (length d.versions) stored → shown d f stored ≡ joined (mark_of f) p.parts.items (map (name_at (map bytes_of p.names.items)) stored)
+shown-joined d p a f stored known =
     a.text (mark_of f) (map (λ v. (version_in d.versions v).name) stored)
-    ∙ ap (joined (mark_of f) ps) (stored-quoted d.versions stored known.known ∙ ap (λ (ts : List (List ℕ)). map (name_at ts) stored) (sym a.names))
+    ∙ ap (joined (mark_of f) p.parts.items) (stored-quoted d.versions stored known.known ∙ ap (λ (ts : List (List ℕ)). map (name_at ts) stored) (sym a.names))
 
-pub known-names : (d : DefinitionView) (ps : List Part) (ns : List (List ℕ)) (n : ℕ) → AreItsPieces d ps ns n → (s : StoredList)
-    → IsStoredList (length d.versions) s → IsStoredList (length ns) s
-known-names d ps ns n a s known = subst (λ (k : ℕ). IsStoredList k s) (sym (known-length d ps ns n a)) known
-
-pub shown-fits : (d : DefinitionView) (ps : List Part) (ns : List (List ℕ)) (n : ℕ) → AreItsPieces d ps ns n → (f : Flags) (stored : List ℕ)
-    → AreVersions (length d.versions) stored → length (joined (mark_of f) ps (map (name_at ns) stored)) ≤ show_room d
-shown-fits d ps ns n a f stored known =
-    let its = subst (λ (k : ℕ). AreVersions k stored) (sym (known-length d ps ns n a)) known in
-    omega (arith, joined-length (mark_of f) ps ns stored its, longest-text d ps ns a.text a.names)
+shown-fits : (d : DefinitionView) (p : Pieces) → AreItsPieces d p → (f : Flags) (stored : List ℕ)
+    → AreVersions (length d.versions) stored → length (joined (mark_of f) p.parts.items (map (name_at (map bytes_of p.names.items)) stored)) ≤ show_room d
+shown-fits d p a f stored known =
+    let its = subst (λ (k : ℕ). AreVersions k stored) (sym (known-length d p a)) known in
+    omega (arith, joined-length (mark_of f) p.parts.items (map bytes_of p.names.items) stored its, longest-text d p.parts.items (map bytes_of p.names.items) a.text a.names)
 
 -- ---- the loop over stored versions
 
@@ -228,44 +230,44 @@ named-step names s i x t h long known e is =
 
 -- ---- three pieces behind each other
 
-pub known-list : (d : DefinitionView) (ps : List Part) (names xs : List Txt) (n : ℕ) → AreItsPieces d ps (map bytes_of names) n → xs ≡ names → (s : StoredList)
+pub known-list : (d : DefinitionView) (p : Pieces) (xs : List Txt) → AreItsPieces d p → xs ≡ p.names.items → (s : StoredList)
     → IsStoredList (length d.versions) s → IsStoredList (length xs) s
-known-list d ps names xs n a same s known =
-    let count : length (map bytes_of names) ≡ length xs = length-map names bytes_of ∙ ap length (sym same) in
-    subst (λ (k : ℕ). IsStoredList k s) count (known-names d ps (map bytes_of names) n a s known)
+known-list d p xs a alike s known =
+    let count : length d.versions ≡ length xs = sym (known-length d p a) ∙ (length-map p.names.items bytes_of ∙ ap length (sym alike)) in
+    subst (λ (k : ℕ). IsStoredList k s) count known
 
-pub show-fits : (d : DefinitionView) (ps qs : List Part) (names xs : List Txt) (n : ℕ) → AreItsPieces d ps (map bytes_of names) n → qs ≡ ps → xs ≡ names
+pub show-fits : (d : DefinitionView) (p : Pieces) (qs : List Part) (xs : List Txt) → AreItsPieces d p → qs ≡ p.parts.items → xs ≡ p.names.items
     → (f : Flags) (s : StoredList) → IsStoredList (length d.versions) s
     → length (parts_text (mark_of f) qs) + (length (names_from 0 (map (name_at (map bytes_of xs)) (versions_of s))) + length behind_stored) ≤ show_room d
-show-fits d ps qs names xs n a same alike f s known =
-    let fits = shown-fits d ps (map bytes_of names) n a f (versions_of s) known.versions in
+show-fits d p qs xs a same alike f s known =
+    let fits = shown-fits d p a f (versions_of s) known.versions in
     let first = ap (λ (rs : List Part). length (parts_text (mark_of f) rs)) same in
     let second = ap (λ (ys : List Txt). length (names_from 0 (map (name_at (map bytes_of ys)) (versions_of s)))) alike in
-    let whole = length-append (parts_text (mark_of f) ps) (names_from 0 (map (name_at (map bytes_of names)) (versions_of s)) ++ behind_stored) in
-    let end = length-append (names_from 0 (map (name_at (map bytes_of names)) (versions_of s))) behind_stored in
+    let whole = length-append (parts_text (mark_of f) p.parts.items) (names_from 0 (map (name_at (map bytes_of p.names.items)) (versions_of s)) ++ behind_stored) in
+    let end = length-append (names_from 0 (map (name_at (map bytes_of p.names.items)) (versions_of s))) behind_stored in
     omega (arith, fits, first, second, whole, end)
 
-pub show-text : (d : DefinitionView) (ps qs : List Part) (names xs : List Txt) (n : ℕ) → AreItsPieces d ps (map bytes_of names) n → qs ≡ ps → xs ≡ names
+pub show-text : (d : DefinitionView) (p : Pieces) (qs : List Part) (xs : List Txt) → AreItsPieces d p → qs ≡ p.parts.items → xs ≡ p.names.items
     → (f : Flags) (s : StoredList) → IsStoredList (length d.versions) s → (o b1 b2 b3 e : List ℕ) → b1 ≡ o ++ parts_text (mark_of f) qs
     → b2 ≡ b1 ++ names_from 0 (map (name_at (map bytes_of xs)) (versions_of s)) → b3 ≡ b2 ++ e → e ≡ behind_stored → b3 ≡ o ++ shown d f (versions_of s)
-show-text d ps qs names xs n a same alike f s known o b1 b2 b3 e e1 e2 e3 is =
+show-text d p qs xs a same alike f s known o b1 b2 b3 e e1 e2 e3 is =
     together o b1 b2 b3 (parts_text (mark_of f) qs) (names_from 0 (map (name_at (map bytes_of xs)) (versions_of s))) e e1 e2 e3
     ∙ ap (λ (t : List ℕ). o ++ t)
     ((λ i. parts_text (mark_of f) (same i) ++ (names_from 0 (map (name_at (map bytes_of (alike i))) (versions_of s)) ++ is i))
-    ∙ sym (shown-joined d ps (map bytes_of names) n a f (versions_of s) known.versions))
+    ∙ sym (shown-joined d p a f (versions_of s) known.versions))
   where
     together : (o b1 b2 b3 p1 p2 p3 : List ℕ) → b1 ≡ o ++ p1 → b2 ≡ b1 ++ p2 → b3 ≡ b2 ++ p3 → b3 ≡ o ++ (p1 ++ (p2 ++ p3))
     together o b1 b2 b3 p1 p2 p3 e1 e2 e3 = rw (e3, e2, e1) (simp append_assoc)
 
-pub show-left : (d : DefinitionView) (ps qs : List Part) (names xs : List Txt) (n : ℕ) → AreItsPieces d ps (map bytes_of names) n → qs ≡ ps → xs ≡ names
+pub show-left : (d : DefinitionView) (p : Pieces) (qs : List Part) (xs : List Txt) → AreItsPieces d p → qs ≡ p.parts.items → xs ≡ p.names.items
     → (f : Flags) (s : StoredList) → IsStoredList (length d.versions) s → (r0 r1 r2 r3 : ℕ) (e : List ℕ) → r1 + length (parts_text (mark_of f) qs) ≡ r0
     → r2 + length (names_from 0 (map (name_at (map bytes_of xs)) (versions_of s))) ≡ r1 → r3 + length e ≡ r2 → e ≡ behind_stored
     → r3 + length (shown d f (versions_of s)) ≡ r0
-show-left d ps qs names xs n a same alike f s known r0 r1 r2 r3 e e1 e2 e3 is =
-    let text = ap length (shown-joined d ps (map bytes_of names) n a f (versions_of s) known.versions) in
+show-left d p qs xs a same alike f s known r0 r1 r2 r3 e e1 e2 e3 is =
+    let text = ap length (shown-joined d p a f (versions_of s) known.versions) in
     let first = ap (λ (rs : List Part). length (parts_text (mark_of f) rs)) same in
     let second = ap (λ (ys : List Txt). length (names_from 0 (map (name_at (map bytes_of ys)) (versions_of s)))) alike in
     let third = ap length is in
-    let whole = length-append (parts_text (mark_of f) ps) (names_from 0 (map (name_at (map bytes_of names)) (versions_of s)) ++ behind_stored) in
-    let end = length-append (names_from 0 (map (name_at (map bytes_of names)) (versions_of s))) behind_stored in
+    let whole = length-append (parts_text (mark_of f) p.parts.items) (names_from 0 (map (name_at (map bytes_of p.names.items)) (versions_of s)) ++ behind_stored) in
+    let end = length-append (names_from 0 (map (name_at (map bytes_of p.names.items)) (versions_of s))) behind_stored in
     omega (arith, text, first, second, third, whole, end)

@@ -1,14 +1,20 @@
--- For private clauses: the text of a definition's document in pieces, between which the flags and the stored versions stand.
-use Rattle.std.specs.Prelude.{◌≡◌, ℕ, zero, suc, Bool, List, [], ◌∷◌, ◌++◌, map, slice_index_or, string_bytes, codes}
+-- The text of a definition's document in pieces, between which the flags and the stored versions stand. Public clauses cite
+-- `AreItsPieces` and `CanShow`; the rest is for private ones.
+use Rattle.std.specs.Prelude.{◌≡◌, ◌≤◌, ℕ, zero, suc, Bool, List, [], ◌∷◌, ◌++◌, length, map, slice_index_or, string_bytes, codes}
+use Rattle.std.specs.Coded.{Π_prop, Coded-set, coded_list, coded_ℕ}
 use Rattle.kj_value.specs.Json.{boolean, Items, no_items, item, Members, no_members, member}
 use Rattle.kj_value.specs.Characters.{colon}
 use Rattle.kj_value.specs.Text.{quoted, text_of}
-use Rattle.crd_reading.specs.View.{DefinitionView}
+use Rattle.kj_value.specs.Texts.{bytes_of}
+use Rattle.api_calls.specs.Versions.{IsStoredList}
+use Rattle.api_calls.specs.declared.flags.StoredList.{StoredList}
+use Rattle.crd_reading.specs.View.{VersionView, DefinitionView}
 use Rattle.crd_settings.specs.Shown.{document_with, show_room}
 use Rattle.crd_settings.specs.declared.parts.Mark.{Mark}
 use Rattle.crd_settings.specs.declared.cut.Part.{Part}
 use Rattle.crd_settings.specs.declared.cut.Part.TheVariants.{Text, Served, Storage}
 use Rattle.crd_settings.specs.declared.cut.Cut.{Cut}
+use Rattle.crd_settings.specs.declared.pieces.Pieces.{Pieces}
 
 -- ---- texts that are always the same
 
@@ -73,12 +79,29 @@ pub record GoesOn (before after : Cut) (more : (ℕ → Mark) → List ℕ) : Ty
 abbrev pub joined : (ℕ → Mark) → List Part → List (List ℕ) → List ℕ
 joined m parts stored = parts_text m parts ++ (names_from 0 stored ++ behind_stored)
 
--- the pieces are of the definition's text, and the names, in quotes, of its versions
-pub record AreItsPieces (d : DefinitionView) (parts : List Part) (given : List (List ℕ)) (most : ℕ) : Type 0 where
-  pub text : (m : ℕ → Mark) (stored : List (List ℕ)) → text_of (document_with d m stored) ≡ joined m parts (map quoted stored)
-  pub names : given ≡ map (λ v. quoted v.name) d.versions
-  pub room : most ≡ show_room d
-
 -- the text at a place
 abbrev pub name_at : List (List ℕ) → ℕ → List ℕ
 name_at names v = slice_index_or names v []
+
+-- ---- the pieces of a definition
+
+-- the pieces are of the definition's text, and the names, in quotes, of its versions
+pub record AreItsPieces (d : DefinitionView) (p : Pieces) : Type 0 where
+  pub text : (m : ℕ → Mark) (stored : List (List ℕ)) → text_of (document_with d m stored) ≡ joined m p.parts.items (map quoted stored)
+  pub names : map bytes_of p.names.items ≡ map (λ v. quoted v.name) d.versions
+  pub room : p.room ≡ show_room d
+
+-- they are so in one way at most
+pub AreItsPieces-prop : (d : DefinitionView) (p : Pieces) → IsProp (AreItsPieces d p)
+AreItsPieces-prop d p a b = λ i. record {
+  text = Π_prop (λ m. Π_prop (λ stored. Coded-set (coded_list coded_ℕ) (text_of (document_with d m stored)) (joined m p.parts.items (map quoted stored)))) a.text b.text i;
+  names = Coded-set (coded_list (coded_list coded_ℕ)) (map bytes_of p.names.items) (map (λ (v : VersionView). quoted v.name) d.versions) a.names b.names i;
+  room = Coded-set coded_ℕ p.room (show_room d) a.room b.room i;
+}
+
+-- the pieces are some definition's, the stored versions are of its versions, and there is room for its longest text
+pub record CanShow (p : Pieces) (stored : StoredList) (room : ℕ) : Type 0 where
+  pub definition : DefinitionView
+  pub pieces : AreItsPieces definition p
+  pub known : IsStoredList (length definition.versions) stored
+  pub fits : show_room definition ≤ room

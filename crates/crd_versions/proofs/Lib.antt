@@ -4,4 +4,4 @@ pub mod Refusing
 pub mod Results
 pub mod Found
 pub mod Loaded
-pub mod Rereading
+pub mod SpecDepth

@@ -9,7 +9,6 @@
 #![tactic(auto)]
 
 mod admission;
-mod again;
 mod loading;
 mod names;
 mod set;

@@ -6,10 +6,10 @@ ghost use Rattle.crd_loading.specs.Told.{Refuses};
 ghost use Rattle.versions_loading.specs.Set.{set_of};
 ghost use Rattle.crd_versions.specs.Set.{definition_of};
 
-use crate::again::definition_again;
 use crate::set::VersionSet;
 use crd_loading::LoadFault;
-use crd_settings::Shown;
+use crd_settings::Pieces;
+use kj_value::reading_depth;
 use std::alloc::Global;
 use versions_loading::load_versions;
 
@@ -17,14 +17,13 @@ use versions_loading::load_versions;
 /// of the second, or the first thing that is refused: the file, a path with names joined by points and items in brackets, and a
 /// word. Both texts are JSON, read at 100 levels, and the whole definition is tried before the rules are read. `NoMemory` may
 /// come for any texts.
-///
-/// The definition is read twice, since its text is kept apart from what objects are judged by.
 pub fn load(alloc: Global, crd: &[u8], rules: &[u8]) -> Result<VersionSet, LoadFault>
     ensures loaded { IfOk result
         (λ s. (l : LoadedView) × Loads crd.now rules.now l × (definition_of s ≡ set_of l)) }
     ensures refused { IfErr result (Refuses crd.now rules.now) }
 {
     let set = load_versions(alloc, crd, rules)?;
-    let shown = Shown::new(alloc, definition_again(alloc, crd)?)?;
-    Ok(VersionSet::new(set, shown))
+    reading_depth();
+    let pieces = Pieces::of(alloc, set.definition())?;
+    Ok(VersionSet::new(set, pieces))
 }

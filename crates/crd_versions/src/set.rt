@@ -4,11 +4,12 @@ ghost use Rattle.spoke_laws.specs.Given.{OneList};
 ghost use Rattle.crd_reading.specs.Accepted.{AreOffered};
 ghost use Rattle.crd_meaning.specs.Definition.{IsLoaded};
 ghost use Rattle.crd_laws.specs.OneText.{OneList-prop};
+ghost use Rattle.crd_settings.specs.Pieces.{AreItsPieces, AreItsPieces-prop};
 
 use crate::admission::admitted;
 use crate::names::{count, find, name};
 use api_calls::{AdmitFault, Admitted, ConvFault, Flags, Incoming, NoTool, StoredList, Versions};
-use crd_settings::{Shown, opening, read_flags, read_keep};
+use crd_settings::{Pieces, opening, read_flags, read_keep};
 use kept_entries::one_list;
 use kj_value::Txt;
 use kube_meta::Object;
@@ -16,26 +17,26 @@ use loaded_versions::LoadedVersions;
 use object_forms::{form, hub_of};
 use std::alloc::Global;
 
-/// A definition of several versions as it was loaded, with its text at hand. It asks nothing of the outside, so its tool
+/// A definition of several versions as it was loaded, with the pieces of its document. It asks nothing of the outside, so its tool
 /// has no faults.
 #[derive(Drop)]
 pub struct VersionSet {
     set: LoadedVersions,
-    shown: Shown,
+    pieces: Pieces,
     ghost one_list: { OneList } by { OneList-prop },
     ghost loaded: { ∥ IsLoaded set ∥₁ },
     ghost offered: { AreOffered set.view.versions },
-    ghost shows: { shown ≡ set.view },
+    ghost its_pieces: { AreItsPieces set.view pieces } by { AreItsPieces-prop set.view pieces },
 }
 
 impl VersionSet {
-    pub(crate) fn new(set: LoadedVersions, shown: Shown) -> VersionSet
-        requires { shown ≡ set.view }
+    pub(crate) fn new(set: LoadedVersions, pieces: Pieces) -> VersionSet
+        requires { AreItsPieces set.view pieces }
         ensures { result.set ≡ set }
     {
         one_list();
         let _ = set.definition().versions();
-        VersionSet { set, shown }
+        VersionSet { set, pieces }
     }
 }
 
@@ -138,10 +139,10 @@ impl Versions for VersionSet {
     }
 
     fn show_room(&self) -> u64 {
-        self.shown.room()
+        self.pieces.room()
     }
 
     fn show(&self, flags: &Flags, stored: &StoredList, out: &mut Txt) {
-        self.shown.show(flags, stored, out)
+        self.pieces.show(flags, stored, out)
     }
 }

@@ -3,7 +3,7 @@ use Rattle.kj_value.specs.Text.{quoted}
 use Rattle.kj_value.specs.Texts.{bytes_of}
 use Rattle.crd_reading.specs.Seen.{version_of}
 use Rattle.crd_reading.specs.View.{VersionView}
-use Rattle.crd_settings.proofs.shown.names.Given as goal
+use Rattle.crd_settings.proofs.pieces.names.Given as goal
 
 abbrev pub invariant-loop-i : goal.invariant-loop-i
 invariant-loop-i l =

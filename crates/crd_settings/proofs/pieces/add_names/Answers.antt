@@ -3,7 +3,7 @@ use Rattle.kj_value.specs.Texts.{bytes_of}
 use Rattle.api_calls.specs.Versions.{versions_of}
 use Rattle.crd_settings.specs.Pieces.{comma_before, name_at, names_from}
 use Rattle.crd_settings.proofs.Room.{named-step}
-use Rattle.crd_settings.proofs.shown.add_names.Goals as goal
+use Rattle.crd_settings.proofs.pieces.add_names.Goals as goal
 
 pub add_name-requires : goal.add_name-requires
 add_name-requires c =

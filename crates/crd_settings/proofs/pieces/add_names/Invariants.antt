@@ -2,7 +2,7 @@ use Rattle.std.proofs.Common.{◌≡◌, ◌+◌, ◌++◌, drop, length, map}
 use Rattle.kj_value.specs.Texts.{bytes_of}
 use Rattle.api_calls.specs.Versions.{versions_of}
 use Rattle.crd_settings.specs.Pieces.{name_at, names_from}
-use Rattle.crd_settings.proofs.shown.add_names.Given as goal
+use Rattle.crd_settings.proofs.pieces.add_names.Given as goal
 
 abbrev pub invariant-loop-i : goal.invariant-loop-i
 invariant-loop-i l = record {

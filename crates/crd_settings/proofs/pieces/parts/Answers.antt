@@ -7,7 +7,7 @@ use Rattle.crd_settings.specs.Flags.{spec_with}
 use Rattle.crd_settings.specs.Pieces.{before_name, before_spec, before_stored, behind_stored, names_from, parts_text}
 use Rattle.crd_settings.specs.declared.cut.Part.{Part}
 use Rattle.crd_settings.proofs.Texts.{document-text, gathered}
-use Rattle.crd_settings.proofs.shown.pieces.Goals as goal
+use Rattle.crd_settings.proofs.pieces.parts.Goals as goal
 
 pub returns : goal.returns
 returns c = λ m stored.

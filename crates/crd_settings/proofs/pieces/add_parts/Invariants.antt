@@ -1,7 +1,7 @@
 use Rattle.std.proofs.Common.{◌≡◌, ◌+◌, ◌++◌, drop, length}
 use Rattle.crd_settings.specs.Flags.{mark_of}
 use Rattle.crd_settings.specs.Pieces.{parts_text}
-use Rattle.crd_settings.proofs.shown.add_parts.Given as goal
+use Rattle.crd_settings.proofs.pieces.add_parts.Given as goal
 
 abbrev pub invariant-loop-part : goal.invariant-loop-part
 invariant-loop-part l = record {

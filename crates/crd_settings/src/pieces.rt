@@ -1,14 +1,15 @@
-//! A definition with its text at hand.
+//! The pieces of a definition's document.
 ghost use Rattle.std.specs.Prelude.{◌≡◌, ◌+◌, ◌<◌, ◌≤◌, ◌++◌, [], ℕ, List, IfOk, length, map, slice_index_or};
 ghost use Rattle.kj_value.specs.Json.{depth};
 ghost use Rattle.kj_value.specs.Text.{quoted, text_of};
 ghost use Rattle.kj_value.specs.Texts.{bytes_of};
 ghost use Rattle.api_calls.specs.Versions.{IsStoredList, versions_of};
 ghost use Rattle.crd_reading.specs.Seen.{version_of};
+ghost use Rattle.crd_reading.specs.View.{DefinitionView};
 ghost use Rattle.crd_settings.specs.Flags.{mark_of};
 ghost use Rattle.crd_settings.specs.Shown.{document_with, show_room, shown, unmarked};
 ghost use Rattle.crd_settings.specs.declared.parts.Mark.{Mark};
-ghost use Rattle.crd_settings.specs.Pieces.{before_name, before_spec, before_stored, behind_stored, comma_before, joined, name_at, names_from, part_text, parts_text, truth_text};
+ghost use Rattle.crd_settings.specs.Pieces.{AreItsPieces, CanShow, before_name, before_spec, before_stored, behind_stored, comma_before, joined, name_at, names_from, part_text, parts_text, truth_text};
 
 use crate::body::full_name;
 use crate::cut::{Cut, Part, comma_before, into_parts, quoted, with_spec, with_text};
@@ -16,32 +17,14 @@ use api_calls::{Flags, StoredList};
 use crd_reading::{Definition, Version};
 use kj_value::{MAX_LEVELS, NoMemory, Txt};
 use std::alloc::Global;
-use std::marker::Model;
 
-/// A definition, and the text of its document cut where the flags and the stored versions stand, so that it is shown with no
-/// memory taken and each byte copied once. Contracts see it as the definition.
+/// The text of a definition's document, cut where the flags and the stored versions stand, so that the definition is shown with
+/// no memory taken and each byte copied once. It doesn't hold the definition.
 #[derive(Drop)]
-pub struct Shown {
-    definition: Definition,
+pub struct Pieces {
     parts: Vec<Part>,
     names: Vec<Txt>,
     room: u64,
-}
-
-impl Model for Shown {
-    ghost use Rattle.std.specs.Prelude.{map};
-    ghost use Rattle.kj_value.specs.Texts.{bytes_of};
-    ghost use Rattle.crd_reading.specs.View.{DefinitionView};
-    ghost use Rattle.crd_reading.specs.ViewCode.{definition_code};
-    ghost use Rattle.crd_settings.specs.Pieces.{AreItsPieces};
-
-    ghost Value = { DefinitionView };
-
-    ghost coded = { definition_code };
-
-    ghost view = { λ s. s.definition };
-
-    ghost invariant = { λ s. AreItsPieces s.definition s.parts.items (map bytes_of s.names.items) s.room };
 }
 
 // ---- texts that are always the same
@@ -74,10 +57,10 @@ fn behind_stored() -> &'static str
     "]}}"
 }
 
-// ---- pieces
+// ---- parts
 
-// The pieces of the document up to the stored versions.
-fn pieces(alloc: Global, definition: &Definition) -> Result<Vec<Part>, NoMemory>
+// The parts of the document up to the stored versions.
+fn parts(alloc: Global, definition: &Definition) -> Result<Vec<Part>, NoMemory>
     requires { depth definition.now.spec ≤ MAX_LEVELS }
     ensures { IfOk result (λ parts. (m : ℕ → Mark) (stored : List (List ℕ))
         → text_of (document_with definition.now m stored) ≡ joined m parts.items (map quoted stored)) }
@@ -212,44 +195,33 @@ fn add_names(names: &[Txt], stored: &StoredList, out: &mut Txt)
     }
 }
 
-impl Shown {
-    /// A definition with its text. `spec` is at most 100 levels deep, as where the definition was read at so many.
-    pub fn new(alloc: Global, definition: Definition) -> Result<Shown, NoMemory>
-        requires { depth definition.spec ≤ MAX_LEVELS }
-        ensures { IfOk result (λ s. s ≡ definition) }
+impl Pieces {
+    /// The pieces of a definition's document. `spec` is at most 100 levels deep, as where the definition was read at so many.
+    pub fn of(alloc: Global, definition: &Definition) -> Result<Pieces, NoMemory>
+        requires { depth definition.now.spec ≤ MAX_LEVELS }
+        ensures { IfOk result (AreItsPieces definition.now) }
     {
-        let parts = pieces(alloc, &definition)?;
+        let parts = parts(alloc, definition)?;
         let names = names(alloc, definition.versions())?;
         let longest = longest(alloc, parts.as_slice(), names.as_slice())?;
         let room = longest.len() as u64;
-        Ok(Shown {
-            definition,
-            parts,
-            names,
-            room,
-        })
-    }
-
-    /// The definition.
-    pub fn definition(&self) -> &Definition
-        ensures { result.now ≡ self.now }
-    {
-        &self.definition
+        Ok(Pieces { parts, names, room })
     }
 
     /// The most bytes that `show` appends. It takes no memory.
     pub fn room(&self) -> u64
-        ensures { result ≡ show_room self.now }
+        ensures { (d : DefinitionView) → AreItsPieces d self.now → result ≡ show_room d }
     {
         self.room
     }
 
-    /// Appends the text of the CustomResourceDefinition with these flags and this stored list. It takes no memory.
+    /// Appends the text of the definition's CustomResourceDefinition with these flags and this stored list. It takes no memory.
     pub fn show(&self, flags: &Flags, stored: &StoredList, out: &mut Txt)
-        requires room { show_room self.now ≤ out.old.room }
-        requires stored { IsStoredList (length self.now.versions) stored.now }
-        ensures text { out.new.bytes ≡ out.old.bytes ++ shown self.now flags.now (versions_of stored.now) }
-        ensures room { out.new.room + length (shown self.now flags.now (versions_of stored.now)) ≡ out.old.room }
+        requires { CanShow self.now stored.now out.old.room }
+        ensures text { (d : DefinitionView) → AreItsPieces d self.now
+            → out.new.bytes ≡ out.old.bytes ++ shown d flags.now (versions_of stored.now) }
+        ensures room { (d : DefinitionView) → AreItsPieces d self.now
+            → out.new.room + length (shown d flags.now (versions_of stored.now)) ≡ out.old.room }
     {
         add_parts(self.parts.as_slice(), flags, out);
         add_names(self.names.as_slice(), stored, out);
