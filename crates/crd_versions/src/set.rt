@@ -1,8 +1,14 @@
 //! The versions of a loaded definition.
-ghost use Rattle.std.specs.Prelude.{◌≡◌};
+ghost use Rattle.std.specs.Prelude.{◌≡◌, ◌≤◌, ◌<◌, IfOk, IfErr};
+ghost use Rattle.kj_value.specs.Json.{depth};
+ghost use Rattle.kj_value.specs.Seen.{json};
+ghost use Rattle.api_calls.specs.Versions.{Refused};
+ghost use Rattle.api_calls.specs.declared.versions.TheConstants.{OBJECT_LEVELS};
 ghost use Rattle.spoke_laws.specs.Given.{OneList};
 ghost use Rattle.crd_reading.specs.Accepted.{AreOffered};
-ghost use Rattle.crd_meaning.specs.Definition.{IsLoaded};
+ghost use Rattle.crd_meaning.specs.Definition.{IsLoaded, count_of};
+ghost use Rattle.crd_converting.specs.Converted.{IsConverted};
+ghost use Rattle.crd_converting.specs.Refusal.{IsUnconverted};
 ghost use Rattle.crd_laws.specs.OneText.{OneList-prop};
 ghost use Rattle.crd_settings.specs.Pieces.{AreItsPieces, AreItsPieces-prop};
 
@@ -11,9 +17,10 @@ use crate::names::{count, find, name};
 use api_calls::{AdmitFault, Admitted, ConvFault, Flags, Incoming, NoTool, StoredList, Versions};
 use crd_settings::{Pieces, opening, read_flags, read_keep};
 use kept_entries::one_list;
-use kj_value::Txt;
+use kj_value::{JVal, Txt};
 use kube_meta::Object;
 use loaded_versions::LoadedVersions;
+use object_converting::convert;
 use object_forms::{form, hub_of};
 use std::alloc::Global;
 
@@ -37,6 +44,22 @@ impl VersionSet {
         one_list();
         let _ = set.definition().versions();
         VersionSet { set, pieces }
+    }
+
+    /// The document at a version, counted from 0, that is one with a document of any version, with the metadata of that
+    /// document but for `annotations`. It is at most 64 levels deep.
+    ///
+    /// `BadRequest` comes where the document is no object; `Invalid` where it is of no version of the definition or of another
+    /// kind, where its metadata, whose name and namespace aren't looked at, break a rule, where its filled body does, and where
+    /// an annotation that is read spells no entries. Of several faults the answer is the first in this order. `Tool` never comes.
+    pub fn convert(&self, alloc: Global, doc: JVal, to: u8) -> Result<JVal, AdmitFault>
+        requires levels { depth (json doc) ≤ OBJECT_LEVELS }
+        requires known { to < count_of self.now.set }
+        ensures converted { IfOk result (λ k. IsConverted self.now.set (json doc) to (json k)) }
+        ensures levels { IfOk result (λ k. depth (json k) ≤ OBJECT_LEVELS) }
+        ensures refused { IfErr result (Refused (IsUnconverted self.now.set (json doc)) ⊥) }
+    {
+        convert(alloc, &self.set, doc, to)
     }
 }
 

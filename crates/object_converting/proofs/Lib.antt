@@ -1,0 +1,11 @@
+pub mod Versions
+pub mod Rows
+pub mod Unnamed
+pub mod Submitted
+pub mod Depths
+pub mod Standing
+pub mod Left
+pub mod Crossed
+pub mod Passed
+pub mod Notes
+pub mod Refusing
