@@ -1,7 +1,7 @@
 //! Answers the requests of standard input on standard output.
 #![tactic(auto)]
 
-use edge_io::{MemEars, RealClock, StdSink, StdSource, SureFiles};
+use edge_io::{DiskFiles, MemEars, RealClock, StdSink, StdSource};
 use kj_value::Txt;
 use kubeconv_cmd::{BAD_WORDS, NO_MEMORY, Words, run};
 use std::env;
@@ -45,7 +45,7 @@ fn main(rt: HostRuntime) -> ExitCode {
         return ExitCode::from(NO_MEMORY);
     };
     let boot = boot_number(&rt);
-    let mut files = SureFiles::new(Vec::new(alloc));
+    let mut files = DiskFiles::new(&rt);
     let mut input = StdSource::new(reader);
     let mut output = StdSink::new(writer);
     let mut errors = StdSink::new(rt.stderr());

@@ -1,1 +1,5 @@
-pub mod Conversing
+pub mod LineWords
+pub mod Refusing
+pub mod Taking
+pub mod Serving
+pub mod Ending

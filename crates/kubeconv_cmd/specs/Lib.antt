@@ -1,5 +1,5 @@
-pub mod Faults
-pub mod Talk
-pub mod Steps
-pub mod Conversed
+pub mod Lines
+pub mod Serving
 pub mod Status
+pub mod Refusal
+pub mod Ends

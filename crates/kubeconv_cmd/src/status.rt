@@ -1,12 +1,15 @@
 //! The statuses of the program, and the line that each puts on the error stream.
-ghost use Rattle.std.specs.Prelude.{◌≡◌};
+ghost use Rattle.std.specs.Prelude.{◌≡◌, ◌++◌, Option, List, ℕ, codes};
 ghost use Rattle.std.specs.Io.KnownBytes.{append_known};
-ghost use Rattle.edge_io.specs.Causes.{HasCause};
+ghost use Rattle.edge_io.specs.Causes.{HasCause, Rose};
 ghost use Rattle.edge_io.specs.Sends.{Sends};
-ghost use Rattle.kubeconv_cmd.specs.Status.{pipe_status, error_line as error_line_of};
+ghost use Rattle.kubeconv_cmd.specs.Status.{pipe_status, error_line as error_line_of, refusal_line};
+ghost use Rattle.kubeconv_cmd.specs.Refusal.{blame_text};
+ghost use Rattle.kubeconv_cmd.specs.Ends.{line_at, status_at, why_text};
 
-use crate::conversation::PipeEnd;
+use crate::stop::{Stop, Why};
 use edge_io::{Failed, Sink, send};
+use object_talk::PipeEnd;
 
 /// The input was read to its end between two requests, or an answered request asked for closing.
 pub const DONE: u8 = 0;
@@ -14,13 +17,16 @@ pub const DONE: u8 = 0;
 /// The words aren't a line of the program.
 pub const BAD_WORDS: u8 = 2;
 
-/// The input failed.
+/// A file is too long, isn't text, or something of it is refused.
+pub const REFUSED: u8 = 3;
+
+/// A file couldn't be read, or the input failed.
 pub const READ_FAILED: u8 = 5;
 
 /// The output failed.
 pub const WRITE_FAILED: u8 = 6;
 
-/// Memory was wanted before anything was read.
+/// Memory was wanted before anything was read of the input.
 pub const NO_MEMORY: u8 = 7;
 
 /// The input ended inside a request, or the head of a request was refused.
@@ -29,8 +35,16 @@ pub const CUT: u8 = 9;
 /// As many requests were answered as are, and the last didn't ask for closing.
 pub const TOO_MANY: u8 = 10;
 
-/// The status of a conversation's end.
-pub fn status_of(end: PipeEnd) -> u8
+// What stands before an error's text.
+const PROGRAM: &[u8] = b"kubeconv: ";
+
+// What stands behind a file, and behind a path.
+const BEHIND: &[u8] = b": ";
+
+const LINE_END: &[u8] = b"\n";
+
+// The status of a conversation's end.
+fn status_of(end: PipeEnd) -> u8
     ensures { result ≡ pipe_status end }
 {
     match end {
@@ -44,7 +58,7 @@ pub fn status_of(end: PipeEnd) -> u8
     }
 }
 
-// The line that a status puts on the error stream.
+// The line that a status but `REFUSED` puts on the error stream.
 #[tactic(auto, unfolding(crate::specs::Status::error_line))]
 fn error_line(status: u8) -> &'static str
     ensures { result.now ≡ error_line_of status }
@@ -60,11 +74,94 @@ fn error_line(status: u8) -> &'static str
     }
 }
 
-/// Writes the line of a status, and flushes.
-pub fn write_error_line<E: Sink>(errors: &mut E, status: u8) -> Result<(), Failed>
+// Writes the line of a status, and flushes.
+fn write_error_line<E: Sink>(errors: &mut E, status: u8) -> Result<(), Failed>
     ensures sent { Sends (E.written errors.old) (E.written errors.new) (error_line_of status) result }
     ensures cause { HasCause (E.faults errors.old) (E.faults errors.new) result }
 {
     send(errors, error_line(status).as_bytes())?;
     errors.flush()
+}
+
+// Writes the path of what is refused, and a word.
+fn send_blame<E: Sink>(errors: &mut E, path: &[u8], word: &[u8]) -> Result<(), Failed>
+    ensures sent { Sends (E.written errors.old) (E.written errors.new) (blame_text path.now word.now) result }
+    ensures cause { HasCause (E.faults errors.old) (E.faults errors.new) result }
+{
+    send(errors, path)?;
+    send(errors, BEHIND)?;
+    send(errors, word)
+}
+
+// Writes why a file is refused.
+fn send_why<E: Sink>(errors: &mut E, why: &Why) -> Result<(), Failed>
+    ensures sent { Sends (E.written errors.old) (E.written errors.new) (why_text why.now) result }
+    ensures cause { HasCause (E.faults errors.old) (E.faults errors.new) result }
+{
+    match why {
+        Why::TooLong => send(errors, b"TooLong"),
+        Why::NotText => send(errors, b"NotText"),
+        Why::At { path, word } => {
+            send_blame(errors, path.as_str().as_bytes(), word.as_str().as_bytes())
+        }
+    }
+}
+
+// Writes the line that names a refused file and says why.
+fn send_refusal<E: Sink>(errors: &mut E, file: &[u8], why: &Why) -> Result<(), Failed>
+    ensures sent { Sends (E.written errors.old) (E.written errors.new) (refusal_line file.now (why_text why.now)) result }
+    ensures cause { HasCause (E.faults errors.old) (E.faults errors.new) result }
+{
+    send(errors, PROGRAM)?;
+    send(errors, file)?;
+    send(errors, BEHIND)?;
+    send_why(errors, why)?;
+    send(errors, LINE_END)
+}
+
+// Writes that line, and flushes.
+fn write_refusal<E: Sink>(errors: &mut E, file: &str, why: &Why) -> Result<(), Failed>
+    ensures sent { Sends (E.written errors.old) (E.written errors.new) (refusal_line file.now (why_text why.now)) result }
+    ensures cause { HasCause (E.faults errors.old) (E.faults errors.new) result }
+{
+    send_refusal(errors, file.as_bytes(), why)?;
+    errors.flush()
+}
+
+/// Ends a run with a status but `REFUSED`, whose line is written. A failed write of that line changes nothing.
+pub(crate) fn ended<E: Sink>(errors: &mut E, status: u8) -> u8
+    ensures status { result ≡ status }
+    ensures line { ¬ (Rose (E.faults errors.old) (E.faults errors.new))
+        → E.written errors.new ≡ append_known (E.written errors.old) (error_line_of status) }
+{
+    match write_error_line(errors, status) {
+        Ok(()) => status,
+        Err(_) => status,
+    }
+}
+
+// Ends a run at a file that is refused.
+fn refused<E: Sink>(errors: &mut E, file: &str, why: &Why) -> u8
+    ensures status { result ≡ REFUSED }
+    ensures line { ¬ (Rose (E.faults errors.old) (E.faults errors.new))
+        → E.written errors.new ≡ append_known (E.written errors.old) (refusal_line file.now (why_text why.now)) }
+{
+    match write_refusal(errors, file, why) {
+        Ok(()) => REFUSED,
+        Err(_) => REFUSED,
+    }
+}
+
+/// Ends a run by how its conversation ended, or by why there was none.
+pub(crate) fn tell<E: Sink>(errors: &mut E, came: Result<PipeEnd, Stop<'_>>) -> u8
+    ensures status { result ≡ status_at came.entry }
+    ensures line { ¬ (Rose (E.faults errors.old) (E.faults errors.new))
+        → E.written errors.new ≡ append_known (E.written errors.old) (line_at came.entry) }
+{
+    match came {
+        Ok(end) => ended(errors, status_of(end)),
+        Err(Stop::ReadFailed) => ended(errors, READ_FAILED),
+        Err(Stop::Refused { file, why }) => refused(errors, file, &why),
+        Err(Stop::NoMemory) => ended(errors, NO_MEMORY),
+    }
 }

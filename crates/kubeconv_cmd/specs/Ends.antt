@@ -1,0 +1,49 @@
+-- For private clauses: what the code's own types stand for.
+use Rattle.std.specs.Prelude.{◌≡◌, ◌++◌, ℕ, List, codes, Result, Ok, Err}
+use Rattle.object_talk.specs.declared.conversation.PipeEnd.{PipeEnd}
+use Rattle.kubeconv_cmd.specs.declared.words.Command.{Command}
+use Rattle.kubeconv_cmd.specs.declared.words.Command.TheVariants.{BuiltIn, FromFiles}
+use Rattle.kubeconv_cmd.specs.declared.stop.Why.{Why}
+use Rattle.kubeconv_cmd.specs.declared.stop.Why.TheVariants as whys
+use Rattle.kubeconv_cmd.specs.declared.stop.Stop.{Stop}
+use Rattle.kubeconv_cmd.specs.declared.stop.Stop.TheVariants as stops
+use Rattle.kubeconv_cmd.specs.declared.status.TheConstants.{REFUSED, READ_FAILED, NO_MEMORY}
+use Rattle.kubeconv_cmd.specs.Lines.{Line, built_in, from_files}
+use Rattle.kubeconv_cmd.specs.Status.{pipe_status, error_line, refusal_line}
+use Rattle.kubeconv_cmd.specs.Refusal.{blame_text, IsUnfit, Refuses}
+
+abbrev pub line_of : Command → Line
+line_of BuiltIn = built_in
+line_of (FromFiles crd rules) = from_files crd.now rules.now
+
+-- why a file is refused, as the error line says it
+abbrev pub why_text : Why → List ℕ
+why_text whys.TooLong = codes "TooLong"
+why_text whys.NotText = codes "NotText"
+why_text (whys.At path word) = blame_text path.bytes word.bytes
+
+-- where a run stopped at a file that is refused, P holds of its name and of why
+abbrev pub OnRefused : Stop → (List ℕ → List ℕ → Type 0) → Type 0
+OnRefused stops.ReadFailed P = Unit {0}
+OnRefused (stops.Refused file why) P = P file.now (why_text why)
+OnRefused stops.NoMemory P = Unit {0}
+
+-- where it stopped at a file that can't be read, P holds
+abbrev pub OnUnread : Stop → Type 0 → Type 0
+OnUnread stops.ReadFailed P = P
+OnUnread (stops.Refused file why) P = Unit {0}
+OnUnread stops.NoMemory P = Unit {0}
+
+-- the status of a run that stopped, or of how its conversation ended
+abbrev pub status_at : Result PipeEnd Stop → ℕ
+status_at (Ok end) = pipe_status end
+status_at (Err stops.ReadFailed) = READ_FAILED
+status_at (Err (stops.Refused file why)) = REFUSED
+status_at (Err stops.NoMemory) = NO_MEMORY
+
+-- its error line
+abbrev pub line_at : Result PipeEnd Stop → List ℕ
+line_at (Ok end) = error_line (pipe_status end)
+line_at (Err stops.ReadFailed) = error_line READ_FAILED
+line_at (Err (stops.Refused file why)) = refusal_line file.now (why_text why)
+line_at (Err stops.NoMemory) = error_line NO_MEMORY

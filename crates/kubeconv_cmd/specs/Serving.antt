@@ -1,0 +1,51 @@
+-- What it is to serve the definition that two texts are.
+use Rattle.std.specs.Prelude.{◌≡◌, ℕ, List, [], Option}
+use Rattle.kube_meta.specs.declared.limits.TheConstants.Limits.{STANDING}
+use Rattle.api_calls.specs.Meaning.{Meaning}
+use Rattle.crd_meaning.specs.Definition.{Definition}
+use Rattle.crd_laws.specs.Loaded.{loaded_meaning}
+use Rattle.crd_settings.specs.Settled.{settings_of}
+use Rattle.crd_loading.specs.Load.{Loads}
+use Rattle.crd_loading.specs.View.{LoadedView}
+use Rattle.versions_loading.specs.Set.{set_of}
+use Rattle.http_wire.specs.Stream.{End}
+use Rattle.http_wire.specs.declared.limits.TheConstants.{MOST_REQUESTS}
+use Rattle.object_talk.specs.Answering.{Base}
+use Rattle.object_talk.specs.Talk.{Conversation}
+use Rattle.object_talk.specs.Conversed.{Conversed}
+use Rattle.object_talk.specs.declared.conversation.PipeEnd.{PipeEnd}
+use Rattle.kubeconv_cmd.specs.Status.{status_of}
+
+-- the number of the server's start, and the one stamp of the clock where the clock tells it
+pub record Start : Type 0 where
+  pub boot : ℕ
+  pub told : Option (List ℕ)
+
+-- what no request changes, where definitions mean this
+abbrev pub base_of : Meaning → Start → Base
+base_of m start = record { server = record { meaning = m; limits = STANDING; boot = start.boot }; told = start.told }
+
+-- what a definition means to requests
+abbrev pub meaning_of : Definition → Meaning
+meaning_of d = loaded_meaning d (settings_of d.view)
+
+abbrev pub served_meaning : LoadedView → Meaning
+served_meaning l = meaning_of (set_of l)
+
+-- The input was answered whole, beginning with nothing entered, and the status is that of its end.
+pub record Answered (base : Base) (input : List ℕ) (before written : Option (List ℕ)) (status : ℕ) : Type 0 where
+  pub end : End
+  pub conversation : Conversation base MOST_REQUESTS [] input before written end
+  pub is_status : status ≡ status_of end
+
+-- the same by the definition and the rules that two texts are
+pub record Serves (crd rules : List ℕ) (start : Start) (input : List ℕ) (before written : Option (List ℕ)) (status : ℕ) : Type 0 where
+  pub loaded : LoadedView
+  pub loads : Loads crd rules loaded
+  pub answered : Answered (base_of (served_meaning loaded) start) input before written status
+
+-- their conversation ended so, and the outside may have broken it off
+pub record Converses (crd rules : List ℕ) (start : Start) (input : List ℕ) (before written : Option (List ℕ)) (end : PipeEnd) : Type 0 where
+  pub loaded : LoadedView
+  pub loads : Loads crd rules loaded
+  pub conversed : Conversed (base_of (served_meaning loaded) start) MOST_REQUESTS [] input before written end
