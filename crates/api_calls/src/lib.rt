@@ -37,6 +37,3 @@ pub use versions::{
     stored_fits,
 };
 pub use why::Why;
-
-#[cfg(test)]
-mod tests;

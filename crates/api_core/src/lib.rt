@@ -18,6 +18,3 @@ mod work;
 mod writes;
 
 pub use present::Core;
-
-#[cfg(test)]
-mod tests;

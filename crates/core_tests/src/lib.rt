@@ -8,6 +8,8 @@
 #[cfg(test)]
 mod answers;
 #[cfg(test)]
+mod cores;
+#[cfg(test)]
 mod looks;
 #[cfg(test)]
 mod order;

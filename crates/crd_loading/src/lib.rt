@@ -18,6 +18,3 @@ mod words;
 
 pub use loaded::Loaded;
 pub use loading::{LoadFault, Which, load};
-
-#[cfg(test)]
-mod tests;

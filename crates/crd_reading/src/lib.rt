@@ -23,6 +23,3 @@ pub use definition::{Definition, Version};
 pub use laws::accepts;
 pub use places::{KIND_BYTES, MAX_VERSIONS, MIN_VERSIONS};
 pub use reading::{DefinitionFault, read_definition};
-
-#[cfg(test)]
-mod tests;

@@ -41,6 +41,3 @@ pub use sure::{SureSink, SureSource};
 /// The outside failed. Only the object that failed can say so: its count of faults has risen.
 #[derive(Clone, Copy, Debug, PartialEq, Eq, Drop)]
 pub struct Failed;
-
-#[cfg(test)]
-mod tests;

@@ -26,6 +26,3 @@ pub use laws::{allowed_crosses, matching, one_to_one};
 pub use pairs::{Pair, PairItems};
 pub use tables::{own_value, partner};
 pub use tuples::copy_tuple;
-
-#[cfg(test)]
-mod tests;

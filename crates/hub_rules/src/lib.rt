@@ -20,6 +20,3 @@ pub use nodes::{AnyNode, is_required, node_at};
 pub use refusal::{FitFault, check_fit};
 pub use rules::{Line, MAX_OBJECTS, Rules};
 pub use spot::Why;
-
-#[cfg(test)]
-mod tests;

@@ -23,6 +23,3 @@ pub use list::Kept;
 pub use order::{are_in_order, is_before};
 pub use reading::{KEPT_LEVELS, read_kept};
 pub use writing::{copy_fields, write_kept};
-
-#[cfg(test)]
-mod tests;

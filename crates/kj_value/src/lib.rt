@@ -32,6 +32,3 @@ pub use txt::Txt;
 pub use value::{Field, JFields, JItems, JVal};
 pub use walks::{copy, depth, same};
 pub use writing::write;
-
-#[cfg(test)]
-mod tests;

@@ -17,6 +17,3 @@ pub use limits::{Condition, Limits, Room, RoomKind};
 pub use names::{name_ok, namespace_ok};
 pub use object::{Meta, Object};
 pub use spot::{KeySpot, NameSpot};
-
-#[cfg(test)]
-mod tests;

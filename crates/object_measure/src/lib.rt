@@ -12,6 +12,3 @@ mod metadata;
 mod values;
 
 pub use measuring::measure_within;
-
-#[cfg(test)]
-mod tests;

@@ -22,6 +22,3 @@ pub use finalizers::{FINALIZER_BYTES, FINALIZERS, finalizer_ok};
 pub use labels::{KEY_NAME_BYTES, annotation_key_ok, label_key_ok, label_value_ok};
 pub use laws::{accepted, numbers, read_back};
 pub use reading::{read_object, read_written};
-
-#[cfg(test)]
-mod tests;

@@ -21,6 +21,3 @@ mod server;
 pub use asked::Asked;
 pub use reply::{Answer, write_answer};
 pub use server::Server;
-
-#[cfg(test)]
-mod tests;

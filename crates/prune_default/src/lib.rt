@@ -16,6 +16,3 @@ mod laws;
 
 pub use filling::fill;
 pub use laws::{filled_again, one_filling};
-
-#[cfg(test)]
-mod tests;

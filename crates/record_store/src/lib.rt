@@ -21,6 +21,3 @@ pub use answer::PutEnd;
 pub use record::{NewRecord, StorePage, StoredRecord};
 pub use record_index::Record;
 pub use store::Store;
-
-#[cfg(test)]
-mod tests;

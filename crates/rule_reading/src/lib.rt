@@ -17,6 +17,3 @@ mod words;
 
 pub use rules::MAX_RULES;
 pub use set::{RuleMap, RuleSet, RulesFault, SpokeRules, read_rules};
-
-#[cfg(test)]
-mod tests;

@@ -23,6 +23,3 @@ mod words;
 pub use laws::{accepts, own_fillings};
 pub use trouble::SchemaFault;
 pub use walk::{MAX_DEFAULT_DEPTH, MAX_NESTING, MAX_NODES, read_schema};
-
-#[cfg(test)]
-mod tests;

@@ -28,6 +28,3 @@ pub use filling::is_filled;
 pub use kind::{IntFormat, NodeKind};
 pub use schema::{Schema, SchemaBox, SchemaField, SchemaMap};
 pub use trouble::CheckFault;
-
-#[cfg(test)]
-mod tests;

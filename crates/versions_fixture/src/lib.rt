@@ -18,6 +18,3 @@ mod two_names;
 pub use example::{has_a_group, has_a_history, has_an_object};
 pub use parts::Version;
 pub use two_names::TwoNames;
-
-#[cfg(test)]
-mod tests;

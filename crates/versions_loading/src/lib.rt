@@ -11,6 +11,3 @@ mod loading;
 mod naming;
 
 pub use loading::load_versions;
-
-#[cfg(test)]
-mod tests;
