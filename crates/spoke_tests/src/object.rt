@@ -26,7 +26,7 @@ use struct_schema::{Schema, check, is_filled};
 /// filled. There is none where the text isn't JSON of at most 100 levels, is no object of that kind and of that
 /// version in the definition's group, where its body isn't valid or is more than 64 deep, and where there is
 /// no such place; at the hub of a definition without spokes, which has no schema; or for want of memory.
-pub fn object_at(
+pub(crate) fn object_at(
     alloc: Global,
     all: &Spokes,
     kind: &str,

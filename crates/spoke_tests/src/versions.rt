@@ -16,7 +16,7 @@ use struct_schema::Schema;
 
 /// The shared definition's versions: the hub `v1`, and its one spoke `v1beta1`. There are none where the
 /// definition isn't read or its rules don't fit, or for want of memory.
-pub fn shared_versions(alloc: Global) -> Option<Spokes> {
+pub(crate) fn shared_versions(alloc: Global) -> Option<Spokes> {
     let doc = read(alloc, definition().as_bytes(), MAX_LEVELS).ok()?;
     let hub = schema(alloc, &doc, 0)?;
     let spoke = schema(alloc, &doc, 1)?;
