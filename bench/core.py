@@ -7,45 +7,28 @@ moves it, and a few to claim and to end; what prepares the object between the tw
 the running migration among all that were started, so there are as many at each size. All is processor time, so that what else
 runs counts little; the time of a run that only fills the core is taken off."""
 
-import argparse
-
-from programs import best_of, built, processor_seconds, timed
+from programs import built, each_of, parser_of
 
 OBJECTS = (1000, 16000)
 
 
 def main():
     """Reads the words, runs and prints."""
-    parser = argparse.ArgumentParser(description=__doc__, formatter_class=argparse.RawDescriptionHelpFormatter)
-    parser.add_argument("--program", help="the built program (default: crates/kubeconv_bench/out/kubeconv_bench)")
-    parser.add_argument("--runs", type=int, default=3, help="runs of each kind; the best one counts (default: 3)")
+    parser = parser_of(__doc__, "kubeconv_bench")
     parser.add_argument("--commits", type=int, default=200000, help="commits of a run (default: 200000)")
     parser.add_argument("--migrations", type=int, default=16, help="migrations of a run, at most 256 (default: 16)")
     options = parser.parse_args()
     program = built("kubeconv_bench", options.program, "core commits 10 1")
     chores = {"commits": options.commits, "turns": options.migrations}
-    done = {}
-
-    def seconds_of(chore, objects, rounds):
-        before = processor_seconds()
-        _seconds, wrote = timed([program, "core", chore, str(objects), str(rounds)])
-        done[chore, objects] = int(wrote.split()[0])
-        return processor_seconds() - before
-
-    tasks = {}
-    for objects in OBJECTS:
-        tasks["filled", objects] = lambda objects=objects: seconds_of("commits", objects, 0)
-        for chore, rounds in chores.items():
-            tasks[chore, objects] = lambda chore=chore, objects=objects, rounds=rounds: seconds_of(chore, objects, rounds)
-    best = best_of(options.runs, tasks)
-    print(f"{'chore':>8} {'objects':>8} {'done':>8} {'a second':>10} {'us each':>8} {'time to the fewest':>19}")
-    for chore in chores:
-        first = None
+    works = {}
+    for chore, rounds in chores.items():
         for objects in OBJECTS:
-            count = done[chore, objects]
-            each = (best[chore, objects] - best["filled", objects]) / count
-            first = first or each
-            print(f"{chore:>8} {objects:>8} {count:>8} {1 / each:>10.0f} {each * 1e6:>8.2f} {each / first:>19.2f}")
+            works[chore, objects] = ("core", chore, objects, rounds), ("core", "commits", objects, 0)
+    each, done = each_of(program, works, options.runs)
+    print(f"{'chore':>8} {'objects':>8} {'done':>8} {'a second':>10} {'us each':>8} {'time to the fewest':>19}")
+    for (chore, objects), seconds in each.items():
+        count, ratio = done[works[chore, objects][0]], seconds / each[chore, OBJECTS[0]]
+        print(f"{chore:>8} {objects:>8} {count:>8} {1 / seconds:>10.0f} {seconds * 1e6:>8.2f} {ratio:>19.2f}")
 
 
 if __name__ == "__main__":

@@ -4,9 +4,7 @@
 Prints MiB per second (a document that is read and written counts once), and how many times as long a byte takes as at
 the smallest document of its kind. The time of a run that only makes the document is taken off."""
 
-import argparse
-
-from programs import best_of, built, timed
+from programs import best_of, built, parser_of, timed
 
 KIB, MIB = 2**10, 2**20
 SIZES = {"json": (KIB, 16 * KIB, 128 * KIB, MIB), "wide": (1000, 10000, 50000)}
@@ -20,9 +18,7 @@ def rounds_of(kind, size, mebibytes):
 
 def main():
     """Reads the words, runs and prints."""
-    parser = argparse.ArgumentParser(description=__doc__, formatter_class=argparse.RawDescriptionHelpFormatter)
-    parser.add_argument("--program", help="the built program (default: crates/kubeconv_bench/out/kubeconv_bench)")
-    parser.add_argument("--runs", type=int, default=3, help="runs of each size; the best one counts (default: 3)")
+    parser = parser_of(__doc__, "kubeconv_bench")
     parser.add_argument("--mebibytes", type=int, default=16, help="read and written in a run, about (default: 16)")
     options = parser.parse_args()
     program = built("kubeconv_bench", options.program, "json 0 0")

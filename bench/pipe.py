@@ -1,13 +1,12 @@
 #!/usr/bin/env python3
 """Times `kubeconv pipe`: N creates and then a get of each object, for rising N, in one connection a run.
 
-Prints requests per second, and how many times as long a request takes as at the smallest N. The time of a run with no
-input is taken off. Every answer is checked: 201 for a create, 200 for a get, status 0 at the end."""
+Prints requests per second, and how many times as long a request takes as at the smallest N. All is processor time, so that
+what else runs counts little; that of a run with no input is taken off. Every answer is checked: 201 for a create, 200 for a get, status 0 at the end."""
 
-import argparse
 import sys
 
-from programs import best_of, built, timed
+from programs import best_of, built, parser_of, processor_seconds, timed
 
 SIZES = 500, 2000, 5000
 PLURAL = "namespaces/default/crontabs"
@@ -53,8 +52,10 @@ def codes_of(answers):
 
 
 def seconds_of(program, given, wanted):
-    """The seconds of one run whose answers have the codes that are wanted."""
-    seconds, answers = timed([program, "pipe"], given)
+    """The processor seconds of one run whose answers have the codes that are wanted."""
+    before = processor_seconds()
+    _seconds, answers = timed([program, "pipe"], given)
+    seconds = processor_seconds() - before
     codes = codes_of(answers)
     if codes != wanted:
         wrong = next((i for i, pair in enumerate(zip(codes, wanted)) if pair[0] != pair[1]), min(len(codes), len(wanted)))
@@ -65,9 +66,7 @@ def seconds_of(program, given, wanted):
 
 def main():
     """Reads the words, runs and prints."""
-    parser = argparse.ArgumentParser(description=__doc__, formatter_class=argparse.RawDescriptionHelpFormatter)
-    parser.add_argument("--program", help="the built program (default: crates/kubeconv/out/kubeconv)")
-    parser.add_argument("--runs", type=int, default=3, help="runs of each size; the best one counts (default: 3)")
+    parser = parser_of(__doc__, "kubeconv")
     options = parser.parse_args()
     program = built("kubeconv", options.program, "pipe")
     tasks = {}

@@ -1,5 +1,6 @@
-"""What the scripts of this folder share: finding a built program, and timing its runs from outside."""
+"""What the scripts of this folder share: their options, finding a built program, and timing its runs from outside."""
 
+import argparse
 import os
 import pathlib
 import resource
@@ -9,6 +10,14 @@ import tempfile
 import time
 
 TOP = pathlib.Path(__file__).resolve().parent.parent
+
+
+def parser_of(description, crate):
+    """The options that every script has."""
+    parser = argparse.ArgumentParser(description=description, formatter_class=argparse.RawDescriptionHelpFormatter)
+    parser.add_argument("--program", help=f"the built program (default: crates/{crate}/out/{crate})")
+    parser.add_argument("--runs", type=int, default=3, help="runs of each kind; the best one counts (default: 3)")
+    return parser
 
 
 def built(crate, path, words):
@@ -49,3 +58,23 @@ def best_of(rounds, tasks):
         for name, task in tasks.items():
             best[name] = min(task(), best.get(name, float("inf")))
     return best
+
+
+def each_of(program, works, runs):
+    """What one of each work takes, in processor seconds, and the number that each run wrote first, by its words. `works` maps a
+    name to two rows of words: those of a run whose number says how many were done, and those of one that does none of
+    them, whose time is taken off."""
+    wrote = {}
+
+    def seconds_of(words):
+        before = processor_seconds()
+        _seconds, output = timed([program, *map(str, words)])
+        wrote[words] = int(output.split()[0])
+        return processor_seconds() - before
+
+    tasks = {}
+    for full, empty in works.values():
+        for words in empty, full:
+            tasks[words] = lambda words=words: seconds_of(words)
+    best = best_of(runs, tasks)
+    return {name: (best[full] - best[empty]) / wrote[full] for name, (full, empty) in works.items()}, wrote

@@ -4,18 +4,14 @@
 Prints turns per second, how many times as long a turn takes as with one thread, and the processor time of a turn, which
 shows what waiting costs: a thread that waits sleeps. The time of a run with no turns is taken off."""
 
-import argparse
-
-from programs import best_of, built, processor_seconds, timed
+from programs import best_of, built, parser_of, processor_seconds, timed
 
 THREADS = (1, 2, 4, 8)
 
 
 def main():
     """Reads the words, runs and prints."""
-    parser = argparse.ArgumentParser(description=__doc__, formatter_class=argparse.RawDescriptionHelpFormatter)
-    parser.add_argument("--program", help="the built program (default: crates/kubeconv_bench/out/kubeconv_bench)")
-    parser.add_argument("--runs", type=int, default=3, help="runs of each number of threads; the best one counts (default: 3)")
+    parser = parser_of(__doc__, "kubeconv_bench")
     parser.add_argument("--turns", type=int, default=400000, help="turns of a run, of all threads together (default: 400000)")
     options = parser.parse_args()
     program = built("kubeconv_bench", options.program, "turns 1 0")

@@ -6,11 +6,17 @@
 //! 1, 2, 4 or 8 threads. `store CHORE RECORDS N` does a chore `N` times on a store of `RECORDS` records, at most 16,384: `creates`
 //! (a new record, which goes again), `puts` (one is written over), `touches` or `pages` (copies of the first 500).
 //! `core commits OBJECTS N` looks at an object of a core of `OBJECTS` and writes over it, `N` times, and `core turns OBJECTS N`
-//! moves all of them to the other version, `N` times, at most 256. It knows nothing of what the documents mean.
+//! moves all of them to the other version, `N` times, at most 256. `load SIZE N` loads a definition with its rules `N` times,
+//! `small` or as `large` as one may be. `admit BODY N` admits an object `N` times by a definition that is loaded once: `small`,
+//! or as large as an object may be: `large`, a list of Kubernetes objects, `deep`, of lists inside lists, or `wide`, of many
+//! names. With 0 for `N` these two tell how many bytes the texts or the body have. It knows nothing of what the documents mean.
 #![tactic(auto)]
 
+mod admissions;
 mod commits;
+mod definitions;
 mod documents;
+mod loads;
 mod migrations;
 mod records;
 mod rounds;
@@ -19,7 +25,9 @@ mod task;
 mod tests;
 mod turns;
 
+use admissions::admit_often;
 use commits::{CoreChore, drive};
+use loads::load_often;
 use records::keep;
 use rounds::{WorkFault, repeat};
 use std::alloc::Global;
@@ -32,7 +40,7 @@ use turns::take_turns;
 use versions_fixture::TwoNames;
 
 const USAGE: &str =
-    "give `json BYTES N`, `wide NAMES N`, `turns THREADS N`, `store creates|puts|touches|pages RECORDS N` or `core commits|turns OBJECTS N`, whole numbers below 2^32, and 1, 2, 4 or 8 threads";
+    "give `json BYTES N`, `wide NAMES N`, `turns THREADS N`, `store creates|puts|touches|pages RECORDS N`, `core commits|turns OBJECTS N`, `load small|large N` or `admit small|large|deep|wide N`, whole numbers below 2^32, and 1, 2, 4 or 8 threads";
 
 const FAILED: u8 = 1;
 
@@ -80,6 +88,8 @@ fn work<R: Threads + Wait + Sync>(
             let versions = TwoNames::new(alloc)?;
             Ok((drive(alloc, versions, *chore, *objects, *rounds)?, made))
         }
+        Task::Load { size, rounds } => load_often(alloc, *size, *rounds),
+        Task::Admit { body, rounds } => admit_often(alloc, *body, *rounds),
     }
 }
 

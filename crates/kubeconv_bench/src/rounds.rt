@@ -29,6 +29,12 @@ pub enum WorkFault {
     /// The store answered that it didn't do what was asked.
     #[error("the store has no room for so many records")]
     NotDone,
+    /// A definition was refused.
+    #[error("the definition isn't loaded: {word} at `{path}`")]
+    NotLoaded { path: String, word: String },
+    /// An object was refused.
+    #[error("the object isn't admitted")]
+    NotAdmitted,
 }
 
 impl From<AllocError> for WorkFault {
@@ -46,6 +52,16 @@ impl From<NoMemory> for WorkFault {
 impl From<JsonFault> for WorkFault {
     fn from(fault: JsonFault) -> WorkFault {
         WorkFault::Refused(fault)
+    }
+}
+
+/// What is told of rounds that make nothing to count: how many there were, or how many bytes each would
+/// have begun with, where there was none.
+pub(crate) fn times(rounds: u32, bytes: usize) -> (u64, &'static str) {
+    if rounds == 0 {
+        (bytes as u64, "bytes")
+    } else {
+        (u64::from(rounds), "times")
     }
 }
 

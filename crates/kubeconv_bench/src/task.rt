@@ -1,5 +1,7 @@
 //! The command line.
+use crate::admissions::Body;
 use crate::commits::CoreChore;
+use crate::definitions::Size;
 use crate::records::Chore;
 use crate::turns::Threaded;
 
@@ -33,6 +35,16 @@ pub enum Task {
         objects: u32,
         rounds: u32,
     },
+    /// To load a definition of this size so many times.
+    Load {
+        size: Size,
+        rounds: u32,
+    },
+    /// To admit an object of this body so many times.
+    Admit {
+        body: Body,
+        rounds: u32,
+    },
 }
 
 // So many threads, where there is a way to start them.
@@ -64,6 +76,24 @@ fn core_chore_of(word: &str) -> Option<CoreChore> {
     }
 }
 
+fn size_of(word: &str) -> Option<Size> {
+    match word {
+        "small" => Some(Size::Small),
+        "large" => Some(Size::Large),
+        _ => None,
+    }
+}
+
+fn body_of(word: &str) -> Option<Body> {
+    match word {
+        "small" => Some(Body::Small),
+        "large" => Some(Body::Large),
+        "deep" => Some(Body::Deep),
+        "wide" => Some(Body::Wide),
+        _ => None,
+    }
+}
+
 fn number_of(word: &String) -> Option<u32> {
     word.as_str().parse::<u32>().ok()
 }
@@ -71,6 +101,14 @@ fn number_of(word: &String) -> Option<u32> {
 /// The task that the words after the program's name ask for; `None` where they ask for none.
 pub fn task_of(words: &[String]) -> Option<Task> {
     match words {
+        [load, size, rounds] if load.as_str() == "load" => Some(Task::Load {
+            size: size_of(size.as_str())?,
+            rounds: number_of(rounds)?,
+        }),
+        [admit, body, rounds] if admit.as_str() == "admit" => Some(Task::Admit {
+            body: body_of(body.as_str())?,
+            rounds: number_of(rounds)?,
+        }),
         [kind, size, rounds] => sized(kind.as_str(), number_of(size)?, number_of(rounds)?),
         [store, chore, records, rounds] if store.as_str() == "store" => Some(Task::Store {
             chore: chore_of(chore.as_str())?,

@@ -1,6 +1,8 @@
 //! What no clause says: the words, and the text of a document.
 
+use crate::admissions::Body;
 use crate::commits::{CoreChore, drive};
+use crate::definitions::Size;
 use crate::documents::wide;
 use crate::records::Chore;
 use crate::task::{Task, task_of};
@@ -69,6 +71,38 @@ fn words_name_a_chore_of_the_core(rt: HostRuntime) -> Result<(), Fail> {
     let task = Task::Core {
         chore: CoreChore::Turns,
         objects: 9,
+        rounds: 5,
+    };
+    assert_eq!(rt; task_of(words.as_slice()), Some(task));
+    Ok(())
+}
+
+#[test]
+fn words_name_a_size(rt: HostRuntime) -> Result<(), Fail> {
+    let mut words = vec![in rt.alloc();
+        String::from_str(rt.alloc(), "load")?,
+        String::from_str(rt.alloc(), "large")?,
+        String::from_str(rt.alloc(), "5")?,
+    ]?;
+    let task = Task::Load {
+        size: Size::Large,
+        rounds: 5,
+    };
+    assert_eq!(rt; task_of(words.as_slice()), Some(task));
+    words[1] = String::from_str(rt.alloc(), "wide")?;
+    assert_eq!(rt; task_of(words.as_slice()), None);
+    Ok(())
+}
+
+#[test]
+fn words_name_a_body(rt: HostRuntime) -> Result<(), Fail> {
+    let words = vec![in rt.alloc();
+        String::from_str(rt.alloc(), "admit")?,
+        String::from_str(rt.alloc(), "wide")?,
+        String::from_str(rt.alloc(), "5")?,
+    ]?;
+    let task = Task::Admit {
+        body: Body::Wide,
         rounds: 5,
     };
     assert_eq!(rt; task_of(words.as_slice()), Some(task));
