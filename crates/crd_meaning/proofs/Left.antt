@@ -77,7 +77,7 @@ module _ (laws : Laws) (all : Spokes) (v : ℕ) (s : Spoke) (def : IsDefinition 
       one_spoke level (with_entries z.body p.hub_kept) (settled spoke level held) goes fits whole form (spoke_pair level held fits may)
       ∙ settled_is laws all v s def place spoke x.body g.hub_kept rises b
 
-  form_left : (x h z : ObjectView) → x.api_version ≡ api_version all.group s.name → AreRising (members_of x.body) → IsBodyOf spoke s.fit x.body
+  pub form_left : (x h z : ObjectView) → x.api_version ≡ api_version all.group s.name → AreRising (members_of x.body) → IsBodyOf spoke s.fit x.body
       → GoesOver all s x h → IsObject z → IsPairOf all s z h → SettlesAtSpoke all s x z
   form_left x h z version rises b g o p =
       let held = left_held x h z rises b g p in
@@ -129,7 +129,7 @@ spelled_at_spoke s body es (of_spoke u) o q t e r a =
     judged_spelled u (hub_body s body es) o q t e (subst (λ (b : Bool). SpokeNote b u (hub_body s body es) o q) r a)
 spelled_at_spoke s body es of_none o q t e r a = absurd r
 
-read_at : (all : Spokes) (z : Seat) (x y : ObjectView) → LeftAt all z x y → (k : Name) → IsFirstBad all (own_name z) x.meta.annotations k → ⊥
+pub read_at : (all : Spokes) (z : Seat) (x y : ObjectView) → LeftAt all z x y → (k : Name) → IsFirstBad all (own_name z) x.meta.annotations k → ⊥
 read_at all at_hub x y l k u =
     let kept = spelled_at_hub x.body (key_kind all k) (noted k x) (noted k y) u.text u.there u.read (l.notes k) in
     u.bad kept.0 kept.1

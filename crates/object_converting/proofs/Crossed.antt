@@ -28,7 +28,7 @@ use Rattle.crd_meaning.proofs.Seats.{first_spoke}
 use Rattle.crd_converting.specs.Converted.{IsOneWith}
 use Rattle.hub_admission.specs.NoHub.{IsUnreadAt, IsTold}
 use Rattle.object_converting.specs.Steps.{IsOfVersion, HasHub}
-use Rattle.object_converting.proofs.Left.{form_left}
+use Rattle.crd_meaning.proofs.Left.{form_left}
 use Rattle.object_converting.proofs.Standing.{spoke_version, spoke_body}
 
 pub if_ok : {A E : Type 0} (P Q : A → Type 0) (r : Result A E) → ((x : A) → P x → Q x) → IfOk r P → IfOk r Q

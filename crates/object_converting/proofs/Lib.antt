@@ -4,7 +4,6 @@ pub mod Unnamed
 pub mod Submitted
 pub mod Depths
 pub mod Standing
-pub mod Left
 pub mod Crossed
 pub mod Passed
 pub mod Notes

@@ -4,7 +4,7 @@ use Rattle.hub_cells.specs.Level.{Name}
 use Rattle.crd_meaning.specs.Definition.{seat}
 use Rattle.hub_admission.specs.NoHub.{IsUnreadAt, IsTold}
 use Rattle.object_converting.proofs.Crossed.{one_with, told_unread}
-use Rattle.object_converting.proofs.Left.{read_at}
+use Rattle.crd_meaning.proofs.Left.{read_at}
 use Rattle.object_converting.proofs.Refusing.{refused_more}
 use Rattle.object_converting.proofs.crossing.crossed.Goals as goal
 
