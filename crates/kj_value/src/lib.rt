@@ -10,6 +10,7 @@
 #![tactic(auto)]
 
 mod error;
+mod kinds;
 mod laws;
 mod names;
 mod reading;
