@@ -1,6 +1,6 @@
 -- There is no first fault exactly where the value is valid.
 use Rattle.std.proofs.Common.{◌≡◌, ℕ, ◌+◌, List, [], ◌∷◌, Bool, true, false, ◌&&◌, not, cond, Option, Some, None, fold, filter, option_map, refl, ap, sym, ◌∙◌}
-use Rattle.std.specs.Prelude.{pos, is_some, is_none}
+use Rattle.std.specs.Prelude.{◌↔◌, pos, is_some, is_none}
 use Rattle.std.specs.Ordering.{nat_cmp, is_lt}
 use Rattle.std.specs.Cmp.Lexicographic.{slice_cmp}
 use Rattle.kj_value.specs.Json.{Json, null, boolean, whole, text, list, object, Items, no_items, item, Members, no_members, member}
@@ -140,3 +140,11 @@ mutual
       let f = fault_in (shape_for s k) (λ t. fault t j) in
       none-or_else (under (named k) f) (members_fault s ms) ∙ ap (λ (b : Bool). b && is_none (members_fault s ms)) (none-under (named k) f ∙ none-in (shape_for s k) j (λ t. agrees t j))
       ∙ ap (λ (b : Bool). passes (shape_for s k) (λ t. valid t j) && b) (agree_members s ms)
+
+none_is : (o : Option Fault) → is_none o ≡ true → o ≡ None
+none_is None h = refl
+none_is (Some f) h = absurd (cc)
+
+pub agreement : (s : Shape) (j : Json) → (fault s j ≡ None) ↔ (valid s j ≡ true)
+agreement s j =
+    (λ e. sym (agrees s j) ∙ ap (λ (o : Option Fault). is_none o) e, λ h. none_is (fault s j) (agrees s j ∙ h))

@@ -18,6 +18,7 @@ mod equality;
 mod filling;
 mod keywords;
 mod kind;
+mod laws;
 mod schema;
 mod trouble;
 
@@ -26,5 +27,6 @@ pub use copies::copy_schema;
 pub use equality::equal;
 pub use filling::is_filled;
 pub use kind::{IntFormat, NodeKind};
+pub use laws::faults;
 pub use schema::{Schema, SchemaBox, SchemaField, SchemaMap};
 pub use trouble::CheckFault;
