@@ -1,13 +1,13 @@
 -- The tries of the walk pass exactly where the document is allowed.
 use Rattle.std.proofs.Common.{◌≡◌, ◌≤◌, ℕ, suc, ◌+◌, List, [], ◌∷◌, ◌++◌, Bool, true, false, ◌&&◌, cond, Option, Some, None, refl, ap, sym, subst, ◌∙◌, arith}
-use Rattle.std.specs.Prelude.{is_some, is_none, nat_lt}
+use Rattle.std.specs.Prelude.{is_none, nat_lt}
 use Rattle.kj_value.specs.Json.{Json, null, boolean, whole, text, list, object, Members, no_members, member}
 use Rattle.struct_schema.specs.Path.{Step, named}
 use Rattle.struct_schema.specs.Names.{is_name, value_at}
 use Rattle.struct_schema.specs.Shape.{Shape}
 use Rattle.struct_schema.specs.declared.kind.NodeKind.{NodeKind}
 use Rattle.schema_reading.specs.Words.{word, passed_type}
-use Rattle.schema_reading.specs.Kind.{node_kind}
+use Rattle.schema_reading.specs.Kind.{node_kind, type_allowed}
 use Rattle.schema_reading.specs.Allowed.{items_allowed, additional_allowed}
 use Rattle.schema_reading.specs.ShapeRead.{bare_read}
 use Rattle.schema_reading.specs.Visit.{Tried, entered, keyword, Visit, counted, within, after}
@@ -75,10 +75,10 @@ fine-property (Some w) j vs x h = fine-meta w j
 
 fine-object : (root : Bool) (d : ℕ) (ms : Members) (x y m : Bool) → fine (inner_visits Additional d ms) ≡ x → fine (inner_visits ItemsWord d ms) ≡ y → fine (map_visits root d ms) ≡ m → fine (object_visits root d ms) ≡ node_allowed root ms && (x && (y && m))
 fine-object root d ms x y m ex ey em =
-    let k : Option NodeKind = node_kind root ms in
+    let k : Option NodeKind = node_kind ms in
     let a : Bool = additional_allowed k ms (value_at (word Additional) ms) in
     let b : Bool = items_allowed k (value_at (word ItemsWord) ms) in
-    let t : Bool = is_some k in
+    let t : Bool = type_allowed root k in
     let z : Bool = no_bad_default root (bare_read root ms) (value_at (word Default) ms) in
     let p : Bool = fine (part_visits BeforeAdditional (Node k) ms) in
     let q : Bool = fine (part_visits BeforeItems (Node k) ms) in
@@ -87,9 +87,9 @@ fine-object root d ms x y m ex ey em =
     let last : List Visit = default_visits root (bare_read root ms) (value_at (word Default) ms) in
     let e1 : fine (additional_visits k ms ++ inner_visits Additional d ms) ≡ (p && a) && x = joined (additional_visits k ms) (inner_visits Additional d ms) (p && a) x (joined (part_visits BeforeAdditional (Node k) ms) (tries Additional a) p a refl (fine-tries Additional a)) ex in
     let e2 : fine (items_visits k ms ++ inner_visits ItemsWord d ms) ≡ (q && b) && y = joined (items_visits k ms) (inner_visits ItemsWord d ms) (q && b) y (joined (part_visits BeforeItems (Node k) ms) (tries ItemsWord b) q b refl (fine-tries ItemsWord b)) ey in
-    let e3 : fine (type_visits k ms) ≡ u && (t && v) = joined (part_visits BeforeType (Node k) ms) (typed_visits k ms) u (t && v) refl (joined (tries TypeWord t) (part_visits AfterType (Node k) ms) t v (fine-tries TypeWord t) refl) in
+    let e3 : fine (type_visits root k ms) ≡ u && (t && v) = joined (part_visits BeforeType (Node k) ms) (typed_visits root k ms) u (t && v) refl (joined (tries TypeWord t) (part_visits AfterType (Node k) ms) t v (fine-tries TypeWord t) refl) in
     let e4 : fine (map_visits root d ms ++ last) ≡ m && z = joined (map_visits root d ms) last m z em (fine-default root (bare_read root ms) (value_at (word Default) ms)) in
-    joined (additional_visits k ms ++ inner_visits Additional d ms) ((items_visits k ms ++ inner_visits ItemsWord d ms) ++ (type_visits k ms ++ (map_visits root d ms ++ last))) ((p && a) && x) (((q && b) && y) && ((u && (t && v)) && (m && z))) e1 (joined (items_visits k ms ++ inner_visits ItemsWord d ms) (type_visits k ms ++ (map_visits root d ms ++ last)) ((q && b) && y) ((u && (t && v)) && (m && z)) e2 (joined (type_visits k ms) (map_visits root d ms ++ last) (u && (t && v)) (m && z) e3 e4))
+    joined (additional_visits k ms ++ inner_visits Additional d ms) ((items_visits k ms ++ inner_visits ItemsWord d ms) ++ (type_visits root k ms ++ (map_visits root d ms ++ last))) ((p && a) && x) (((q && b) && y) && ((u && (t && v)) && (m && z))) e1 (joined (items_visits k ms ++ inner_visits ItemsWord d ms) (type_visits root k ms ++ (map_visits root d ms ++ last)) ((q && b) && y) ((u && (t && v)) && (m && z)) e2 (joined (type_visits root k ms) (map_visits root d ms ++ last) (u && (t && v)) (m && z) e3 e4))
     ∙ regroup p a x q b y u t v m z ∙ ap (λ (c : Bool). (c && (a && (b && (t && z)))) && (x && (y && m))) (shares k ms)
 
 mutual
@@ -151,13 +151,13 @@ counted-property (Some w) j vs x h = after-keywords 0 (meta_visits w j) (keyword
 
 counted-object : (root : Bool) (d : ℕ) (ms : Members) (x y m : ℕ) → after 0 (inner_visits Additional d ms) ≡ x → after 0 (inner_visits ItemsWord d ms) ≡ y → after 0 (map_visits root d ms) ≡ m → after 0 (object_visits root d ms) ≡ x + (y + m)
 counted-object root d ms x y m ex ey em =
-    let k : Option NodeKind = node_kind root ms in
+    let k : Option NodeKind = node_kind ms in
     let last : List Visit = default_visits root (bare_read root ms) (value_at (word Default) ms) in
     let e1 : after 0 (additional_visits k ms ++ inner_visits Additional d ms) ≡ 0 + x = both_counted (additional_visits k ms) (inner_visits Additional d ms) 0 x (after-keywords 0 (additional_visits k ms) (keywords-additional k ms)) ex in
     let e2 : after 0 (items_visits k ms ++ inner_visits ItemsWord d ms) ≡ 0 + y = both_counted (items_visits k ms) (inner_visits ItemsWord d ms) 0 y (after-keywords 0 (items_visits k ms) (keywords-items k ms)) ey in
     let e4 : after 0 (map_visits root d ms ++ last) ≡ m + 0 = both_counted (map_visits root d ms) last m 0 em (after-keywords 0 last (keywords-default root (bare_read root ms) (value_at (word Default) ms))) in
-    let e3 : after 0 (type_visits k ms ++ (map_visits root d ms ++ last)) ≡ 0 + (m + 0) = both_counted (type_visits k ms) (map_visits root d ms ++ last) 0 (m + 0) (after-keywords 0 (type_visits k ms) (keywords-type k ms)) e4 in
-    let all : after 0 (object_visits root d ms) ≡ (0 + x) + ((0 + y) + (0 + (m + 0))) = both_counted (additional_visits k ms ++ inner_visits Additional d ms) ((items_visits k ms ++ inner_visits ItemsWord d ms) ++ (type_visits k ms ++ (map_visits root d ms ++ last))) (0 + x) ((0 + y) + (0 + (m + 0))) e1 (both_counted (items_visits k ms ++ inner_visits ItemsWord d ms) (type_visits k ms ++ (map_visits root d ms ++ last)) (0 + y) (0 + (m + 0)) e2 e3) in
+    let e3 : after 0 (type_visits root k ms ++ (map_visits root d ms ++ last)) ≡ 0 + (m + 0) = both_counted (type_visits root k ms) (map_visits root d ms ++ last) 0 (m + 0) (after-keywords 0 (type_visits root k ms) (keywords-type root k ms)) e4 in
+    let all : after 0 (object_visits root d ms) ≡ (0 + x) + ((0 + y) + (0 + (m + 0))) = both_counted (additional_visits k ms ++ inner_visits Additional d ms) ((items_visits k ms ++ inner_visits ItemsWord d ms) ++ (type_visits root k ms ++ (map_visits root d ms ++ last))) (0 + x) ((0 + y) + (0 + (m + 0))) e1 (both_counted (items_visits k ms ++ inner_visits ItemsWord d ms) (type_visits root k ms ++ (map_visits root d ms ++ last)) (0 + y) (0 + (m + 0)) e2 e3) in
     all ∙ tidy x y m
   where
     tidy : (x y m : ℕ) → (0 + x) + ((0 + y) + (0 + (m + 0))) ≡ x + (y + m)

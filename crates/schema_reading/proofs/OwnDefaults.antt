@@ -1,6 +1,6 @@
 -- Each default of the schema that an allowed document spells is its own filling.
 use Rattle.std.proofs.Common.{◌≡◌, ℕ, suc, ◌+◌, List, Bool, true, false, ◌&&◌, cond, Option, Some, None, refl, sym, subst}
-use Rattle.std.specs.Prelude.{not, nat_lt, is_some}
+use Rattle.std.specs.Prelude.{not, nat_lt}
 use Rattle.kj_value.specs.Json.{Json, null, boolean, whole, text, list, object, Members, no_members, member, depth}
 use Rattle.struct_schema.specs.Names.{is_name, value_at}
 use Rattle.struct_schema.specs.Shape.{Shape, Shapes, MaybeShapes, MaybeShape, some_shape}
@@ -9,7 +9,7 @@ use Rattle.struct_schema.specs.Stays.{stays}
 use Rattle.struct_schema.specs.Own.{stays_filled}
 use Rattle.struct_schema.specs.OwnDefaults.{IsOwnFilling, HasOwnDefaults, InMap, InShapes, InMaybe}
 use Rattle.schema_reading.specs.Words.{word, passed_type}
-use Rattle.schema_reading.specs.Kind.{node_kind}
+use Rattle.schema_reading.specs.Kind.{node_kind, type_allowed}
 use Rattle.schema_reading.specs.Allowed.{items_allowed, additional_allowed}
 use Rattle.schema_reading.specs.ShapeRead.{with_default, property_read, shape_read, inner_read, map_read, named_read, shapes_read, bare_read}
 use Rattle.schema_reading.specs.Visits.{first_refusal}
@@ -68,7 +68,7 @@ mutual
   in_node root d (list js) h = (tt, tt, tt, tt)
   in_node root d (object ms) h =
       let p = rest_true (nat_lt d (suc MAX_NESTING)) (node_allowed root ms) (inner_allowed Additional d ms) (inner_allowed ItemsWord d ms) (map_allowed root d ms) h in
-      let q = rest_true (names_allowed (node_kind root ms) ms) (additional_allowed (node_kind root ms) ms (value_at (word Additional) ms)) (items_allowed (node_kind root ms) (value_at (word ItemsWord) ms)) (is_some (node_kind root ms)) (no_bad_default root (bare_read root ms) (value_at (word Default) ms)) p.0 in
+      let q = rest_true (names_allowed (node_kind ms) ms) (additional_allowed (node_kind ms) ms (value_at (word Additional) ms)) (items_allowed (node_kind ms) (value_at (word ItemsWord) ms)) (type_allowed root (node_kind ms)) (no_bad_default root (bare_read root ms) (value_at (word Default) ms)) p.0 in
       (own_filling root ms (value_at (word Default) ms) q.3, in_map root d ms p.3, in_inner Additional d ms p.1, in_inner ItemsWord d ms p.2)
 
   in_inner : (w : Keyword) (d : ℕ) (ms : Members) → inner_allowed w d ms ≡ true → InMaybe (inner_read w ms)

@@ -52,13 +52,13 @@ pub keywords-items : (k : Option NodeKind) (ms : Members) → AreKeywords (items
 keywords-items k ms =
     keywords-append (part_visits BeforeItems (Node k) ms) (tries ItemsWord (items_allowed k (value_at (word ItemsWord) ms))) (keywords-part BeforeItems (Node k) ms) (tt, tt)
 
-pub keywords-typed : (k : Option NodeKind) (ms : Members) → AreKeywords (typed_visits k ms)
-keywords-typed k ms =
+pub keywords-typed : (root : Bool) (k : Option NodeKind) (ms : Members) → AreKeywords (typed_visits root k ms)
+keywords-typed root k ms =
     keywords-append (tries TypeWord (is_some k)) (part_visits AfterType (Node k) ms) (tt, tt) (keywords-part AfterType (Node k) ms)
 
-pub keywords-type : (k : Option NodeKind) (ms : Members) → AreKeywords (type_visits k ms)
-keywords-type k ms =
-    keywords-append (part_visits BeforeType (Node k) ms) (typed_visits k ms) (keywords-part BeforeType (Node k) ms) (keywords-typed k ms)
+pub keywords-type : (root : Bool) (k : Option NodeKind) (ms : Members) → AreKeywords (type_visits root k ms)
+keywords-type root k ms =
+    keywords-append (part_visits BeforeType (Node k) ms) (typed_visits root k ms) (keywords-part BeforeType (Node k) ms) (keywords-typed root k ms)
 
 pub keywords-default : (root : Bool) (s : Shape) (o : Option Json) → AreKeywords (default_visits root s o)
 keywords-default root s None = tt

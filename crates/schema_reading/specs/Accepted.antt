@@ -1,13 +1,13 @@
 -- Which documents are schemas, with no walk and no order in it: every keyword at every node is allowed, no node is nested
 -- too deep, and there aren't too many nodes.
-use Rattle.std.specs.Prelude.{◌≡◌, ◌≤◌, ℕ, suc, ◌+◌, List, Bool, true, false, ◌&&◌, ◌||◌, cond, Option, Some, None, is_some, is_none, nat_lt}
+use Rattle.std.specs.Prelude.{◌≡◌, ◌≤◌, ℕ, suc, ◌+◌, List, Bool, true, false, ◌&&◌, ◌||◌, cond, Option, Some, None, is_none, nat_lt}
 use Rattle.std.specs.Str.{bytes_eq}
 use Rattle.kj_value.specs.Json.{Json, null, boolean, whole, text, list, object, Members, no_members, member}
 use Rattle.struct_schema.specs.Names.{is_name, value_at}
 use Rattle.struct_schema.specs.Shape.{Shape}
 use Rattle.struct_schema.specs.declared.kind.NodeKind.{NodeKind}
 use Rattle.schema_reading.specs.Words.{word, passed_type}
-use Rattle.schema_reading.specs.Kind.{node_kind}
+use Rattle.schema_reading.specs.Kind.{node_kind, type_allowed}
 use Rattle.schema_reading.specs.Allowed.{is_allowed, items_allowed, additional_allowed}
 use Rattle.schema_reading.specs.ShapeRead.{bare_read}
 use Rattle.schema_reading.specs.Visits.{default_allowed, is_meta_type}
@@ -33,8 +33,8 @@ no_bad_default root s (Some d) = default_allowed root s d
 -- the keywords of one node
 abbrev pub node_allowed : Bool → Members → Bool
 node_allowed root ms =
-    names_allowed (node_kind root ms) ms && (additional_allowed (node_kind root ms) ms (value_at (word Additional) ms) && (items_allowed (node_kind root ms) (value_at (word ItemsWord) ms)
-    && (is_some (node_kind root ms) && no_bad_default root (bare_read root ms) (value_at (word Default) ms))))
+    names_allowed (node_kind ms) ms && (additional_allowed (node_kind ms) ms (value_at (word Additional) ms) && (items_allowed (node_kind ms) (value_at (word ItemsWord) ms)
+    && (type_allowed root (node_kind ms) && no_bad_default root (bare_read root ms) (value_at (word Default) ms))))
 
 -- one of the three names that the root passes over
 abbrev pub meta_names : Members → Bool

@@ -34,9 +34,10 @@ abbrev pub is_mixed_kind : Option NodeKind → Bool
 is_mixed_kind (Some IntOrText) = true
 is_mixed_kind _ = false
 
--- where unknown names may be kept
+-- where unknown names may be kept: an object, and a node without `type`
 abbrev pub is_open_kind : Option NodeKind → Bool
 is_open_kind (Some Object) = true
+is_open_kind (Some IntOrText) = true
 is_open_kind (Some Any) = true
 is_open_kind _ = false
 

@@ -1,5 +1,5 @@
 -- What a node of a schema document asks of a value's kind.
-use Rattle.std.specs.Prelude.{ℕ, List, Bool, true, false, Option, Some, None, cond, codes}
+use Rattle.std.specs.Prelude.{ℕ, List, Bool, true, false, Option, Some, None, is_some, cond, codes}
 use Rattle.std.specs.Str.{bytes_eq}
 use Rattle.kj_value.specs.Json.{Json, null, boolean, whole, text, list, object, Members}
 use Rattle.struct_schema.specs.Names.{value_at}
@@ -22,18 +22,14 @@ is_object_kind (Some Truth) = false
 is_object_kind (Some IntOrText) = false
 is_object_kind (Some Any) = false
 
--- the root is an object
-abbrev pub at_place : Bool → Option NodeKind → Option NodeKind
-at_place root k = cond root (cond (is_object_kind k) k None) k
-
 -- the value of `type`
-abbrev pub type_kind : Bool → Json → Option NodeKind
-type_kind root (text t) = at_place root (type_named t)
-type_kind root null = None
-type_kind root (boolean b) = None
-type_kind root (whole z) = None
-type_kind root (list js) = None
-type_kind root (object ms) = None
+abbrev pub type_kind : Json → Option NodeKind
+type_kind (text t) = type_named t
+type_kind null = None
+type_kind (boolean b) = None
+type_kind (whole z) = None
+type_kind (list js) = None
+type_kind (object ms) = None
 
 -- a truth value that is true
 abbrev pub is_yes : Option Json → Bool
@@ -45,15 +41,19 @@ is_yes (Some (text t)) = false
 is_yes (Some (list js)) = false
 is_yes (Some (object ms)) = false
 
--- the two nodes without `type`, neither of which is the root
-abbrev pub untyped_kind : Bool → Members → Option NodeKind
-untyped_kind root ms =
-    cond root None (cond (is_yes (value_at (word IntOrString) ms)) (Some IntOrText) (cond (is_yes (value_at (word Preserve) ms)) (Some Any) None))
+-- the two nodes without `type`; one that asks for both is one of a whole number or a text
+abbrev pub untyped_kind : Members → Option NodeKind
+untyped_kind ms =
+    cond (is_yes (value_at (word IntOrString) ms)) (Some IntOrText) (cond (is_yes (value_at (word Preserve) ms)) (Some Any) None)
 
-abbrev pub kind_by : Bool → Option Json → Members → Option NodeKind
-kind_by root None ms = untyped_kind root ms
-kind_by root (Some j) ms = type_kind root j
+abbrev pub kind_by : Option Json → Members → Option NodeKind
+kind_by None ms = untyped_kind ms
+kind_by (Some j) ms = type_kind j
 
--- the kind of a node; none where the document says none
-abbrev pub node_kind : Bool → Members → Option NodeKind
-node_kind root ms = kind_by root (value_at (word TypeWord) ms) ms
+-- the kind of a node, by which its keywords are judged; none where the document says none
+abbrev pub node_kind : Members → Option NodeKind
+node_kind ms = kind_by (value_at (word TypeWord) ms) ms
+
+-- a node has a kind, and the root is an object
+abbrev pub type_allowed : Bool → Option NodeKind → Bool
+type_allowed root k = cond root (is_object_kind k) (is_some k)

@@ -47,7 +47,7 @@ is_counted root n = is_none (passed_type root n)
 
 abbrev pub own_read : Bool → Members → Own
 own_read root ms = record {
-  kind = kind_or_any (node_kind root ms);
+  kind = kind_or_any (node_kind ms);
   preserve = is_yes (value_at (word Preserve) ms);
   nullable = is_yes (value_at (word Nullable) ms);
   choices = choices_of (value_at (word Enum) ms);

@@ -1,6 +1,6 @@
 -- What a walk over a schema document tries, in its order: the node, its keywords by name with the schema under `items` or
 -- `additionalProperties` at that keyword's place, the properties by name, and the default.
-use Rattle.std.specs.Prelude.{ℕ, suc, ◌+◌, List, [], ◌∷◌, ◌++◌, Bool, true, false, ◌&&◌, not, cond, Option, Some, None, is_some, is_none, nat_lt}
+use Rattle.std.specs.Prelude.{ℕ, suc, ◌+◌, List, [], ◌∷◌, ◌++◌, Bool, true, false, ◌&&◌, not, cond, Option, Some, None, is_none, nat_lt}
 use Rattle.std.specs.Ordering.{nat_cmp, is_lt}
 use Rattle.std.specs.Cmp.Lexicographic.{slice_cmp}
 use Rattle.kj_value.specs.Json.{Json, null, boolean, whole, text, list, object, Members, no_members, member, depth}
@@ -12,7 +12,7 @@ use Rattle.struct_schema.specs.Stays.{stays}
 use Rattle.std.specs.Str.{bytes_eq}
 use Rattle.struct_schema.specs.declared.kind.NodeKind.{NodeKind}
 use Rattle.schema_reading.specs.Words.{word, passed_type}
-use Rattle.schema_reading.specs.Kind.{node_kind}
+use Rattle.schema_reading.specs.Kind.{node_kind, type_allowed}
 use Rattle.schema_reading.specs.Allowed.{is_allowed, items_allowed, additional_allowed}
 use Rattle.schema_reading.specs.ShapeRead.{bare_read}
 use Rattle.schema_reading.specs.Visit.{entered, keyword, Visit, Refusal, here, within, first}
@@ -82,11 +82,11 @@ property_visits None j vs = vs
 property_visits (Some w) j vs = meta_visits w j
 
 -- `type`, with the keywords behind it, and with those before it
-abbrev pub typed_visits : Option NodeKind → Members → List Visit
-typed_visits k ms = tries TypeWord (is_some k) ++ part_visits AfterType (Node k) ms
+abbrev pub typed_visits : Bool → Option NodeKind → Members → List Visit
+typed_visits root k ms = tries TypeWord (type_allowed root k) ++ part_visits AfterType (Node k) ms
 
-abbrev pub type_visits : Option NodeKind → Members → List Visit
-type_visits k ms = part_visits BeforeType (Node k) ms ++ typed_visits k ms
+abbrev pub type_visits : Bool → Option NodeKind → Members → List Visit
+type_visits root k ms = part_visits BeforeType (Node k) ms ++ typed_visits root k ms
 
 -- the keyword `additionalProperties` or `items`, with those before it
 abbrev pub additional_visits : Option NodeKind → Members → List Visit
@@ -106,9 +106,9 @@ abbrev mutual
   visits root d (text t) = here (entered d) ∷ tries TypeWord false
   visits root d (list js) = here (entered d) ∷ tries TypeWord false
   visits root d (object ms) =
-      here (entered d) ∷ ((additional_visits (node_kind root ms) ms ++ inner_visits Additional d ms)
-      ++ ((items_visits (node_kind root ms) ms ++ inner_visits ItemsWord d ms)
-      ++ (type_visits (node_kind root ms) ms
+      here (entered d) ∷ ((additional_visits (node_kind ms) ms ++ inner_visits Additional d ms)
+      ++ ((items_visits (node_kind ms) ms ++ inner_visits ItemsWord d ms)
+      ++ (type_visits root (node_kind ms) ms
       ++ (map_visits root d ms
       ++ default_visits root (bare_read root ms) (value_at (word Default) ms)))))
 
@@ -137,8 +137,8 @@ abbrev mutual
 -- a node that is an object, once it is counted
 abbrev pub object_visits : Bool → ℕ → Members → List Visit
 object_visits root d ms =
-    (additional_visits (node_kind root ms) ms ++ inner_visits Additional d ms) ++ ((items_visits (node_kind root ms) ms ++ inner_visits ItemsWord d ms)
-    ++ (type_visits (node_kind root ms) ms ++ (map_visits root d ms ++ default_visits root (bare_read root ms) (value_at (word Default) ms))))
+    (additional_visits (node_kind ms) ms ++ inner_visits Additional d ms) ++ ((items_visits (node_kind ms) ms ++ inner_visits ItemsWord d ms)
+    ++ (type_visits root (node_kind ms) ms ++ (map_visits root d ms ++ default_visits root (bare_read root ms) (value_at (word Default) ms))))
 
 -- the first refusal of the walk over a whole document
 abbrev pub first_refusal : Json → Option Refusal

@@ -38,7 +38,10 @@ fn is_mixed_kind(kind: Option<NodeKind>) -> bool
 fn is_open_kind(kind: Option<NodeKind>) -> bool
     ensures { result ≡ is_open_kind kind }
 {
-    matches!(kind, Some(NodeKind::Object) | Some(NodeKind::Any))
+    matches!(
+        kind,
+        Some(NodeKind::Object) | Some(NodeKind::IntOrText) | Some(NodeKind::Any)
+    )
 }
 
 fn is_truth(v: &JVal) -> bool

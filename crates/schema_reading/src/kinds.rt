@@ -4,7 +4,7 @@ ghost use Rattle.kj_value.specs.Json.{members_of};
 ghost use Rattle.kj_value.specs.Seen.{json};
 ghost use Rattle.struct_schema.specs.Names.{value_at};
 ghost use Rattle.schema_reading.specs.Words.{word};
-ghost use Rattle.schema_reading.specs.Kind.{type_named, is_object_kind, at_place, type_kind, is_yes, untyped_kind, kind_by, node_kind};
+ghost use Rattle.schema_reading.specs.Kind.{type_named, is_object_kind, type_kind, is_yes, untyped_kind, kind_by, node_kind, type_allowed};
 
 use crate::words::Keyword;
 use kj_value::{JFields, JVal};
@@ -52,22 +52,12 @@ pub(crate) fn is_object_kind(kind: Option<NodeKind>) -> bool
     matches!(kind, Some(NodeKind::Object))
 }
 
-fn at_place(root: bool, kind: Option<NodeKind>) -> Option<NodeKind>
-    ensures { result ≡ at_place root kind }
-{
-    if root {
-        if is_object_kind(kind) { kind } else { None }
-    } else {
-        kind
-    }
-}
-
 // The kind that `type` names.
-fn type_kind(root: bool, v: &JVal) -> Option<NodeKind>
-    ensures { result ≡ type_kind root (json v.now) }
+fn type_kind(v: &JVal) -> Option<NodeKind>
+    ensures { result ≡ type_kind (json v.now) }
 {
     match v {
-        JVal::Text(t) => at_place(root, type_named(t.as_str())),
+        JVal::Text(t) => type_named(t.as_str()),
         JVal::Null => None,
         JVal::Bool(_) => None,
         JVal::Int(_) => None,
@@ -92,12 +82,9 @@ pub(crate) fn is_yes(v: Option<&JVal>) -> bool
 }
 
 // The kind of a node without `type`.
-fn untyped_kind(root: bool, fields: &JFields) -> Option<NodeKind>
-    ensures { result ≡ untyped_kind root (members_of fields.now) }
+fn untyped_kind(fields: &JFields) -> Option<NodeKind>
+    ensures { result ≡ untyped_kind (members_of fields.now) }
 {
-    if root {
-        return None;
-    }
     if is_yes(value_at(fields, Keyword::IntOrString)) {
         return Some(NodeKind::IntOrText);
     }
@@ -108,11 +95,22 @@ fn untyped_kind(root: bool, fields: &JFields) -> Option<NodeKind>
 }
 
 // The kind of a node, where its document says one.
-pub(crate) fn node_kind(root: bool, fields: &JFields) -> Option<NodeKind>
-    ensures { result ≡ node_kind root (members_of fields.now) }
+pub(crate) fn node_kind(fields: &JFields) -> Option<NodeKind>
+    ensures { result ≡ node_kind (members_of fields.now) }
 {
     match value_at(fields, Keyword::Kind) {
-        None => untyped_kind(root, fields),
-        Some(v) => type_kind(root, v),
+        None => untyped_kind(fields),
+        Some(v) => type_kind(v),
+    }
+}
+
+// Whether a node of this kind may stand there: the root is an object.
+pub(crate) fn type_allowed(root: bool, kind: Option<NodeKind>) -> bool
+    ensures { result ≡ type_allowed root kind }
+{
+    if root {
+        is_object_kind(kind)
+    } else {
+        kind.is_some()
     }
 }

@@ -108,7 +108,7 @@ pub(crate) fn read_own(alloc: Global, root: bool, fields: &JFields) -> Result<Sc
     let choices = choices_at(alloc, fields)?;
     let required = names_at(alloc, root, fields)?;
     Ok(Schema {
-        kind: kind_or_any(node_kind(root, fields)),
+        kind: kind_or_any(node_kind(fields)),
         preserve: is_yes_at(fields, Keyword::Preserve),
         nullable: is_yes_at(fields, Keyword::Nullable),
         choices,

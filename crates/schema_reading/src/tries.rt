@@ -9,7 +9,7 @@ ghost use Rattle.schema_reading.specs.Visits.{in_part, is_below, unallowed, is_m
 ghost use Rattle.schema_reading.specs.Told.{Stops};
 
 use crate::keywords::{additional_allowed, is_allowed, items_allowed};
-use crate::kinds::{is_absent, value_at};
+use crate::kinds::{is_absent, type_allowed, value_at};
 use crate::trouble::{Stop, refused_here};
 use crate::words::{Keyword, Part, Scope};
 use kj_value::{JFields, JVal};
@@ -173,23 +173,33 @@ pub(crate) fn try_items(alloc: Global, kind: Option<NodeKind>, fields: &JFields)
 }
 
 // `type`, and what comes behind it.
-fn try_typed(alloc: Global, kind: Option<NodeKind>, fields: &JFields) -> Result<(), Stop>
-    ensures { let o = first 0 (typed_visits kind (members_of fields.now)) in
+fn try_typed(
+    alloc: Global,
+    root: bool,
+    kind: Option<NodeKind>,
+    fields: &JFields,
+) -> Result<(), Stop>
+    ensures { let o = first 0 (typed_visits root kind (members_of fields.now)) in
         MatchResult result (λ _. o ≡ None) (λ e. Stops o e) }
 {
-    match try_keyword(alloc, Keyword::Kind, kind.is_some()) {
+    match try_keyword(alloc, Keyword::Kind, type_allowed(root, kind)) {
         Err(stop) => Err(stop),
         Ok(()) => try_part(alloc, Part::AfterType, Scope::Node(kind), fields),
     }
 }
 
 // The rest, with `type`.
-pub(crate) fn try_type(alloc: Global, kind: Option<NodeKind>, fields: &JFields) -> Result<(), Stop>
-    ensures { let o = first 0 (type_visits kind (members_of fields.now)) in
+pub(crate) fn try_type(
+    alloc: Global,
+    root: bool,
+    kind: Option<NodeKind>,
+    fields: &JFields,
+) -> Result<(), Stop>
+    ensures { let o = first 0 (type_visits root kind (members_of fields.now)) in
         MatchResult result (λ _. o ≡ None) (λ e. Stops o e) }
 {
     match try_part(alloc, Part::BeforeType, Scope::Node(kind), fields) {
         Err(stop) => Err(stop),
-        Ok(()) => try_typed(alloc, kind, fields),
+        Ok(()) => try_typed(alloc, root, kind, fields),
     }
 }

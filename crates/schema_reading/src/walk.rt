@@ -165,7 +165,7 @@ fn read_object(
     ensures walk { let v = object_visits root depth (members_of fields.now) in
         MatchResult result (λ _. Passes nodes.old nodes.new v) (λ e. Stops (first nodes.old v) e) }
 {
-    let kind = node_kind(root, fields);
+    let kind = node_kind(fields);
     match try_additional(alloc, kind, fields) {
         Ok(()) => {}
         Err(stop) => return Err(stop),
@@ -182,7 +182,7 @@ fn read_object(
         Ok(inner) => inner,
         Err(stop) => return Err(stop),
     };
-    match try_type(alloc, kind, fields) {
+    match try_type(alloc, root, kind, fields) {
         Ok(()) => {}
         Err(stop) => return Err(stop),
     }
