@@ -1,4 +1,5 @@
 pub mod Lookup
+pub mod Sizes
 pub mod Missing
 pub mod Level
 pub mod Fillings

@@ -1,20 +1,28 @@
 //! The defaults of names that aren't there.
-ghost use Rattle.std.specs.Prelude.{◌≡◌, ℕ, List, None, IfOk, OnOk, cond, map, is_some, is_none, ◌||◌};
+ghost use Rattle.std.specs.Prelude.{◌≡◌, ◌≤◌, ◌+◌, ℕ, List, None, IfOk, OnOk, cond, map, is_some, is_none, ◌||◌};
 ghost use Rattle.kj_value.specs.Json.{members_of};
 ghost use Rattle.struct_schema.specs.Shape.{map_of, shapes_of};
 ghost use Rattle.struct_schema.specs.ShapeOf.{own_of, named_shape};
 ghost use Rattle.struct_schema.specs.Names.{is_name, property, value_at};
 ghost use Rattle.struct_schema.specs.Stays.{each_default};
 ghost use Rattle.prune_default.specs.Missing.{default_of, first_default, or_value};
+ghost use Rattle.prune_default.specs.Size.{members_size};
 
+use crate::room::take_field;
 use kj_value::{Field, JFields, NoMemory, Txt, copy};
 use std::alloc::Global;
 use struct_schema::{Schema, SchemaField};
 
 // Sets the default of each property that has one and isn't there.
-pub(crate) fn set_defaults(alloc: Global, s: &Schema, fields: JFields) -> Result<JFields, NoMemory>
-    ensures { IfOk result (λ ns. (n : List ℕ) → value_at n (members_of ns)
+pub(crate) fn set_defaults(
+    alloc: Global,
+    s: &Schema,
+    fields: JFields,
+    room: &mut u64,
+) -> Result<JFields, NoMemory>
+    ensures set { IfOk result (λ ns. (n : List ℕ) → value_at n (members_of ns)
         ≡ or_value (value_at n (members_of fields)) (default_of (property n (map_of s.now.properties)))) }
+    ensures within { IfOk result (λ ns. members_size (members_of ns) + room.new ≤ members_size (members_of fields) + room.old) }
 {
     match &s.properties {
         None => Ok(fields),
@@ -22,7 +30,7 @@ pub(crate) fn set_defaults(alloc: Global, s: &Schema, fields: JFields) -> Result
             if needs_no_default(properties.as_slice(), &fields) {
                 Ok(fields)
             } else {
-                merge(alloc, properties.as_slice(), fields)
+                merge(alloc, properties.as_slice(), fields, room)
             }
         }
     }
@@ -60,18 +68,24 @@ fn is_there(fields: &JFields, name: &str) -> bool
 }
 
 // The names of both rise, and are set in their common order, so that each goes to the end.
-fn merge(alloc: Global, properties: &[SchemaField], fields: JFields) -> Result<JFields, NoMemory>
-    ensures { IfOk result (λ ns. (n : List ℕ) → value_at n (members_of ns)
+fn merge(
+    alloc: Global,
+    properties: &[SchemaField],
+    fields: JFields,
+    room: &mut u64,
+) -> Result<JFields, NoMemory>
+    ensures set { IfOk result (λ ns. (n : List ℕ) → value_at n (members_of ns)
         ≡ or_value (value_at n (members_of fields)) (first_default n (shapes_of (map named_shape properties.now)))) }
+    ensures within { IfOk result (λ ns. members_size (members_of ns) + room.new ≤ members_size (members_of fields) + room.old) }
 {
     let mut filled = JFields::new(alloc);
     let mut rest = properties;
     for f in fields.into_vec() {
         let Field { name, value } = f;
-        rest = set_before(alloc, rest, name.as_str(), &mut filled)?;
+        rest = set_before(alloc, rest, name.as_str(), &mut filled, room)?;
         filled.set(name, value)?;
     }
-    set_all(alloc, rest, &mut filled)?;
+    set_all(alloc, rest, &mut filled, room)?;
     Ok(filled)
 }
 
@@ -81,40 +95,55 @@ fn set_before<'a>(
     properties: &'a [SchemaField],
     name: &str,
     filled: &mut JFields,
+    room: &mut u64,
 ) -> Result<&'a [SchemaField], NoMemory>
-    ensures { IfOk result (λ rest. (n : List ℕ)
+    ensures set { IfOk result (λ rest. (n : List ℕ)
         → or_value (value_at n (members_of filled.new)) (first_default n (shapes_of (map named_shape rest.now)))
         ≡ or_value (value_at n (members_of filled.old)) (first_default n (shapes_of (map named_shape properties.now)))) }
+    ensures within { OnOk result (members_size (members_of filled.new) + room.new ≤ members_size (members_of filled.old) + room.old) }
 {
     for i in 0..properties.len() {
         if properties[i].name.as_str() >= name {
             return Ok(&properties[i..]);
         }
-        set_missing(alloc, &properties[i], filled)?;
+        set_missing(alloc, &properties[i], filled, room)?;
     }
     Ok(&properties[properties.len()..])
 }
 
-fn set_all(alloc: Global, properties: &[SchemaField], filled: &mut JFields) -> Result<(), NoMemory>
-    ensures { OnOk result ((n : List ℕ) → value_at n (members_of filled.new)
+fn set_all(
+    alloc: Global,
+    properties: &[SchemaField],
+    filled: &mut JFields,
+    room: &mut u64,
+) -> Result<(), NoMemory>
+    ensures set { OnOk result ((n : List ℕ) → value_at n (members_of filled.new)
         ≡ or_value (value_at n (members_of filled.old)) (first_default n (shapes_of (map named_shape properties.now)))) }
+    ensures within { OnOk result (members_size (members_of filled.new) + room.new ≤ members_size (members_of filled.old) + room.old) }
 {
     for p in properties {
-        set_missing(alloc, p, filled)?;
+        set_missing(alloc, p, filled, room)?;
     }
     Ok(())
 }
 
 // Sets the property's default, where it has one and the name isn't there.
-fn set_missing(alloc: Global, property: &SchemaField, filled: &mut JFields) -> Result<(), NoMemory>
-    ensures { OnOk result ((n : List ℕ) → value_at n (members_of filled.new)
+fn set_missing(
+    alloc: Global,
+    property: &SchemaField,
+    filled: &mut JFields,
+    room: &mut u64,
+) -> Result<(), NoMemory>
+    ensures set { OnOk result ((n : List ℕ) → value_at n (members_of filled.new)
         ≡ or_value (value_at n (members_of filled.old))
         (cond (is_name n property.now.name.bytes) (own_of property.now.schema).default_value None)) }
+    ensures within { OnOk result (members_size (members_of filled.new) + room.new ≤ members_size (members_of filled.old) + room.old) }
 {
     if let Some(value) = &property.schema.default_value {
         if is_there(filled, property.name.as_str()) {
             return Ok(());
         }
+        take_field(room, property.name.as_str(), value)?;
         let name = Txt::of(alloc, property.name.as_str())?;
         filled.set(name, copy(alloc, value)?)?;
     }

@@ -13,6 +13,8 @@
 mod defaults;
 mod filling;
 mod laws;
+mod room;
 
 pub use filling::fill;
 pub use laws::{filled_again, one_filling};
+pub use room::FILLING_ROOM;
