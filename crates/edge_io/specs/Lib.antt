@@ -11,3 +11,5 @@ pub mod Returned
 pub mod Stamps
 pub mod Sends
 pub mod Sending
+pub mod Exchanges
+pub mod MemoryLink
