@@ -15,10 +15,14 @@ dot = 46
 abbrev pub is_label_byte : ℕ → Bool
 is_label_byte b = is_ascii_lowercase b || is_ascii_digit b || (b == hyphen)
 
--- not empty, first and last no hyphen, of lower-case letters, digits and hyphens
+-- not empty, first and last no hyphen
+abbrev pub has_good_ends : List ℕ → Bool
+has_good_ends part =
+    nat_le 1 (length part) && not (starts_with nat_eq part (hyphen ∷ [])) && not (ends_with nat_eq part (hyphen ∷ []))
+
+-- that, of lower-case letters, digits and hyphens
 abbrev pub is_label : List ℕ → Bool
-is_label part =
-    nat_le 1 (length part) && not (starts_with nat_eq part (hyphen ∷ [])) && not (ends_with nat_eq part (hyphen ∷ [])) && list_all is_label_byte part
+is_label part = has_good_ends part && list_all is_label_byte part
 
 -- a label of at most 63 bytes
 unfoldable pub is_namespace : List ℕ → Bool

@@ -14,6 +14,6 @@ mod spot;
 pub use document::write_object;
 pub use key::{Key, NAME_BYTES, NAMESPACE_BYTES};
 pub use limits::{Condition, Limits, Room, RoomKind};
-pub use names::{name_ok, namespace_ok};
+pub use names::{has_good_ends, name_ok, namespace_ok};
 pub use object::{Meta, Object};
 pub use spot::{KeySpot, NameSpot};

@@ -1,7 +1,7 @@
 //! Which texts are namespaces and names.
 ghost use Rattle.std.specs.Prelude.{◌≡◌, ◌==◌};
 ghost use Rattle.std.specs.List.{list_all, slice_split};
-ghost use Rattle.kube_meta.specs.Names.{dot, is_label_byte, is_label, is_namespace, is_name};
+ghost use Rattle.kube_meta.specs.Names.{dot, has_good_ends, is_label_byte, is_label, is_namespace, is_name};
 
 use crate::key::{NAME_BYTES, NAMESPACE_BYTES};
 
@@ -32,16 +32,20 @@ fn labels_ok(text: &[u8]) -> bool
 fn label_ok(part: &[u8]) -> bool
     ensures { result ≡ is_label part.now }
 {
+    has_good_ends(part) && part.iter().all(|b| label_byte_ok(*b))
+}
+
+/// Whether a part of a name isn't empty, and neither its first nor its last byte is a hyphen.
+pub fn has_good_ends(part: &[u8]) -> bool
+    ensures { result ≡ has_good_ends part.now }
+{
     if part.is_empty() {
         return false;
     }
     if part.starts_with(b"-") {
         return false;
     }
-    if part.ends_with(b"-") {
-        return false;
-    }
-    part.iter().all(|b| label_byte_ok(*b))
+    !part.ends_with(b"-")
 }
 
 fn label_byte_ok(byte: u8) -> bool

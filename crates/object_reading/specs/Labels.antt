@@ -2,7 +2,7 @@
 use Rattle.std.specs.Prelude.{ℕ, ◌-◌, Bool, false, ◌&&◌, ◌||◌, not, List, [], ◌∷◌, Option, None, Some, length, slice_get, nat_eq, ◌==◌, nat_le, nat_lt, if◌then◌else◌}
 use Rattle.std.specs.Char.{is_ascii_alphanumeric}
 use Rattle.std.specs.List.{list_all, slice_split, starts_with, ends_with, position_or_len, before_first, after_first}
-use Rattle.kube_meta.specs.Names.{hyphen, dot, is_name}
+use Rattle.kube_meta.specs.Names.{hyphen, dot, has_good_ends, is_name}
 use Rattle.kube_meta.specs.declared.key.TheConstants.{NAME_BYTES}
 use Rattle.object_reading.specs.declared.labels.TheConstants.{KEY_NAME_BYTES}
 
@@ -32,8 +32,7 @@ abbrev pub is_prefix_byte : ℕ → Bool
 is_prefix_byte b = is_ascii_alphanumeric b || (b == hyphen)
 
 abbrev pub is_prefix_part : List ℕ → Bool
-is_prefix_part part =
-    nat_le 1 (length part) && not (starts_with nat_eq part (hyphen ∷ [])) && not (ends_with nat_eq part (hyphen ∷ [])) && list_all is_prefix_byte part
+is_prefix_part part = has_good_ends part && list_all is_prefix_byte part
 
 -- a name where letters may be capitals: parts with dots between them, at most 253 bytes in all
 unfoldable pub is_prefix : List ℕ → Bool

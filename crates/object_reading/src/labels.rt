@@ -4,7 +4,7 @@ ghost use Rattle.std.specs.List.{list_all, slice_split, before_first, after_firs
 ghost use Rattle.kube_meta.specs.Names.{dot};
 ghost use Rattle.object_reading.specs.Labels.{is_alphanumeric, is_key_byte, is_key_name, is_prefix_byte, is_prefix_part, is_prefix, is_slash, has_slash, is_label_key, is_annotation_key, is_label_value};
 
-use kube_meta::{NAME_BYTES, name_ok};
+use kube_meta::{NAME_BYTES, has_good_ends, name_ok};
 
 /// The most bytes of the name in a key, and of a label's value.
 pub const KEY_NAME_BYTES: usize = 63;
@@ -103,16 +103,7 @@ fn prefix_parts_ok(text: &[u8]) -> bool
 fn prefix_part_ok(part: &[u8]) -> bool
     ensures { result ≡ is_prefix_part part.now }
 {
-    if part.is_empty() {
-        return false;
-    }
-    if part.starts_with(b"-") {
-        return false;
-    }
-    if part.ends_with(b"-") {
-        return false;
-    }
-    part.iter().all(|b| prefix_byte_ok(*b))
+    has_good_ends(part) && part.iter().all(|b| prefix_byte_ok(*b))
 }
 
 fn prefix_byte_ok(byte: u8) -> bool

@@ -1,19 +1,15 @@
-use Rattle.std.proofs.Common.{◌≡◌, ℕ, List, [], ◌∷◌, length, Bool, true, false, rules, sym, ◌∙◌}
-use Rattle.std.specs.Prelude.{◌&&◌, not, nat_le, ◌==◌}
+use Rattle.std.proofs.Common.{◌≡◌, Bool, true, rules, sym, ◌∙◌}
+use Rattle.std.specs.Prelude.{◌&&◌}
 use Rattle.std.proofs.lemmas.Iterator.{YieldsList-from_slice}
 use Rattle.std.proofs.lemmas.Iterator.Search.{all_from_yields_List}
 use borrow.Author.Tests.{tests}
 use Rattle.kube_meta.specs.Names.{is_label_byte}
 use Rattle.kube_meta.proofs.names.label_ok.Goals as goal
 
-filled : (part : List ℕ) (empty : Bool) → empty ≡ (length part == 0) → empty ≡ false → nat_le 1 (length part) ≡ true
-filled [] empty e f = absurd (cc)
-filled (b ∷ bs) empty e f = search (rules, tests)
+both_hold : (ends plain r : Bool) → ends ≡ true → r ≡ plain → r ≡ (ends && plain)
+both_hold ends plain r e h = rw e h
 
-all_tests : (some starts ends plain r : Bool) → some ≡ true → starts ≡ false → ends ≡ false → r ≡ plain → r ≡ (some && not starts && not ends && plain)
-all_tests some starts ends plain r e f g h = rw (e, f, g) h
-
-pub returns : goal.returns
-returns c =
+pub returns-then-has_good_ends : goal.returns-then-has_good_ends
+returns-then-has_good_ends c =
     let plain = all_from_yields_List is_label_byte _ _ _ c.all.ensures.ran (YieldsList-from_slice c.args.part.now cc) (λ x b q k. search (rules, tests)) in
-    all_tests _ _ _ _ _ (filled _ _ c.is_empty.ensures c.if-is_empty.false) (sym c.starts_with.ensures.value ∙ c.if-starts_with.false) (sym c.ends_with.ensures.value ∙ c.if-ends_with.false) plain
+    both_hold _ _ _ (sym c.has_good_ends.ensures ∙ c.if-has_good_ends.true) plain
