@@ -139,15 +139,7 @@ fn meta_of(alloc: Global, mut fields: JFields) -> Result<Meta, NoMemory>
 fn text_of(value: Option<JVal>) -> Option<Txt>
     ensures { option_map bytes_of result ≡ text_at (option_map json value) }
 {
-    match value {
-        Some(JVal::Text(text)) => Some(text),
-        Some(JVal::Null) => None,
-        Some(JVal::Bool(_)) => None,
-        Some(JVal::Int(_)) => None,
-        Some(JVal::List(_)) => None,
-        Some(JVal::Obj(_)) => None,
-        None => None,
-    }
+    value?.into_text()
 }
 
 fn text_or_empty(alloc: Global, value: Option<JVal>) -> Txt
@@ -199,32 +191,26 @@ fn moment(text: &str) -> Option<Stamp>
     Some(Stamp { text })
 }
 
-#[tactic(auto, using(crate::proofs::Lists::pairs_members))]
 fn fields_of(alloc: Global, value: Option<JVal>) -> JFields
     ensures { result ≡ object_at (option_map json value) }
 {
-    match value {
-        Some(JVal::Obj(fields)) => fields,
-        Some(JVal::Null) => JFields::new(alloc),
-        Some(JVal::Bool(_)) => JFields::new(alloc),
-        Some(JVal::Int(_)) => JFields::new(alloc),
-        Some(JVal::Text(_)) => JFields::new(alloc),
-        Some(JVal::List(_)) => JFields::new(alloc),
+    let Some(value) = value else {
+        return JFields::new(alloc);
+    };
+    match value.into_object() {
+        Some(fields) => fields,
         None => JFields::new(alloc),
     }
 }
 
-#[tactic(auto, using(crate::proofs::Lists::list_items))]
 fn items_of(alloc: Global, value: Option<JVal>) -> JItems
     ensures { result ≡ list_at (option_map json value) }
 {
-    match value {
-        Some(JVal::List(items)) => items,
-        Some(JVal::Null) => JItems::new(alloc),
-        Some(JVal::Bool(_)) => JItems::new(alloc),
-        Some(JVal::Int(_)) => JItems::new(alloc),
-        Some(JVal::Text(_)) => JItems::new(alloc),
-        Some(JVal::Obj(_)) => JItems::new(alloc),
+    let Some(value) = value else {
+        return JItems::new(alloc);
+    };
+    match value.into_list() {
+        Some(items) => items,
         None => JItems::new(alloc),
     }
 }
