@@ -1,5 +1,6 @@
 pub mod Key
 pub mod KeyOrder
+pub mod ByKey
 pub mod Names
 pub mod View
 pub mod Document
