@@ -9,3 +9,4 @@ pub mod Living
 pub mod Apart
 pub mod Canonical
 pub mod InWords
+pub mod Left

@@ -1,12 +1,14 @@
 //! Laws of objects with kept entries. Each function does nothing, and its clause is the law.
-ghost use Rattle.std.specs.Prelude.{◌≡◌, true};
+ghost use Rattle.std.specs.Prelude.{◌≡◌, ◌↔◌, true};
 ghost use Rattle.kept_entries.specs.Entry.{are_in_order};
+ghost use Rattle.kept_entries.specs.declared.entry.Entry.{Entry};
 ghost use Rattle.hub_cells.specs.Side as sides;
 ghost use Rattle.hub_cells.specs.Level.{Level, NoNameTwice};
 ghost use Rattle.keep_laws.specs.Whole.{Held, Ready, IsWhole, IsPair, IsTheOne, marks_of, other_object};
 ghost use Rattle.keep_laws.specs.Settle.{IsAllowed, settled, converted};
 ghost use Rattle.keep_laws.specs.Known.{IsKnown};
-ghost use Rattle.keep_laws.specs.Words.{IsSettledObject};
+ghost use Rattle.keep_laws.specs.Alive.{AliveAt};
+ghost use Rattle.keep_laws.specs.Words.{Has, Parts, IsSettledObject};
 
 /// Each whole object of the hub is paired with exactly one of the spoke, which is whole, and each whole
 /// object of the spoke with exactly one of the hub.
@@ -28,22 +30,27 @@ pub fn over_and_back()
 {}
 
 /// Taking out dead entries gives a whole object and leaves the fields as they are; a whole object has
-/// none.
+/// none. What goes is the dead entries and nothing else.
 pub fn settling()
     ensures whole { (d : sides.Side) (l : Level) (x : Held) → Ready l → IsAllowed d l (marks_of d l x)
         → IsWhole d l (settled d l x) }
     ensures fields { (d : sides.Side) (l : Level) (x : Held) → NoNameTwice d l → IsKnown d l x.fields
         → (settled d l x).fields ≡ x.fields }
+    ensures left { (d : sides.Side) (l : Level) (x : Held) → NoNameTwice (sides.other d) l → Parts x.entries
+        → (e : Entry) → Has e (settled d l x).entries ↔ (Has e x.entries × AliveAt d l x.fields x.entries e.at e.was) }
     ensures stays { (d : sides.Side) (l : Level) (x : Held) → IsWhole d l x → settled d l x ≡ x }
 {}
 
 /// Converting an object that its schema allows gives a whole one, and converting that back gives the
-/// object without its dead entries.
+/// object without its dead entries: those that were alive, and no others.
 pub fn converting()
     ensures whole { (d : sides.Side) (l : Level) (x : Held) → Ready l → IsAllowed d l (marks_of d l x)
         → IsWhole (sides.other d) l (converted d l x) }
     ensures back { (d : sides.Side) (l : Level) (x : Held) → Ready l → IsAllowed d l (marks_of d l x)
         → converted (sides.other d) l (converted d l x) ≡ settled d l x }
+    ensures left { (d : sides.Side) (l : Level) (x : Held) → Ready l → IsAllowed d l (marks_of d l x) → Parts x.entries
+        → (e : Entry) → Has e (converted (sides.other d) l (converted d l x)).entries
+        ↔ (Has e x.entries × AliveAt d l x.fields x.entries e.at e.was) }
 {}
 
 /// An object whose names are known, whose tuples are allowed and whose entries are in order and all
