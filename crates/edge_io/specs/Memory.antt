@@ -28,9 +28,10 @@ IsAfterRead before now result = MatchResult result
     (λ n. now ≡ record { bytes = before.bytes; taken = before.taken + n; piece = before.piece; number = before.number; calls = answered before.calls })
     (λ _. now ≡ record { bytes = before.bytes; taken = before.taken; piece = before.piece; number = before.number; calls = failed before.calls })
 
--- the bytes that were written, the room for them, and the number of its connection
+-- the bytes that were written, those of them that were handed on, the room for them, and the number of its connection
 pub record SinkState : Type 0 where
   pub bytes : List ℕ
+  pub flushed : List ℕ
   pub room : ℕ
   pub number : Option ℕ
   pub calls : Calls
@@ -46,11 +47,11 @@ write_count s piece = min (s.room - length s.bytes) (length piece)
 -- a write added its bytes, or counted a fault
 abbrev pub IsAfterWrite : {E : Type 0} → SinkState → SinkState → Result ℕ E → List ℕ → Type 0
 IsAfterWrite before now result piece = MatchResult result
-    (λ n. now ≡ record { bytes = before.bytes ++ take n piece; room = before.room; number = before.number; calls = answered before.calls })
-    (λ _. now ≡ record { bytes = before.bytes; room = before.room; number = before.number; calls = failed before.calls })
+    (λ n. now ≡ record { bytes = before.bytes ++ take n piece; flushed = before.flushed; room = before.room; number = before.number; calls = answered before.calls })
+    (λ _. now ≡ record { bytes = before.bytes; flushed = before.flushed; room = before.room; number = before.number; calls = failed before.calls })
 
--- a flush was counted, and so was its fault
+-- a flush handed on all that was written, or counted a fault
 abbrev pub IsAfterFlush : {T E : Type 0} → SinkState → SinkState → Result T E → Type 0
 IsAfterFlush before now result = MatchResult result
-    (λ _. now ≡ record { bytes = before.bytes; room = before.room; number = before.number; calls = answered before.calls })
-    (λ _. now ≡ record { bytes = before.bytes; room = before.room; number = before.number; calls = failed before.calls })
+    (λ _. now ≡ record { bytes = before.bytes; flushed = before.bytes; room = before.room; number = before.number; calls = answered before.calls })
+    (λ _. now ≡ record { bytes = before.bytes; flushed = before.flushed; room = before.room; number = before.number; calls = failed before.calls })

@@ -43,7 +43,7 @@ source_numbered s n = record { bytes = s.bytes; taken = s.taken; piece = s.piece
 
 -- the sink, as a part of the connection of that number
 abbrev pub sink_numbered : SinkState → ℕ → SinkState
-sink_numbered s n = record { bytes = s.bytes; room = s.room; number = Some n; calls = s.calls }
+sink_numbered s n = record { bytes = s.bytes; flushed = s.flushed; room = s.room; number = Some n; calls = s.calls }
 
 -- the first connection that was left is handed out as these parts, with the next number
 pub record HandsOutFirst (before now : EarsState) (source : SourceState) (sink : SinkState) : Type 0 where

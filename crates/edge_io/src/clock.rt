@@ -1,6 +1,6 @@
 //! What tells the time.
 ghost use Rattle.std.specs.Prelude.{◌≡◌, List, ℕ, Option, Some, IfSome};
-ghost use Rattle.edge_io.specs.Stamps.{IsPlain};
+ghost use Rattle.edge_io.specs.Stamps.{HasStampForm, IsPlain};
 
 use kj_value::Stamp;
 
@@ -12,6 +12,7 @@ pub trait Clock {
     /// The stamp of this moment, which JSON spells as it stands.
     fn stamp(&self) -> Stamp
         ensures told { IfSome (told self.now) (λ text. result.text ≡ text) }
+        ensures form { HasStampForm result.text }
         ensures plain { IsPlain result.text };
 }
 
@@ -19,13 +20,13 @@ pub trait Clock {
 #[derive(Clone, Copy, Debug, Drop)]
 pub struct FixedClock {
     stamp: Stamp,
-    ghost plain: { IsPlain stamp.text },
+    ghost form: { HasStampForm stamp.text },
 }
 
 impl FixedClock {
     /// A clock that answers this stamp.
     pub fn new(stamp: Stamp) -> FixedClock
-        requires { IsPlain stamp.text }
+        requires { HasStampForm stamp.text }
         ensures { result.stamp ≡ stamp }
     {
         FixedClock { stamp }

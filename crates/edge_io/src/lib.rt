@@ -11,6 +11,7 @@ mod clock;
 mod disk_files;
 mod ears;
 mod files;
+pub mod laws;
 mod link;
 mod mem_ears;
 mod mem_files;

@@ -1,5 +1,5 @@
 //! A sink in memory.
-ghost use Rattle.std.specs.Prelude.{◌≡◌, ◌↔◌, ◌⊎◌, ◌<◌, None, Some, [], length, IsErr, IfOk};
+ghost use Rattle.std.specs.Prelude.{◌≡◌, ◌↔◌, ◌⊎◌, ◌<◌, None, Some, [], length, IsErr, IfOk, OnOk};
 ghost use Rattle.std.specs.Io.{WritesAtMost};
 ghost use Rattle.edge_io.specs.Calls.{IsListed};
 ghost use Rattle.edge_io.specs.Causes.{HasCause};
@@ -17,30 +17,32 @@ use std::marker::Model;
 #[derive(Drop)]
 pub struct MemSink {
     bytes: Vec<u8>,
+    flushed: usize,
     room: usize,
     number: Option<u64>,
     calls: CallCount,
 }
 
 impl Model for MemSink {
-    ghost use Rattle.std.specs.Prelude.{◌≤◌, vec_len};
+    ghost use Rattle.std.specs.Prelude.{◌≤◌, take, vec_len};
     ghost use Rattle.std.specs.Vec.{vec_capacity};
     ghost use Rattle.edge_io.specs.Memory.{SinkState};
 
     ghost Value = { SinkState };
 
-    ghost view = { λ s. record { bytes = s.bytes.items; room = s.room; number = s.number; calls = s.calls } };
+    ghost view = { λ s. record { bytes = s.bytes.items; flushed = take s.flushed s.bytes.items; room = s.room; number = s.number; calls = s.calls } };
 
-    ghost invariant = { λ s. (vec_len s.bytes ≤ s.room) × (s.room ≤ vec_capacity s.bytes) };
+    ghost invariant = { λ s. (s.flushed ≤ vec_len s.bytes) × (vec_len s.bytes ≤ s.room) × (s.room ≤ vec_capacity s.bytes) };
 }
 
 impl MemSink {
     /// An empty sink. It takes its room now. Its calls are counted from 0, and those whose number is in `failing` fail.
     pub fn new(alloc: Global, room: usize, failing: Vec<u64>) -> Result<MemSink, NoMemory>
-        ensures { IfOk result (λ s. s ≡ record { bytes = []; room = room; number = None; calls = record { made = 0; failing = failing.items; faults = 0 } }) }
+        ensures { IfOk result (λ s. s ≡ record { bytes = []; flushed = []; room = room; number = None; calls = record { made = 0; failing = failing.items; faults = 0 } }) }
     {
         Ok(MemSink {
             bytes: Vec::with_capacity(alloc, room)?,
+            flushed: 0,
             room,
             number: None,
             calls: CallCount::new(failing),
@@ -74,12 +76,14 @@ impl MemSink {
     {
         let MemSink {
             bytes,
+            flushed,
             room,
             number: _,
             calls,
         } = self;
         MemSink {
             bytes,
+            flushed,
             room,
             number: Some(number),
             calls,
@@ -89,6 +93,8 @@ impl MemSink {
 
 impl Sink for MemSink {
     ghost written = { λ s. Some s.bytes };
+
+    ghost flushed = { λ s. Some s.flushed };
 
     ghost faults = { λ s. s.calls.faults };
 
@@ -120,6 +126,7 @@ impl Sink for MemSink {
 
     fn flush(&mut self) -> Result<(), Failed>
         ensures bytes { Some self.new.bytes ≡ Some self.old.bytes }
+        ensures flushed { OnOk result (Some self.new.flushed ≡ Some self.new.bytes) }
         ensures cause { HasCause self.old.calls.faults self.new.calls.faults result }
         ensures number { self.new.number ≡ self.old.number }
         ensures fails { IsErr result ↔ IsListed self.old.calls }
@@ -129,6 +136,7 @@ impl Sink for MemSink {
             self.calls.fail();
             return Err(Failed);
         }
+        self.flushed = self.bytes.len();
         Ok(())
     }
 }

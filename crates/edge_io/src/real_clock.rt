@@ -1,7 +1,7 @@
 //! The system's clock.
 ghost use Rattle.std.specs.Prelude.{◌≡◌, ◌<◌, ◌^◌, ◌/◌, ℕ, None, IfOk, OnErr, MatchResult};
 ghost use Rattle.std.specs.Duration.{as_nanos};
-ghost use Rattle.edge_io.specs.Stamps.{IsDateTime, IsPlain};
+ghost use Rattle.edge_io.specs.Stamps.{HasStampForm, IsDateTime, IsPlain};
 
 use crate::{Clock, stamp_of};
 use kj_value::Stamp;
@@ -41,6 +41,7 @@ impl<R: time::Clock> Clock for RealClock<R> {
 
     fn stamp(&self) -> Stamp
         ensures date { (seconds : ℕ) × (seconds < 2 ^ 37) × IsDateTime seconds result.text }
+        ensures form { HasStampForm result.text }
         ensures plain { IsPlain result.text }
     {
         stamp_of(second_in(self.system.since_1970()))

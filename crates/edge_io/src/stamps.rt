@@ -1,7 +1,7 @@
 //! The stamp of a second.
 ghost use Rattle.std.specs.Prelude.{◌≡◌, ◌+◌, ◌/◌, ◌%◌, ◌<◌, ◌≤◌, ◌^◌, ◌≤ℤ◌, pos};
 ghost use Rattle.jiff.specs.Words.{epoch_day};
-ghost use Rattle.edge_io.specs.Stamps.{zero_digit, IsDateTime, IsPlain};
+ghost use Rattle.edge_io.specs.Stamps.{zero_digit, HasStampForm, IsDateTime, IsPlain};
 
 use jiff::ToSpan;
 use jiff::civil::{Date, date};
@@ -18,6 +18,7 @@ pub(crate) const SECONDS_PER_MINUTE: u64 = 60;
 pub fn stamp_of(seconds: u64) -> Stamp
     requires { seconds < 2 ^ 37 }
     ensures date { IsDateTime seconds result.text }
+    ensures form { HasStampForm result.text }
     ensures plain { IsPlain result.text }
 {
     let date = date_of(seconds / SECONDS_PER_DAY);

@@ -72,6 +72,8 @@ pub struct SureSink;
 impl Sink for SureSink {
     ghost written = { λ s. None };
 
+    ghost flushed = { λ s. None };
+
     ghost faults = { λ s. 0 };
 
     ghost number = { λ s. None };

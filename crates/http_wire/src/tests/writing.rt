@@ -19,6 +19,8 @@ struct Narrow {
 impl Sink for Narrow {
     ghost written = { λ s. Some s.bytes.items };
 
+    ghost flushed = { λ s. Some s.bytes.items };
+
     ghost number = { λ s. None };
 
     ghost faults = { λ s. s.faults };
