@@ -3,3 +3,4 @@ pub mod Sizes
 pub mod Missing
 pub mod Level
 pub mod Fillings
+pub mod Existing

@@ -5,10 +5,16 @@ ghost use Rattle.kj_value.specs.Sound.{IsSound};
 ghost use Rattle.struct_schema.specs.Shape.{Shape};
 ghost use Rattle.struct_schema.specs.Filled.{Filled};
 ghost use Rattle.struct_schema.specs.OwnDefaults.{HasOwnDefaults};
+ghost use Rattle.prune_default.specs.SoundDefaults.{HasSoundDefaults};
 
 /// A value becomes one value: two sound values that it becomes are the same.
 pub fn one_filling()
     ensures { (s : Shape) (j k l : Json) → IsSound k → IsSound l → Filled s j k → Filled s j l → k ≡ l }
+{}
+
+/// A value becomes some value, where each default of the schema is a JSON value.
+pub fn some_filling()
+    ensures { (s : Shape) (j : Json) → HasSoundDefaults s → IsSound j → (k : Json) × Filled s j k × IsSound k }
 {}
 
 /// Filling twice is filling once: what a value becomes stays as it is, where each default of the schema does.
