@@ -24,7 +24,6 @@ pub data WriteEnd : Type 0 where
   -- the value was prepared for another version than the storage version now
   storage_moved : ℕ → WriteEnd
   full : Room → WriteEnd
-  no_memory : WriteEnd
 
 -- of a change of the flags, with the stored list afterwards
 pub data SetEnd : Type 0 where
@@ -59,7 +58,6 @@ pub data TurnEnd : Type 0 where
   missed : TurnEnd
   range_done : TurnEnd
   finished : ℕ → TurnEnd
-  wants_memory : TurnEnd
 
 -- ---- decisions
 
@@ -93,27 +91,3 @@ Ends (free why) stands log d a = why × stands log
 abbrev pub Answers : {A : Type 0} → EndCause → (List Item → Type 0) → List Item → (A → Option Item → Type 0) → A → Type 0
 Answers bound stands log D a = (i : Option Item) × D a i × stands (grown log i)
 Answers (free why) stands log D a = why × stands log
-
--- want of memory needs no cause
-abbrev pub write_cause : WriteEnd → EndCause
-write_cause (done rv born) = bound
-write_cause (kept rv born) = bound
-write_cause (same rv born) = bound
-write_cause unserved = bound
-write_cause present = bound
-write_cause gone = bound
-write_cause (newer n) = bound
-write_cause forbidden = bound
-write_cause (storage_moved now) = bound
-write_cause (full room) = bound
-write_cause no_memory = free (Unit {0})
-
-abbrev pub turn_cause : TurnEnd → EndCause
-turn_cause idle = bound
-turn_cause claimed = bound
-turn_cause (prepare k n) = bound
-turn_cause (touched n) = bound
-turn_cause missed = bound
-turn_cause range_done = bound
-turn_cause (finished n) = bound
-turn_cause wants_memory = free (Unit {0})

@@ -23,7 +23,7 @@ use Rattle.api_calls.specs.Objects.{Stored, find, marked}
 use Rattle.api_calls.specs.State.{State, served}
 use Rattle.api_calls.specs.Legal.{key_of}
 use Rattle.api_calls.specs.Values.{created_value, is_marked}
-use Rattle.api_calls.specs.Ends.{WriteEnd, done, kept, same, unserved, present, gone, newer, forbidden, storage_moved, full, no_memory, SetEnd, set, unchanged, TrimEnd, trimmed, untrimmed, unknown, still_stored, StartEnd, started, taken, busy, no_room, Decision, EndCause, bound, free}
+use Rattle.api_calls.specs.Ends.{WriteEnd, done, kept, same, unserved, present, gone, newer, forbidden, storage_moved, full, SetEnd, set, unchanged, TrimEnd, trimmed, untrimmed, unknown, still_stored, StartEnd, started, taken, busy, no_room, Decision, EndCause, bound, free}
 use Rattle.api_calls.specs.Writes.{create_decision, ReplaceDecision, DeleteDecision}
 use Rattle.api_calls.specs.Settings.{set_decision, trim_decision, start_decision}
 use Rattle.api_calls.specs.Pages.{PageEnd, Place, page_decision}
@@ -139,7 +139,6 @@ Wrote m boot code v name h (newer number) a = a ≡ Err (refusal.conflict name n
 Wrote m boot code v name h forbidden a = a ≡ Err (finalizer_added m name)
 Wrote m boot code v name h (full room) a = a ≡ Err (refusal.full room)
 Wrote m boot code v name h (storage_moved now) a = ⊥
-Wrote m boot code v name h no_memory a = ⊥
 
 -- a request is refused by itself
 abbrev pub IsRefused : Meaning → Request → Answer → Option Item → Type 0

@@ -11,7 +11,7 @@ use Rattle.api_calls.specs.State.{revision, served, state}
 use Rattle.api_calls.specs.Legal.{key_of}
 use Rattle.api_calls.specs.Values.{created_value}
 use Rattle.api_calls.specs.Versions.{Refused}
-use Rattle.api_calls.specs.Ends.{WriteEnd, done, kept, same, unserved, present, gone, newer, forbidden, storage_moved, full, no_memory as wants_memory, Decision, Ends as EndsAs, bound, grown}
+use Rattle.api_calls.specs.Ends.{WriteEnd, done, kept, same, unserved, present, gone, newer, forbidden, storage_moved, full, Decision, Ends as EndsAs, bound, grown}
 use Rattle.api_calls.specs.Writes.{create_commit}
 use Rattle.api_calls.specs.Replies.{Answer, CreateReply, Creates, IsRefused, WeighsIt, Wrote, code_created}
 use Rattle.api_calls.specs.declared.versions.AdmitFault.{AdmitFault}
@@ -80,7 +80,6 @@ never_converter m boot code v name h (newer n) w = cc
 never_converter m boot code v name h forbidden w = cc
 never_converter m boot code v name h (full room) w = cc
 never_converter m boot code v name h (storage_moved now) w = w
-never_converter m boot code v name h wants_memory w = w
 
 -- a test that is true
 holds : (b : Bool) (X Y : Type 0) → b ≡ true → X → MatchBool b X Y

@@ -4,7 +4,7 @@ use Rattle.migrate_core.specs.declared.ends.StartEnd.{StartEnd}
 use Rattle.migrate_core.specs.declared.ends.StartEnd.TheVariants as start
 use Rattle.api_calls.specs.Versions.{versions_of}
 use Rattle.api_calls.specs.Ends as ends
-use Rattle.api_calls.specs.Ends.{WriteEnd, done, kept, same, unserved, present, gone, newer, forbidden, storage_moved, full, no_memory}
+use Rattle.api_calls.specs.Ends.{WriteEnd, done, kept, same, unserved, present, gone, newer, forbidden, storage_moved, full}
 use Rattle.turn_state.specs.declared.ends.CreateEnd.{CreateEnd}
 use Rattle.turn_state.specs.declared.ends.CreateEnd.TheVariants as create
 use Rattle.turn_state.specs.declared.ends.ReplaceEnd.{ReplaceEnd}
@@ -87,4 +87,3 @@ revision_after (newer n) r = r
 revision_after forbidden r = r
 revision_after (storage_moved now) r = r
 revision_after (full room) r = r
-revision_after no_memory r = r
