@@ -10,6 +10,7 @@ pub mod Objects
 pub mod State
 pub mod Room
 pub mod Legal
+pub mod Named
 pub mod Snap
 pub mod Laws
 pub mod EachObject
@@ -29,3 +30,5 @@ pub mod Priority
 pub mod Documents
 pub mod Bodies
 pub mod Replies
+pub mod Calls
+pub mod ReplyLaws
