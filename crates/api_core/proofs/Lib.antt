@@ -4,3 +4,4 @@ pub mod WorkTurns
 pub mod Opened
 pub mod PageTurns
 pub mod Ready
+pub mod Leaving

@@ -9,6 +9,7 @@ ghost use Rattle.api_calls.specs.State.{joined, state};
 ghost use Rattle.api_calls.specs.Ends.{Ends, bound};
 ghost use Rattle.api_calls.specs.Settings.{same_flags, set_decision, start_decision, trim_decision};
 ghost use Rattle.api_calls.specs.Versions.{AreFlags, versions_of};
+ghost use Rattle.turn_state.specs.Changes.{after_set, after_start, after_trim};
 ghost use Rattle.turn_state.specs.Ends.{set_end, start_end, trim_end};
 ghost use Rattle.turn_state.specs.Trims.{held_from, until};
 ghost use Rattle.turn_state.specs.Turned.{revision_after_set, revision_after_start, revision_after_trim};
@@ -41,6 +42,7 @@ impl<V: Versions> Core<V> {
             → Ends bound (StandsFor V.meaning self.new) log
             (set_decision (state (V.meaning self.old.versions) log) flags)
             (set_end result) }
+        ensures leaves { self.new ≡ record self.old { view = after_set result flags self.old.view } }
         ensures revision { self.new.view.revision ≡ revision_after_set result self.old.view.revision }
         ensures base { SameBase self.old self.new }
     {
@@ -84,6 +86,7 @@ impl<V: Versions> Core<V> {
             → Ends bound (StandsFor V.meaning self.new) log
             (trim_decision (state (V.meaning self.old.versions) log) (versions_of keep.now))
             (trim_end result) }
+        ensures leaves { self.new ≡ record self.old { view = after_trim result self.old.view } }
         ensures revision { self.new.view.revision ≡ revision_after_trim result self.old.view.revision }
         ensures base { SameBase self.old self.new }
     {
@@ -140,6 +143,7 @@ impl<V: Versions> Core<V> {
             → Ends bound (StandsFor V.meaning self.new) log
             (start_decision self.old.view.limits (state (V.meaning self.old.versions) log) name.bytes)
             (start_end result) }
+        ensures leaves { self.new ≡ record self.old { view = after_start result name.bytes self.old.view } }
         ensures revision { self.new.view.revision ≡ revision_after_start result self.old.view.revision }
         ensures base { SameBase self.old self.new }
     {

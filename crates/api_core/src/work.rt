@@ -1,5 +1,5 @@
 //! Turns of the workers of migrations. None takes memory; the list of the migrations is copied.
-ghost use Rattle.std.specs.Prelude.{◌≡◌, ◌+◌, ◌≤◌, ◌<◌, ◌^◌, List, ℕ, None, IfOk, IfSome, MatchOption};
+ghost use Rattle.std.specs.Prelude.{◌≡◌, ◌+◌, ◌≤◌, ◌<◌, ◌^◌, List, ℕ, None, IfOk, IfSome, MatchOption, Some, option_map};
 ghost use Rattle.kube_meta.specs.View.{ObjectView};
 ghost use Rattle.migrate_core.specs.Moves.{work_of};
 ghost use Rattle.record_index.specs.ByKey.{find};
@@ -8,6 +8,7 @@ ghost use Rattle.api_calls.specs.Item.{Item};
 ghost use Rattle.api_calls.specs.State.{revision, state};
 ghost use Rattle.api_calls.specs.Ends.{Ends, bound};
 ghost use Rattle.api_calls.specs.Work.{give_back_decision, touch_decision, turn_decision};
+ghost use Rattle.turn_state.specs.Changes.{after_give_back, after_turn};
 ghost use Rattle.turn_state.specs.Ends.{turn_end};
 ghost use Rattle.turn_state.specs.Prepared.{FitsAt, IsSized, KnownAt, Prepares};
 ghost use Rattle.turn_state.specs.Ready.{IfPrepare, IsNext, is_ready_item};
@@ -50,6 +51,7 @@ impl<V: Versions> Core<V> {
             (turn_end result) w.new.claim) }
         ensures prepared { IfPrepare result (λ k. IsNext (work_of w.new.claim self.new.view.migrations) k
             self.new.view.store.items (find item_key k self.new.view.store.items)) }
+        ensures leaves { self.new ≡ record self.old { view = after_turn result w.old.claim (option_map (λ r. r.1) ready) self.old.view } }
         ensures revision { self.new.view.revision ≡ revision_after_turn result self.old.view.revision }
         ensures base { SameBase self.old self.new }
     {
@@ -69,6 +71,7 @@ impl<V: Versions> Core<V> {
             (turn_end result) w.new.claim }
         ensures prepared { IfPrepare result (λ k. IsNext (work_of w.new.claim self.new.view.migrations) k
             self.new.view.store.items (find item_key k self.new.view.store.items)) }
+        ensures leaves { self.new ≡ record self.old { view = after_turn result w.old.claim None self.old.view } }
         ensures revision { self.new.view.revision ≡ revision_after_turn result self.old.view.revision }
         ensures base { SameBase self.old self.new }
     {
@@ -101,6 +104,7 @@ impl<V: Versions> Core<V> {
             (turn_end result) w.new.claim }
         ensures prepared { IfPrepare result (λ k. IsNext (work_of w.new.claim self.new.view.migrations) k
             self.new.view.store.items (find item_key k self.new.view.store.items)) }
+        ensures leaves { self.new ≡ record self.old { view = after_turn result None None self.old.view } }
         ensures revision { self.new.view.revision ≡ revision_after_turn result self.old.view.revision }
         ensures base { SameBase self.old self.new }
     {
@@ -139,6 +143,7 @@ impl<V: Versions> Core<V> {
             (turn_end result) w.new.claim }
         ensures prepared { IfPrepare result (λ k. IsNext (work_of w.new.claim self.new.view.migrations) k
             self.new.view.store.items (find item_key k self.new.view.store.items)) }
+        ensures leaves { self.new ≡ record self.old { view = after_turn result w.old.claim (Some new) self.old.view } }
         ensures revision { self.new.view.revision ≡ revision_after_turn result self.old.view.revision }
         ensures base { SameBase self.old self.new }
     {
@@ -175,6 +180,7 @@ impl<V: Versions> Core<V> {
         ensures turn { (log : List Item) → StandsFor V.meaning self.old log
             → Ends bound (StandsFor V.meaning self.new) log (give_back_decision (state (V.meaning self.old.versions) log) w.old.claim) result }
         ensures worker { w.new.claim ≡ None }
+        ensures leaves { self.new ≡ record self.old { view = after_give_back result w.old.claim self.old.view } }
         ensures revision { self.new.view.revision ≡ self.old.view.revision }
         ensures base { SameBase self.old self.new }
     {

@@ -9,6 +9,7 @@ ghost use Rattle.api_calls.specs.Legal.{IsNew};
 ghost use Rattle.api_calls.specs.Ends.{Ends, bound};
 ghost use Rattle.api_calls.specs.Writes.{create_commit, delete_commit, mark_commit, release_commit, replace_commit};
 ghost use Rattle.turn_state.specs.declared.seen.Prepared.{Prepared};
+ghost use Rattle.turn_state.specs.Changes.{after_create, after_delete, after_release, after_replace};
 ghost use Rattle.turn_state.specs.Ends.{create_end, delete_end, release_end, replace_end, revision_after};
 ghost use Rattle.turn_state.specs.Prepared.{FitsAt, IsEnding, IsFree, IsSized, KnownAt, Marking, Prepares, Replacing};
 ghost use Rattle.api_core.specs.View.{SameBase, StandsFor};
@@ -49,6 +50,7 @@ impl<V: Versions> Core<V> {
             → Ends bound (StandsFor V.meaning self.new) log
             (create_commit self.old.view.limits (revision log + 1) (state (V.meaning self.old.versions) log) v new.at new.key h new.weight)
             (create_end result) }
+        ensures leaves { self.new ≡ record self.old { view = after_create result new self.old.view } }
         ensures revision { self.new.view.revision ≡ revision_after (create_end result) self.old.view.revision }
         ensures base { SameBase self.old self.new }
     {
@@ -85,6 +87,7 @@ impl<V: Versions> Core<V> {
             → Ends bound (StandsFor V.meaning self.new) log
             (replace_commit self.old.view.limits (revision log + 1) (state (V.meaning self.old.versions) log) v new.at new.key expected h new.weight)
             (replace_end result) }
+        ensures leaves { self.new ≡ record self.old { view = after_replace result new self.old.view } }
         ensures revision { self.new.view.revision ≡ revision_after (replace_end result) self.old.view.revision }
         ensures base { SameBase self.old self.new }
     {
@@ -137,6 +140,7 @@ impl<V: Versions> Core<V> {
             → Ends bound (StandsFor V.meaning self.new) log
             (mark_commit (revision log + 1) (state (V.meaning self.old.versions) log) v p.at key.now expected stamp)
             (delete_end result) }
+        ensures leaves { self.new ≡ record self.old { view = after_delete result key.now ready self.old.view } }
         ensures revision { self.new.view.revision ≡ revision_after (delete_end result) self.old.view.revision }
         ensures base { SameBase self.old self.new }
     {
@@ -180,6 +184,7 @@ impl<V: Versions> Core<V> {
             → Ends bound (StandsFor V.meaning self.new) log
             (release_commit (revision log + 1) (state (V.meaning self.old.versions) log) v key.now expected)
             (release_end result) }
+        ensures leaves { self.new ≡ record self.old { view = after_release result key.now self.old.view } }
         ensures revision { self.new.view.revision ≡ revision_after (release_end result) self.old.view.revision }
         ensures base { SameBase self.old self.new }
     {

@@ -13,6 +13,7 @@ pub mod StoredLists
 pub mod Trims
 pub mod Turned
 pub mod Steps
+pub mod Changes
 pub mod WorkSteps
 pub mod SettingSteps
 pub mod Ready
