@@ -25,3 +25,8 @@ pub mod Creating
 pub mod Replacing
 pub mod Removing
 pub mod TouchSteps
+pub mod SlotLaws
+pub mod KeptLaws
+pub mod PreparedLaws
+pub mod ListLaws
+pub mod WorkLaws
