@@ -6,6 +6,7 @@
 
 mod document;
 mod key;
+pub mod laws;
 mod limits;
 mod names;
 mod object;
