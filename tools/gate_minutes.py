@@ -1,0 +1,179 @@
+#!/usr/bin/env python3
+"""The processor minutes that a run of the gate takes.
+
+    python3 tools/gate_minutes.py                   runs `rt ci`
+    python3 tools/gate_minutes.py --anew            runs `rt ci --anew`, which takes nothing that earlier runs kept
+    python3 tools/gate_minutes.py COMMAND WORD..    runs any other command, such as `rt ci NAME`
+    python3 tools/gate_minutes.py --times LOG       prints the table once more from a log that an earlier run wrote
+
+It prints what the command prints, and then the sum: the processor time of the command and of all that it waited for, as the
+system counts it when it ends (what the word `times` of a shell gives of its children), the minutes of the clock, and the number
+of processors that it could use. That sum is exact.
+
+Then comes a table by crate for docs/GATE.md, in processor minutes: the proof of the crate, its tests with the proof that these
+begin with, its edits with the check that these begin with, and how many edits it has. It is made of looks: twice a second it
+notes for each process below the command which crate its words name (`--crate-name`), whether they have `--test`, whether it works
+in an edit's folder, and the processor time that it has taken. What a process takes after the last look is lost, so the table
+sums to a little less than the exact sum; the rest of that is the work of rt itself, and running the tests and the programs. A
+crate that an earlier run kept takes nothing, so a whole table needs --anew, or a machine that kept nothing.
+
+It ends with the command's status. --log FILE before the other words writes the looks into FILE, a line a process. Linux only.
+"""
+import os
+import resource
+import subprocess
+import sys
+import threading
+import time
+
+LOOK_SECONDS = 0.5
+TICKS = os.sysconf("SC_CLK_TCK")
+KINDS = ("proof", "tests", "edits")
+
+
+def parents():
+    """Returns the parent of each process."""
+    found = {}
+    for name in os.listdir("/proc"):
+        if name.isdigit():
+            try:
+                with open(f"/proc/{name}/stat") as it:
+                    found[int(name)] = int(it.read().rpartition(")")[2].split()[1])
+            except (OSError, ValueError, IndexError):
+                # it ended meanwhile
+                pass
+    return found
+
+
+def below(root):
+    """Returns the processes that come from one, itself left out."""
+    children = {}
+    for pid, parent in parents().items():
+        children.setdefault(parent, []).append(pid)
+    found, left = [], [root]
+    while left:
+        for it in children.get(left.pop(), []):
+            found.append(it)
+            left.append(it)
+    return found
+
+
+def kind_of(pid):
+    """Returns the crate that the process checks or builds, and for what, or None."""
+    with open(f"/proc/{pid}/cmdline", "rb") as it:
+        words = it.read().decode(errors="replace").split("\0")
+    if "--crate-name" not in words or "rattle" not in os.path.basename(words[0]):
+        return None
+    crate = words[words.index("--crate-name") + 1]
+    if os.path.basename(os.readlink(f"/proc/{pid}/cwd")).startswith("rt-edit-"):
+        return crate, "edits"
+    return crate, "tests" if "--test" in words else "proof"
+
+
+def seconds_of(pid):
+    """Returns when the process began, and the processor time of it and of what it waited for."""
+    with open(f"/proc/{pid}/stat") as it:
+        words = it.read().rpartition(")")[2].split()
+    return words[19], sum(int(words[at]) for at in (11, 12, 13, 14)) / TICKS
+
+
+def look(root, seen, known):
+    """Notes what each process below the root has taken until now."""
+    for pid in below(root):
+        try:
+            began, seconds = seconds_of(pid)
+            # (a process becomes another program once, right after it began)
+            if known.get((pid, began)) is None:
+                known[pid, began] = kind_of(pid)
+            if known[pid, began]:
+                seen[pid, began] = (*known[pid, began], seconds)
+        except (OSError, ValueError, IndexError):
+            pass
+
+
+def watch(root, ended, seen):
+    known = {}
+    while not ended.wait(LOOK_SECONDS):
+        look(root, seen, known)
+
+
+def edits_of(crate):
+    try:
+        return sum(it.endswith(".edit") for it in os.listdir(f"crates/{crate}/must-fail"))
+    except OSError:
+        return 0
+
+
+def order():
+    """Returns the crates of crates.txt, in its order."""
+    try:
+        with open("crates.txt") as it:
+            lines = [line.split("#")[0].partition(":") for line in it]
+    except OSError:
+        return []
+    return [words[0].split()[0] for words in lines if words[1] and words[0].split()]
+
+
+def table(seen):
+    """Prints the minutes of each crate, as docs/GATE.md has them."""
+    minutes, each = {}, dict.fromkeys(KINDS, 0.0)
+    for crate, kind, seconds in seen:
+        minutes.setdefault(crate, dict.fromkeys(KINDS, 0.0))[kind] += seconds / 60
+        each[kind] += seconds / 60
+    listed = order()
+    print("| crate | proof | tests | edits |\n|---|---|---|---|")
+    for crate in sorted(minutes, key=lambda it: (listed.index(it) if it in listed else len(listed), it)):
+        of, count = minutes[crate], edits_of(crate)
+        cells = [f"{of[it]:.1f}" if of[it] else "none" for it in KINDS]
+        if of["edits"] or count:
+            cells[2] = f"{of['edits']:.1f}, {count}" if of["edits"] else f"kept, {count}"
+        print(f"| `{crate}` | {' | '.join(cells)} |")
+    print(f"| all | {' | '.join(f'{each[it]:.1f}' for it in KINDS)} |")
+    over = [it for it in minutes if sum(minutes[it].values()) > 10]
+    print(f"\nBy looks: {sum(each.values()):.0f} processor minutes. Over ten in all: {', '.join(sorted(over)) or 'no crate'}.")
+
+
+def run(words, log):
+    began, before = time.monotonic(), resource.getrusage(resource.RUSAGE_CHILDREN)
+    started = subprocess.Popen(words)
+    ended, seen = threading.Event(), {}
+    watching = threading.Thread(target=watch, args=(started.pid, ended, seen))
+    watching.start()
+    while True:
+        try:
+            status = started.wait()
+            break
+        except KeyboardInterrupt:
+            # the command has it too, and is waited for
+            pass
+    ended.set()
+    watching.join()
+    after, clock = resource.getrusage(resource.RUSAGE_CHILDREN), time.monotonic() - began
+    user, system = after.ru_utime - before.ru_utime, after.ru_stime - before.ru_stime
+    if log:
+        with open(log, "w") as it:
+            it.writelines(f"{crate} {kind} {seconds:.2f}\n" for crate, kind, seconds in seen.values())
+    sys.stdout.flush()
+    print(f"\n`{' '.join(words)}` ended with status {status}, on {len(os.sched_getaffinity(0))} processors:")
+    print(f"{(user + system) / 60:.1f} processor minutes ({user / 60:.1f} of them user), {clock / 60:.1f} minutes of the clock\n")
+    table(seen.values())
+    return status if status >= 0 else 128 - status
+
+
+def main(words):
+    log = None
+    if words[:1] == ["--log"]:
+        log, words = words[1], words[2:]
+    if words[:1] in (["-h"], ["--help"]):
+        print(__doc__, end="")
+        return 0
+    if words[:1] == ["--times"]:
+        with open(words[1]) as it:
+            table([(crate, kind, float(seconds)) for crate, kind, seconds in map(str.split, it)])
+        return 0
+    return run(["rt", "ci", *words] if words in ([], ["--anew"]) else words, log)
+
+
+if __name__ == "__main__":
+    os.chdir(f"{os.path.dirname(os.path.realpath(__file__))}/..")
+    sys.exit(main(sys.argv[1:]))
