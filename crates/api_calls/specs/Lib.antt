@@ -29,6 +29,7 @@ pub mod Token
 pub mod Priority
 pub mod Documents
 pub mod Bodies
+pub mod Readings
 pub mod Replies
 pub mod Calls
 pub mod ReplyLaws

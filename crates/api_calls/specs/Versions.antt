@@ -1,16 +1,20 @@
 -- What the versions of a definition promise, in the relations of its meaning.
-use Rattle.std.specs.Prelude.{◌≡◌, ◌↔◌, ℕ, ℤ, pos, ◌<◌, ◌≤◌, true, List, ◌++◌, length, take, All, Option, None, IsSome, IfSome, slice_get, option_map, codes, nat_eq, FitsSigned, IsUtf8, Some, false, flat_map}
+use Rattle.std.specs.Prelude.{◌≡◌, ◌≢◌, ◌↔◌, ℕ, ℤ, pos, ◌<◌, ◌≤◌, true, List, ◌++◌, length, take, All, Option, None, IsSome, IfSome, slice_get, option_map, codes, nat_eq, FitsSigned, IsUtf8, Some, false, flat_map}
 use Rattle.std.specs.Int.{w64}
 use Rattle.std.specs.Str.{IsAscii}
 use Rattle.std.specs.List.{IsDistinct}
-use Rattle.kj_value.specs.Json.{depth}
+use Rattle.kj_value.specs.Json.{Json, depth, object, members_of}
 use Rattle.kj_value.specs.Sound.{IsSound}
+use Rattle.kj_value.specs.Reading.{Reads}
+use Rattle.kj_value.specs.Fault.{IsRefused}
+use Rattle.kj_value.specs.declared.reading.JsonFault.TheVariants.{NotJson, TooDeep, NotWhole}
 use Rattle.kj_value.specs.Text.{escaped_byte}
 use Rattle.kj_value.specs.Fields.{Pairs, field}
 use Rattle.kube_meta.specs.View.{ObjectView}
 use Rattle.kube_meta.specs.Document.{document}
-use Rattle.kube_meta.specs.Names.{is_name, is_namespace}
-use Rattle.api_calls.specs.Cause.{why_of, cause_of}
+use Rattle.kube_meta.specs.Names.{is_namespace}
+use Rattle.object_reading.specs.Keeping.{KeepsRules}
+use Rattle.api_calls.specs.Cause.{why_of, cause_of, not_json, too_deep, not_whole, not_object}
 use Rattle.api_calls.specs.Meaning.{Meaning, Request, Fault, bad_request, invalid, stored_text, stamped}
 use Rattle.api_calls.specs.declared.flags.Flags.{Flags}
 use Rattle.api_calls.specs.declared.flags.StoredList.{StoredList}
@@ -62,11 +66,11 @@ pub record IsBody (body : Pairs) : Type 0 where
   pub kind : field (codes "kind") body ≡ None
   pub metadata : field (codes "metadata") body ≡ None
 
--- an object of the definition at a version, without a number and a uid
+-- an object of the definition at a version, without a number and a uid, whose metadata keep their rules: one that is read back
 pub record StandsAt (m : Meaning) (v : ℕ) (x : ObjectView) : Type 0 where
   pub api_version : x.api_version ≡ m.group ++ (codes "/" ++ m.name v)
   pub kind : x.kind ≡ m.kind
-  pub name : is_name x.meta.name ≡ true
+  pub rules : KeepsRules x.meta
   pub no_number : x.meta.resource_version ≡ None
   pub no_uid : x.meta.uid ≡ None
   pub stamps : AreStamps x.meta.created x.meta.deleted x.meta.generation
@@ -122,7 +126,15 @@ pub record Stand (m : Meaning) : Type 0 where
   pub whole : (h : ObjectView) → m.whole h → StandsAt m m.hub h
   pub pair : (v : ℕ) (h x : ObjectView) → v < m.count → m.whole h → m.pair v h x → StandsAt m v x
 
--- what is admitted has the request's key; a number comes exactly with a request that replaces
+-- the form of a hub value has its finalizers
+pub record KeepsFinalizers (m : Meaning) : Type 0 where
+  pub same : (v : ℕ) (h x : ObjectView) → v < m.count → m.whole h → m.pair v h x → x.meta.finalizers ≡ h.meta.finalizers
+
+-- versions have different names
+pub record NamesDiffer (m : Meaning) : Type 0 where
+  pub differ : (v w : ℕ) → v < m.count → w < m.count → m.name v ≡ m.name w → v ≡ w
+
+-- what is admitted is whole and has the request's key; a number comes exactly with a request that replaces
 pub record IsAdmitted (m : Meaning) (r : Request) (h : ObjectView) (number : Option ℕ) : Type 0 where
   pub namespace : h.meta.namespace ≡ r.ns
   pub name : IfSome r.name (λ n. h.meta.name ≡ n)
@@ -132,9 +144,27 @@ pub record IsAdmitted (m : Meaning) (r : Request) (h : ObjectView) (number : Opt
   pub deleted : h.meta.deleted ≡ None
   pub generation : h.meta.generation ≡ pos 0
 
+-- whatever is admitted is so
+pub record AdmitsWhole (m : Meaning) : Type 0 where
+  pub admitted : (r : Request) (h : ObjectView) (e : Option ℕ) → m.admits r h e → IsAdmitted m r h e
+
 -- a request is admitted in one way or refused, and not both
 pub record Decides (m : Meaning) : Type 0 where
-  pub admitted : (r : Request) (h : ObjectView) (e : Option ℕ) → m.admits r h e → IsAdmitted m r h e
   pub one : (r : Request) (g h : ObjectView) (d e : Option ℕ) → m.admits r g d → m.admits r h e → (g ≡ h) × (d ≡ e)
   pub excludes : (r : Request) (h : ObjectView) (e : Option ℕ) (f : Fault) → m.admits r h e → m.refuses r f → ⊥
   pub complete : (r : Request) → IsRequest m r → ((h : ObjectView) (e : Option ℕ) → m.admits r h e → ⊥) → ((f : Fault) → m.refuses r f → ⊥) → ⊥
+
+-- a request whose body is no object is refused for that
+pub record RefusesUnread (m : Meaning) : Type 0 where
+  pub not_json : (r : Request) → IsRefused r.bytes OBJECT_LEVELS NotJson → m.refuses r (bad_request not_json)
+  pub too_deep : (r : Request) → IsRefused r.bytes OBJECT_LEVELS TooDeep → m.refuses r (bad_request too_deep)
+  pub not_whole : (r : Request) → IsRefused r.bytes OBJECT_LEVELS NotWhole → m.refuses r (bad_request not_whole)
+  pub not_object : (r : Request) (j : Json) → Reads r.bytes OBJECT_LEVELS j → ((fields : Pairs) → j ≢ object (members_of fields))
+      → m.refuses r (bad_request not_object)
+
+-- a body says one thing or is refused for one reason, and not both
+pub record DecidesBodies (A : Type 0) (says : List ℕ → A → Type 0) (refuses : List ℕ → Fault → Type 0) : Type 0 where
+  pub one : (body : List ℕ) (a b : A) → says body a → says body b → a ≡ b
+  pub one_fault : (body : List ℕ) (f g : Fault) → refuses body f → refuses body g → f ≡ g
+  pub excludes : (body : List ℕ) (a : A) (f : Fault) → says body a → refuses body f → ⊥
+  pub complete : (body : List ℕ) → ((a : A) → says body a → ⊥) → ((f : Fault) → refuses body f → ⊥) → ⊥

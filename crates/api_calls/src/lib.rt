@@ -34,6 +34,6 @@ pub use tool::{NoTool, NoTools, Tool, Tools};
 pub use uid::{BORN_END, UID_BYTES, uid_into, uid_of};
 pub use versions::{
     AdmitFault, Admitted, ConvFault, Incoming, OBJECT_LEVELS, Versions, one_stored, one_weight,
-    stored_fits,
+    standing_is_read, stored_fits,
 };
 pub use why::Why;

@@ -1,11 +1,13 @@
 //! The versions of a definition, as the server asks for them.
-ghost use Rattle.std.specs.Prelude.{◌≡◌, ◌≢◌, ◌+◌, ◌*◌, ◌<◌, ◌≤◌, ◌++◌, ◌↔◌, IfOk, IfErr, IsErrOf, IsSome, IsTrue, MatchOption, Option, List, length, ℕ, ℤ, pos, Bool};
+ghost use Rattle.std.specs.Prelude.{◌≡◌, ◌≢◌, ◌+◌, ◌*◌, ◌<◌, ◌≤◌, ◌++◌, ◌↔◌, IfOk, IfErr, IsErrOf, IsSome, IsTrue, MatchOption, Option, None, List, length, ℕ, ℤ, pos, Bool};
 ghost use Rattle.kj_value.specs.Json.{depth};
 ghost use Rattle.kube_meta.specs.Document.{document};
 ghost use Rattle.kube_meta.specs.Names.{is_namespace};
 ghost use Rattle.kube_meta.specs.View.{ObjectView, object_of};
 ghost use Rattle.api_calls.specs.Meaning.{Meaning, Weighs, stamped, stored_text};
-ghost use Rattle.api_calls.specs.Versions.{AreFlags, Decides, IgnoresStamps, IsOneToOne, IsRequest, IsStored, IsStoredList, Refused, Stand, request_of, versions_of};
+ghost use Rattle.api_calls.specs.Versions.{AdmitsWhole, AreFlags, Decides, DecidesBodies, IgnoresStamps, IsOneToOne, IsRequest, IsStored, IsStoredList, KeepsFinalizers, NamesDiffer, Refused, RefusesUnread, Stand, StandsAt, request_of, versions_of};
+ghost use Rattle.api_calls.specs.declared.flags.Flags.{Flags};
+ghost use Rattle.object_reading.specs.Refusal.{refusal};
 
 use crate::cause::Cause;
 use crate::flags::{Flags, StoredList};
@@ -13,6 +15,7 @@ use crate::tool::Tool;
 use crate::why::Why;
 use kj_value::{NoMemory, Txt, one_text};
 use kube_meta::Object;
+use object_reading::accepted;
 use std::alloc::Global;
 
 /// The most levels of lists and objects of an object's document.
@@ -216,6 +219,9 @@ pub trait Versions {
     /// A version is served at first, and one is the storage version.
     ghost opens: { (it : Self) → AreFlags (meaning it).count (meaning it).opening };
 
+    /// Versions have different names.
+    ghost names: { (it : Self) → NamesDiffer (meaning it) };
+
     /// Objects stand at their versions.
     ghost stand: { (it : Self) → Stand (meaning it) };
 
@@ -225,8 +231,31 @@ pub trait Versions {
     /// The form at each version is a one-to-one function on whole hub values.
     ghost one_to_one: { (it : Self) → IsTrue HONEST → IsOneToOne (meaning it) };
 
+    /// The form of a hub value has its finalizers.
+    ghost finalizers: { (it : Self) → IsTrue HONEST → KeepsFinalizers (meaning it) };
+
+    /// What is admitted is whole, in the path's namespace and of its name, with a number exactly where the request replaces.
+    ghost admitted: { (it : Self) → AdmitsWhole (meaning it) };
+
     /// A request is admitted in one way or refused, and not both.
     ghost decides: { (it : Self) → IsTrue HONEST → Decides (meaning it) };
+
+    /// A request whose body is no object is refused for that.
+    ghost unread: { (it : Self) → IsTrue HONEST → RefusesUnread (meaning it) };
+
+    /// A body sets flags or is refused for one reason, and not both.
+    ghost decides_flags: { (it : Self) → DecidesBodies Flags (meaning it).sets (meaning it).refuses_flags };
+
+    /// A body keeps stored versions or is refused for one reason, and not both.
+    ghost decides_keep: { (it : Self) → DecidesBodies (List ℕ) (meaning it).keeps (meaning it).refuses_keep };
+}
+
+/// The document of an object that stands at a version is accepted where objects of the kind are read. The function does
+/// nothing, and its clause is the law.
+pub fn standing_is_read<V: Versions>()
+    ensures { (it : V) (v : ℕ) (x : ObjectView) → StandsAt (V.meaning it) v x → refusal (V.meaning it).kind (document x) ≡ None }
+{
+    accepted()
 }
 
 /// Hub values of one stored text at a version are one, where it is known what values mean: the text tells the object, and

@@ -4,7 +4,7 @@ use Rattle.std.proofs.Math.Logic.{∥∥₁_elim}
 use Rattle.std.specs.Coded.{×_prop, le_prop}
 use Rattle.kube_meta.specs.View.{ObjectView}
 use Rattle.api_calls.specs.Meaning.{Request, Weighs}
-use Rattle.api_calls.specs.Versions.{AreFlags, StandsAt, Stand, IgnoresStamps, IsOneToOne, IsAdmitted, Decides}
+use Rattle.api_calls.specs.Versions.{AreFlags, StandsAt, Stand, IgnoresStamps, IsOneToOne, KeepsFinalizers, NamesDiffer, IsAdmitted, AdmitsWhole, Decides, RefusesUnread}
 use Rattle.crd_reading.specs.Accepted.{AreOffered}
 use Rattle.spoke_laws.specs.Given.{OneList}
 use Rattle.crd_meaning.specs.Definition.{Definition, count_of, opening_of, IsLoaded}
@@ -15,7 +15,7 @@ use Rattle.crd_meaning.proofs.Made.{has_form}
 use Rattle.crd_meaning.proofs.Verdicts as verdicts
 use Rattle.crd_laws.specs.Loaded.{loaded_meaning}
 use Rattle.crd_laws.specs.Known.{laws, given}
-use Rattle.crd_laws.specs.Opening.{opening_flags}
+use Rattle.crd_laws.specs.Opening.{opening_flags, names_apart}
 
 module _ (d : Definition) where
   pub few : ∥ IsLoaded d ∥₁ → (2 ≤ count_of d) × (count_of d ≤ 8)
@@ -30,7 +30,7 @@ module _ (d : Definition) (o : Settings) where
   stands_so v x s = record {
     api_version = s.api_version;
     kind = s.kind;
-    name = s.name;
+    rules = s.rules;
     no_number = s.no_number;
     no_uid = s.no_uid;
     stamps = s.stamps;
@@ -45,6 +45,12 @@ module _ (d : Definition) (o : Settings) where
     whole = λ h w. stands_so d.hub h ((places.stand (given one) o d w.0).whole h w.1);
     pair = λ v h x known w p. stands_so v x ((places.stand (given one) o d w.0).pair v h x known w.1 p);
   }
+
+  pub names : AreOffered d.view.versions → NamesDiffer (loaded_meaning d o)
+  names offered = record { differ = names_apart d offered }
+
+  pub finalizers : KeepsFinalizers (loaded_meaning d o)
+  finalizers = record { same = λ v h x known w p. (places.finalizers o d).same v h x known w.1 p }
 
   pub unstamped : IgnoresStamps (loaded_meaning d o)
   unstamped = record {
@@ -70,9 +76,16 @@ module _ (d : Definition) (o : Settings) where
     generation = a.generation;
   }
 
+  pub admits_whole : OneList → AdmitsWhole (loaded_meaning d o)
+  admits_whole one = record { admitted = λ r h e a. admitted_so r h e a.0 (verdicts.admitted (given one) o d a.0 r h e a.1) }
+
+  pub unread : RefusesUnread (loaded_meaning d o)
+  unread =
+      let u = verdicts.unread o d in
+      record { not_json = u.not_json; too_deep = u.too_deep; not_whole = u.not_whole; not_object = u.not_object }
+
   pub decides : OneList → ∥ IsLoaded d ∥₁ → Decides (loaded_meaning d o)
   decides one loaded = record {
-    admitted = λ r h e a. admitted_so r h e a.0 ((verdicts.decides (given one) o d a.0).admitted r h e a.1);
     one = λ r g h e f a b. (verdicts.decides (given one) o d a.0).one r g h e f a.1 b.1;
     excludes = λ r h e f a n. (verdicts.decides (given one) o d a.0).excludes r h e f a.1 n;
     complete = λ r is never_admitted never_refused.

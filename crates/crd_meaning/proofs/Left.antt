@@ -15,13 +15,13 @@ use Rattle.keep_laws.proofs.Dead.{converted_whole}
 use Rattle.keep_laws.proofs.Fields.{bytes_same}
 use Rattle.fitted_bodies.specs.Body.{IsBodyOf}
 use Rattle.spoke_laws.specs.Spokes.{Spoke, Spokes, IsDefinition, api_version}
-use Rattle.spoke_laws.specs.Keys.{hub_key, spoke_key, KeyKind, plain, of_hub, of_spoke, of_none, key_kind}
+use Rattle.spoke_laws.specs.Keys.{spoke_key, KeyKind, plain, of_hub, of_spoke, of_none, key_kind}
 use Rattle.spoke_laws.specs.Notes.{noted, Spells, IsNoteOf, IsObject, with_entries}
 use Rattle.spoke_laws.specs.Pair.{SpokeNotePair, NotePair, IsPairOf}
 use Rattle.spoke_laws.specs.Settling.{IsJudged, SpokeNote, OtherNote, NoteAtSpoke, SettlesAtSpoke, living_entries, hub_body}
 use Rattle.spoke_laws.specs.Over.{SpokeNoteOver, NoteOver, GoesOver, IsRead, IsFirstBad}
 use Rattle.spoke_laws.specs.Given.{Laws}
-use Rattle.spoke_laws.proofs.Keys.{spoke_kind, KindSays, kind_says}
+use Rattle.spoke_laws.proofs.Keys.{spoke_kind}
 use Rattle.spoke_laws.proofs.Levels.{spoke_pair, one_spoke}
 use Rattle.spoke_laws.proofs.Notes.{one_note}
 use Rattle.spoke_laws.proofs.Pairs.{ready, own_pair}
@@ -29,13 +29,11 @@ use Rattle.spoke_laws.proofs.Judged.{allowed, settled_is}
 use Rattle.crd_meaning.specs.Definition.{Definition, Seat, at_hub, at_spoke, nowhere, seat, count_of, IsLoaded}
 use Rattle.crd_meaning.specs.Objects.{IsWholeValue, PairsAt}
 use Rattle.crd_meaning.specs.Admission.{own_name, LeftAt, IsHubOf}
+use Rattle.crd_meaning.proofs.Annotations.{hub_named}
 use Rattle.crd_meaning.proofs.Seats.{seat_place}
 use Rattle.crd_meaning.proofs.Made.{has_form}
 
 -- ---- an annotation
-
-hub_named : (all : Spokes) (k : Name) → key_kind all k ≡ of_hub → k ≡ hub_key
-hub_named all k e = subst (KindSays all k) e (kind_says all k)
 
 -- o on the object, p at the hub, and q on the form
 left_note : (s : Spoke) (hubs body : Pairs) (es eh fh kept : List Entry) (c : KeyKind) (o p q : Option Name)

@@ -1,9 +1,11 @@
 pub mod Seats
 pub mod Free
 pub mod Documents
+pub mod Annotations
 pub mod Places
 pub mod Forms
 pub mod SoundParts
 pub mod Made
 pub mod Verdicts
+pub mod Causes
 pub mod Left

@@ -5,9 +5,9 @@ use Rattle.kj_value.specs.Json.{list, items_of, members_of, depth, members_depth
 use Rattle.kj_value.specs.Sound.{AreSound}
 use Rattle.kj_value.specs.Fields.{AreInOrder}
 use Rattle.kube_meta.specs.View.{MetaView, ObjectView}
-use Rattle.kube_meta.specs.Names.{is_name}
+use Rattle.object_reading.specs.Keeping.{KeepsRules}
 use Rattle.api_calls.specs.Meaning.{stamped}
-use Rattle.api_calls.specs.Versions.{AreStamps, StandsAt, Stand, IgnoresStamps}
+use Rattle.api_calls.specs.Versions.{AreStamps, StandsAt, Stand, KeepsFinalizers, IgnoresStamps}
 use Rattle.struct_schema.specs.Shape.{Shape}
 use Rattle.api_calls.specs.declared.versions.TheConstants.{OBJECT_LEVELS}
 use Rattle.hub_cells.specs.Side.{spoke, hub}
@@ -20,6 +20,7 @@ use Rattle.crd_meaning.specs.Definition.{Definition, Seat, at_hub, at_spoke, now
 use Rattle.crd_meaning.specs.Objects.{IsMeta, IsWholeValue, PairsAt}
 use Rattle.crd_meaning.specs.Meant.{Settings, meaning_of}
 use Rattle.crd_meaning.specs.Given.{Given}
+use Rattle.crd_meaning.proofs.Annotations.{paired_keys, rules_along}
 use Rattle.crd_meaning.proofs.Seats.{seat_place, hub_is, first_spoke}
 use Rattle.crd_meaning.proofs.Free.{name_free, closed_of}
 use Rattle.crd_meaning.proofs.Documents.{sound_document, depth_document}
@@ -32,13 +33,13 @@ owners_within a h = omega arith
 
 module _ (given : Given) (o : Settings) (d : Definition) (loaded : IsLoaded d) where
   stands_at : (v : ℕ) (x : ObjectView) (s : Shape) (n : ℕ) → IsRoot s → IsClosedObject s → IsBody n s x.body
-      → x.api_version ≡ api_version d.view.group (version_at d v).name → x.kind ≡ d.view.kind → is_name x.meta.name ≡ true
+      → x.api_version ≡ api_version d.view.group (version_at d v).name → x.kind ≡ d.view.kind → KeepsRules x.meta
       → x.meta.resource_version ≡ None → x.meta.uid ≡ None → AreStamps x.meta.created x.meta.deleted x.meta.generation
       → IsMeta x.meta → IsObject x → StandsAt (meaning_of d o) v x
-  stands_at v x s n root closed body version kind name no_number no_uid stamps meta held = record {
+  stands_at v x s n root closed body version kind rules no_number no_uid stamps meta held = record {
     api_version = version;
     kind = kind;
-    name = name;
+    rules = rules;
     no_number = no_number;
     no_uid = no_uid;
     stamps = stamps;
@@ -60,7 +61,7 @@ module _ (given : Given) (o : Settings) (d : Definition) (loaded : IsLoaded d) w
       (closed_of hub f.0.fit.depth f.0.fit.hub f.0.fit.level (fit.stands hub))
       (f.2 h.body w.hub.body)
       (w.hub.version ∙ ap₂ api_version loaded.group loaded.hub_name)
-      w.kind w.rules.name w.no_number w.no_uid w.stamps w.meta w.hub.object
+      w.kind w.rules w.no_number w.no_uid w.stamps w.meta w.hub.object
 
   form_stands : (v : ℕ) (h x : ObjectView) → v < count_of d → IsWholeValue d h → (z : Seat) → seat d v ≡ z → IsSeated (version_at d v) z → PairsAt d.spokes z h x → StandsAt (meaning_of d o) v x
   form_stands v h x known w at_hub e q p =
@@ -76,7 +77,7 @@ module _ (given : Given) (o : Settings) (d : Definition) (loaded : IsLoaded d) w
       settled.body
       (p.1.spoke_version ∙ ap₂ api_version loaded.group q.name)
       (p.1.kind ∙ w.kind)
-      (ap (λ (m : MetaView). is_name m.name) same ∙ w.rules.name)
+      (rules_along x.meta h.meta same (paired_keys d.spokes s x h p.0.annotations w.rules.annotations p.1) w.rules)
       (ap (λ (m : MetaView). m.resource_version) same ∙ w.no_number)
       (ap (λ (m : MetaView). m.uid) same ∙ w.no_uid)
       (subst (λ (m : MetaView). AreStamps m.created m.deleted m.generation) (sym same) w.stamps)
@@ -94,6 +95,16 @@ module _ (given : Given) (o : Settings) (d : Definition) (loaded : IsLoaded d) w
     whole = whole_stands;
     pair = λ v h x known w p. form_stands v h x known w (seat d v) refl (loaded.seats v known) p;
   }
+
+-- ---- finalizers
+
+same_finalizers : (d : Definition) (z : Seat) (h x : ObjectView) → PairsAt d.spokes z h x → x.meta.finalizers ≡ h.meta.finalizers
+same_finalizers d at_hub h x p = ap (λ (w : ObjectView). w.meta.finalizers) p
+same_finalizers d (at_spoke s) h x p = ap (λ (m : MetaView). m.finalizers) p.1.meta
+same_finalizers d nowhere h x p = absurd p
+
+pub finalizers : (o : Settings) (d : Definition) → KeepsFinalizers (meaning_of d o)
+finalizers o d = record { same = λ v h x known w p. same_finalizers d (seat d v) h x p }
 
 -- ---- stamps
 

@@ -5,7 +5,7 @@ use Rattle.std.proofs.lemmas.Bool.Decides.{nat_tests}
 use Rattle.std.proofs.lemmas.Slice.Eq.{bytes_eq-Decides}
 use Rattle.std.specs.Str.Parse.{digits_value}
 use Rattle.serde_json.specs.Data as serde
-use Rattle.kj_value.specs.Json.{Json, null, boolean, whole, text, list, object, Members, member, members_of}
+use Rattle.kj_value.specs.Json.{Json, null, boolean, whole, text, list, object, Members, no_members, member, members_of}
 use Rattle.kj_value.specs.Reading.{Reads, IsReading, json_of}
 use Rattle.kj_value.specs.Fields.{Pairs, field}
 use Rattle.kj_value.specs.declared.rule.Rule.TheVariants as rule
@@ -18,7 +18,7 @@ use Rattle.object_reading.specs.Parts.{text_or_empty, meta_in, object_in}
 use Rattle.object_reading.specs.Refusal.{is_given_text}
 use Rattle.api_calls.specs.Cause.{CauseView, not_json, too_deep, not_whole, not_object, wrong_version, wrong_kind, wrong_namespace, wrong_name, bad_query, bad_token, bad_options}
 use Rattle.api_calls.specs.Meaning.{Request, Fault, bad_request, invalid}
-use Rattle.api_calls.specs.Versions.{IsAdmitted, Decides}
+use Rattle.api_calls.specs.Versions.{IsAdmitted, AdmitsWhole, Decides, RefusesUnread}
 use Rattle.api_calls.specs.declared.versions.TheConstants.{OBJECT_LEVELS}
 use Rattle.hub_cells.specs.Level.{Name}
 use Rattle.spoke_laws.specs.Spokes.{Spokes}
@@ -41,7 +41,7 @@ one_json : (bytes : List ℕ) (i j : Json) → Reads bytes OBJECT_LEVELS i → R
 one_json bytes i j a b =
     let same : Some i ≡ Some j = sym a.3 ∙ ap json_of (one_data bytes a.0 b.0 a.1 b.1) ∙ b.3 in cc
 
-some_none : {A : Type 0} (o : Option A) (x : A) → o ≡ Some x → o ≡ None → ⊥
+pub some_none : {A : Type 0} (o : Option A) (x : A) → o ≡ Some x → o ≡ None → ⊥
 some_none o x p q = let e : Some x ≡ None = sym p ∙ q in cc
 
 -- ---- an object's fields are those of its list
@@ -130,7 +130,7 @@ module _ (d : Definition) (r : Request) where
   says (list js) e = absurd (cc)
   says (object ms) e = fields_say ms e
 
-  taken_one : (x y : ObjectView) (e f : Option ℕ) → IsTaken d r x e → IsTaken d r y f → (x ≡ y) × (e ≡ f)
+  pub taken_one : (x y : ObjectView) (e f : Option ℕ) → IsTaken d r x e → IsTaken d r y f → (x ≡ y) × (e ≡ f)
   taken_one x y e f a b =
       let same = one_json r.bytes a.value b.value a.reads b.reads in
       (a.object ∙ ap (λ (j : Json). placed r.ns (object_in j)) same ∙ sym b.object, a.number ∙ ap (λ (j : Json). expected_of (object_in j)) same ∙ sym b.number)
@@ -150,7 +150,7 @@ module _ (known : Given) (o : Settings) (d : Definition) (loaded : IsLoaded d) w
       let other : Filled s (object (members_of x)) (object (members_of l)) = subst (λ (b : Pairs). Filled s (object (members_of b)) (object (members_of l))) (sym e) g.filled in
       object_one k l (known.filling s (object (members_of x)) (object (members_of k)) (object (members_of l)) f.sound g.sound f.filled other)
 
-  passes_one : (r : Request) (x y : ObjectView) (e f : Option ℕ) → Passes d r x e → Passes d r y f → (x ≡ y) × (e ≡ f)
+  pub passes_one : (r : Request) (x y : ObjectView) (e f : Option ℕ) → Passes d r x e → Passes d r y f → (x ≡ y) × (e ≡ f)
   passes_one r x y e f a b =
       let t = taken_one d r a.taken b.taken e f a.is b.is in
       let k = filling_one (schema_of d r) a.taken.body b.taken.body x.body y.body (ap (λ (w : ObjectView). w.body) t.0) a.filling b.filling in
@@ -161,7 +161,7 @@ module _ (known : Given) (o : Settings) (d : Definition) (loaded : IsLoaded d) w
       let same = one_left known d loaded v x a.left b.left a.settles b.settles in
       only_hub known d loaded v g h b.left a.whole b.whole (subst (λ (y : ObjectView). IsFormAt d v g y) same a.pairs) b.pairs
 
-  admitted : (r : Request) (h : ObjectView) (e : Option ℕ) → Admits d r h e → IsAdmitted (meaning_of d o) r h e
+  pub admitted : (r : Request) (h : ObjectView) (e : Option ℕ) → Admits d r h e → IsAdmitted (meaning_of d o) r h e
   admitted r h e a =
       let p = a.passes in
       let j = p.is.value in
@@ -205,7 +205,7 @@ module _ (known : Given) (o : Settings) (d : Definition) (loaded : IsLoaded d) w
   excludes_value r h e (bad_request bad_options) a n = n
   excludes_value r h e (invalid name cause) a n = n
 
-  none_broken : (s : Shape) (k : Pairs) (c : CauseView) → check.fault s (object (members_of k)) ≡ None → broken_at s k ≡ Some c → ⊥
+  pub none_broken : (s : Shape) (k : Pairs) (c : CauseView) → check.fault s (object (members_of k)) ≡ None → broken_at s k ≡ Some c → ⊥
   none_broken s k c p q = some_none (broken_at s k) c q (ap (option_map cause_at) p)
 
   excludes : (r : Request) (h : ObjectView) (e : Option ℕ) (f : Fault) → Admits d r h e → Refuses d r f → ⊥
@@ -288,8 +288,32 @@ module _ (known : Given) (o : Settings) (d : Definition) (loaded : IsLoaded d) w
 
   pub decides : Decides (meaning_of d o)
   decides = record {
-    admitted = admitted;
     one = one;
     excludes = excludes;
     complete = λ r is never_admitted never_refused. decided r never_admitted never_refused;
   }
+
+  pub admits_whole : AdmitsWhole (meaning_of d o)
+  admits_whole = record { admitted = admitted }
+
+-- ---- a body that is no object
+
+members_pairs : (ms : Members) → members_of (pairs_of ms) ≡ ms
+members_pairs no_members = refl
+members_pairs (member k j ms) = ap (λ (ns : Members). member k j ns) (members_pairs ms)
+
+early_other : (d : Definition) (r : Request) (j : Json) → ((fields : Pairs) → j ≡ object (members_of fields) → ⊥) → early d r j ≡ Some (bad_request not_object)
+early_other d r null other = refl
+early_other d r (boolean b) other = refl
+early_other d r (whole z) other = refl
+early_other d r (text s) other = refl
+early_other d r (list js) other = refl
+early_other d r (object ms) other = absurd (other (pairs_of ms) (ap object (sym (members_pairs ms))))
+
+pub unread : (o : Settings) (d : Definition) → RefusesUnread (meaning_of d o)
+unread o d = record {
+  not_json = λ r h. no_value h;
+  too_deep = λ r h. no_value h;
+  not_whole = λ r h. no_value h;
+  not_object = λ r j reads other. is_early (record { value = j; reads = reads; told = early_other d r j other });
+}

@@ -1,10 +1,12 @@
 //! Laws of a loaded definition. Each function does nothing, and its clause is the law. The settings of a meaning aren't
 //! looked at by them.
-ghost use Rattle.std.specs.Prelude.{◌≡◌, ◌<◌, ℕ};
+ghost use Rattle.std.specs.Prelude.{◌≡◌, ◌<◌, ℕ, Option};
 ghost use Rattle.kj_value.specs.Json.{members_of};
+ghost use Rattle.kj_value.specs.Fields.{Pairs};
 ghost use Rattle.kj_value.specs.Sound.{AreRising};
 ghost use Rattle.kube_meta.specs.View.{ObjectView};
-ghost use Rattle.api_calls.specs.Versions.{Decides, IgnoresStamps, IsOneToOne, Stand};
+ghost use Rattle.api_calls.specs.Meaning.{Fault, Request};
+ghost use Rattle.api_calls.specs.Versions.{AdmitsWhole, Decides, IgnoresStamps, IsOneToOne, KeepsFinalizers, RefusesUnread, Stand};
 ghost use Rattle.hub_cells.specs.Side.{spoke};
 ghost use Rattle.hub_cells.specs.Level.{Name};
 ghost use Rattle.fitted_bodies.specs.Body.{IsBodyOf};
@@ -12,7 +14,9 @@ ghost use Rattle.spoke_laws.specs.Spokes.{Spoke, api_version};
 ghost use Rattle.spoke_laws.specs.Over.{GoesOver, IsFirstBad};
 ghost use Rattle.crd_meaning.specs.Definition.{Definition, IsLoaded, count_of, seat, at_spoke};
 ghost use Rattle.crd_meaning.specs.Objects.{IsWholeValue};
-ghost use Rattle.crd_meaning.specs.Admission.{own_name, IsHubOf};
+ghost use Rattle.crd_meaning.specs.Request.{IsTaken};
+ghost use Rattle.crd_meaning.specs.Admission.{own_name, schema_of, IsFilling, IsHubOf};
+ghost use Rattle.crd_meaning.specs.Refusal.{Refuses};
 ghost use Rattle.crd_meaning.specs.Meant.{meant};
 ghost use Rattle.crd_meaning.specs.Given.{Given};
 
@@ -35,6 +39,11 @@ pub fn standing()
     known();
 }
 
+/// The form of a whole object has its finalizers.
+pub fn finalizers()
+    ensures { (d : Definition) → KeepsFinalizers (meant d) }
+{}
+
 /// Stamps and the generation aren't looked at.
 pub fn unstamped()
     ensures { (d : Definition) → IgnoresStamps (meant d) }
@@ -51,6 +60,23 @@ pub fn one_to_one()
 /// A request is admitted in one way or refused, and not both.
 pub fn deciding()
     ensures { (d : Definition) → IsLoaded d → Decides (meant d) }
+{
+    known();
+}
+
+/// What is admitted is whole and has the request's key, and a request whose body is no object is refused for that.
+pub fn admitting()
+    ensures whole { (d : Definition) → IsLoaded d → AdmitsWhole (meant d) }
+    ensures unread { (d : Definition) → RefusesUnread (meant d) }
+{
+    known();
+}
+
+/// A request whose body has a filling is refused for one reason.
+pub fn one_cause()
+    ensures { (d : Definition) → IsLoaded d → (r : Request)
+        → ((x : ObjectView) (e : Option ℕ) → IsTaken d r x e → (k : Pairs) × IsFilling (schema_of d r) x.body k)
+        → (f g : Fault) → Refuses d r f → Refuses d r g → f ≡ g }
 {
     known();
 }

@@ -1,8 +1,8 @@
 //! What a loaded definition means: which objects are whole at the hub, which object of each version is one with them,
 //! which requests are admitted and with which hub value, and why each other request is refused.
 //!
-//! The one contract: `standing`, `unstamped`, `one_to_one` and `deciding`, the laws that a server asks of a definition.
-//! Beside them stand `going_over` and `one_hub`, for code that makes hub values.
+//! The one contract: `standing`, `finalizers`, `unstamped`, `one_to_one`, `admitting` and `deciding`, the laws that a server asks of
+//! a definition. Beside them stand `one_cause`, and `going_over` and `one_hub`, for code that makes hub values.
 //!
 //! It knows nothing of how objects are held in memory, of how a definition is read, nor of flags and stored versions.
 #![tactic(auto)]
@@ -10,5 +10,8 @@
 mod laws;
 mod limits;
 
-pub use laws::{deciding, going_over, known, one_hub, one_to_one, standing, unstamped};
+pub use laws::{
+    admitting, deciding, finalizers, going_over, known, one_cause, one_hub, one_to_one, standing,
+    unstamped,
+};
 pub use limits::MAX_MEASURE;

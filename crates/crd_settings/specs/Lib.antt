@@ -6,3 +6,4 @@ pub mod Shown
 pub mod Pieces
 pub mod Depth
 pub mod Settled
+pub mod Decided

@@ -66,8 +66,9 @@ impl VersionSet {
 impl Versions for VersionSet {
     ghost use Rattle.std.specs.Prelude.{true, refl};
     ghost use Rattle.crd_settings.specs.Settled.{settings_of};
+    ghost use Rattle.crd_settings.specs.Decided.{decides_flags, decides_keep};
     ghost use Rattle.crd_laws.specs.Loaded.{loaded_meaning};
-    ghost use Rattle.crd_laws.specs.Laws.{few, opens, stand, unstamped, one_to_one, decides};
+    ghost use Rattle.crd_laws.specs.Laws.{few, opens, names, stand, unstamped, one_to_one, finalizers, admits_whole, decides, unread};
 
     type Tool = NoTool;
 
@@ -83,13 +84,25 @@ impl Versions for VersionSet {
 
     ghost opens = { λ it. opens it.set it.loaded it.offered };
 
+    ghost names = { λ it. names it.set (settings_of it.set.view) it.offered };
+
     ghost stand = { λ it. stand it.set (settings_of it.set.view) it.one_list it.loaded };
 
     ghost unstamped = { λ it. unstamped it.set (settings_of it.set.view) };
 
     ghost one_to_one = { λ it honest. one_to_one it.set (settings_of it.set.view) it.one_list };
 
+    ghost finalizers = { λ it honest. finalizers it.set (settings_of it.set.view) };
+
+    ghost admitted = { λ it. admits_whole it.set (settings_of it.set.view) it.one_list };
+
     ghost decides = { λ it honest. decides it.set (settings_of it.set.view) it.one_list it.loaded };
+
+    ghost unread = { λ it honest. unread it.set (settings_of it.set.view) };
+
+    ghost decides_flags = { λ it. decides_flags it.set.view };
+
+    ghost decides_keep = { λ it. decides_keep it.set.view };
 
     fn count(&self) -> u8 {
         count(&self.set)

@@ -1,14 +1,10 @@
 -- The annotations that an object takes to the hub keep the rule of their keys.
-use Rattle.std.proofs.Common.{◌≡◌, List, [], ◌∷◌, Bool, true, false, cond, bytes_eq, Option, Some, None, Less, nat_cmp, is_eq, refl, ap, sym, subst, ◌∙◌}
+use Rattle.std.proofs.Common.{◌≡◌, List, [], ◌∷◌, Bool, true, false, bytes_eq, Option, Some, None, refl, ap, sym, subst, ◌∙◌}
 use Rattle.std.specs.Prelude.{nat_eq, if◌then◌else◌}
 use Rattle.std.specs.List.{list_all, starts_with}
-use Rattle.std.specs.Cmp.Lexicographic.{slice_cmp}
-use Rattle.std.specs.Map.{keys_of}
-use Rattle.std.proofs.lemmas.Cmp.{nat_list_cmp_total}
 use Rattle.std.proofs.lemmas.Slice.Eq.{bytes_eq-Decides}
-use Rattle.std.proofs.lemmas.Map.Text.{is_eq-slice_cmp}
-use Rattle.kj_value.specs.Fields.{Pairs, field, IsBelowFirst, AreInOrder}
-use Rattle.kube_meta.specs.View.{Texts, ObjectView}
+use Rattle.kj_value.specs.Fields.{Pairs}
+use Rattle.kube_meta.specs.View.{ObjectView}
 use Rattle.kept_entries.specs.declared.entry.Entry.{Entry}
 use Rattle.hub_cells.specs.Level.{Name}
 use Rattle.object_reading.specs.Labels.{is_annotation_key}
@@ -18,54 +14,7 @@ use Rattle.spoke_laws.specs.Keys.{hub_key, spoke_prefix, spoke_key, KeyKind, pla
 use Rattle.spoke_laws.specs.Notes.{noted}
 use Rattle.spoke_laws.specs.Settling.{IsJudged, OtherNote, SettlesAtHub}
 use Rattle.spoke_laws.specs.Over.{SpokeNoteOver, NoteOver, GoesOver}
-use Rattle.hub_admission.proofs.Tests.{both, joined}
-
--- ---- maps of annotations
-
-one_name : (k l : Name) → is_eq (slice_cmp nat_cmp k l) ≡ true → k ≡ l
-one_name k l h = (bytes_eq-Decides k l).0 (sym (is_eq-slice_cmp k l) ∙ h)
-
-own_test : (k : Name) → is_eq (slice_cmp nat_cmp k k) ≡ true
-own_test k = is_eq-slice_cmp k k ∙ (bytes_eq-Decides k k).1 refl
-
--- a name that is found has the rule
-found : (ns : Texts) (k t : Name) → list_all is_annotation_pair ns ≡ true → field k ns ≡ Some t → is_annotation_key k ≡ true
-found [] k t h e = absurd (cc)
-found (n ∷ ns) k t h e =
-    by_test (is_eq (slice_cmp nat_cmp k n.0)) refl e (λ q. found ns k t (both (is_annotation_pair n) (list_all is_annotation_pair ns) h).1 q)
-  where
-    by_test : (b : Bool) → is_eq (slice_cmp nat_cmp k n.0) ≡ b → cond b (Some n.1) (field k ns) ≡ Some t → (field k ns ≡ Some t → is_annotation_key k ≡ true) → is_annotation_key k ≡ true
-    by_test true q e later =
-        subst (λ (l : Name). is_annotation_key l ≡ true) (sym (one_name k n.0 q)) (both (is_annotation_pair n) (list_all is_annotation_pair ns) h).0
-    by_test false q e later = later e
-
-below_tail : (k : Name) (n : Name × Name) (ns : Texts) → slice_cmp nat_cmp k n.0 ≡ Less → AreInOrder (n ∷ ns) → IsBelowFirst k (keys_of ns)
-below_tail k n [] p h = tt
-below_tail k n (m ∷ ns) p h = nat_list_cmp_total.trans k n.0 m.0 p h.0
-
-absent : (k : Name) (ns : Texts) → IsBelowFirst k (keys_of ns) → AreInOrder ns → field k ns ≡ None
-absent k [] b h = refl
-absent k (n ∷ ns) b h =
-    let l : slice_cmp nat_cmp k n.0 ≡ Less = b in
-    rw l (absent k ns (below_tail k n ns b h) h.1)
-
-abbrev AllFound : Texts → Type 0
-AllFound ns = (k t : Name) → field k ns ≡ Some t → is_annotation_key k ≡ true
-
-tail_found : (n : Name × Name) (ns : Texts) → AreInOrder (n ∷ ns) → AllFound (n ∷ ns) → AllFound ns
-tail_found n ns h f k t e = by_test (is_eq (slice_cmp nat_cmp k n.0)) refl (f k t)
-  where
-    by_test : (b : Bool) → is_eq (slice_cmp nat_cmp k n.0) ≡ b → (cond b (Some n.1) (field k ns) ≡ Some t → is_annotation_key k ≡ true) → is_annotation_key k ≡ true
-    by_test true q g =
-        let none : field k ns ≡ None = absent k ns (subst (λ (l : Name). IsBelowFirst l (keys_of ns)) (sym (one_name k n.0 q)) h.0) h.1 in
-        absurd (cc)
-    by_test false q g = g e
-
-all_found : (ns : Texts) → AreInOrder ns → AllFound ns → list_all is_annotation_pair ns ≡ true
-all_found [] h f = refl
-all_found (n ∷ ns) h f =
-    let first : field n.0 (n ∷ ns) ≡ Some n.1 = rw (own_test n.0) refl in
-    joined (is_annotation_pair n) (list_all is_annotation_pair ns) (f n.0 n.1 first) (all_found ns h.1 (tail_found n ns h f))
+use Rattle.crd_meaning.proofs.Annotations.{found, all_found}
 
 -- ---- whose annotation a key is of
 

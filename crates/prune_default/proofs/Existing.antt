@@ -157,7 +157,7 @@ over_is ss n = by_shape (shape_named n ss) refl
     by_shape (some_shape t) e = over_there ss ss n t e
     by_shape no_shape e =
         let none : default_of (shape_named n ss) ≡ None = ap default_of e in
-        elim (over_one ss ss n) [ | inl p ↦ p ∙ sym none | inr p ↦ p ]
+        elim (over_one ss ss n) [ inl p ↦ p ∙ sym none | inr p ↦ p ]
 
 set_defaults : (ps : MaybeShapes) (es : Pairs) → SoundInMap ps → AreRising (members_of es) → (fs : Pairs) × Sets es (λ n. default_of (property n ps)) fs × AreRising (members_of fs)
 set_defaults no_map es s h = (es, (λ n. sym (or_none (value_at n (members_of es)))), h)

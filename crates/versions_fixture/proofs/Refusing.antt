@@ -1,6 +1,6 @@
 -- Refusals of a document of the form, and what holds of an answer.
 use Rattle.std.proofs.Common.{◌≡◌, ℕ, List, Option, Some, None, true, sym, refl, subst, Bor}
-use Rattle.std.specs.Prelude.{Result, Ok, Err, IfOk, IsSome, is_some, option_map}
+use Rattle.std.specs.Prelude.{Result, Ok, Err, IfOk, IfErr, IsSome, is_some, option_map}
 use Rattle.kj_value.specs.declared.rule.Rule.{Rule}
 use Rattle.api_calls.specs.Cause.{CauseView, cause_of}
 use Rattle.api_calls.specs.Meaning.{Request}
@@ -25,3 +25,7 @@ some_mapped (Some s) h = refl
 pub ok_mapped : (r : Result Admitted AdmitFault) (P Q : Admitted → Type 0) → ((a : Admitted) → P a → Q a) → IfOk r P → IfOk r Q
 ok_mapped (Ok a) P Q f h = f a h
 ok_mapped (Err e) P Q f h = tt
+
+pub err_mapped : (r : Result Admitted AdmitFault) (P Q : AdmitFault → Type 0) → ((e : AdmitFault) → P e → Q e) → IfErr r P → IfErr r Q
+err_mapped (Ok a) P Q f h = tt
+err_mapped (Err e) P Q f h = f e h

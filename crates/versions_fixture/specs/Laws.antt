@@ -1,22 +1,24 @@
 -- The laws of `Versions`, of this definition.
-use Rattle.std.proofs.Common.{◌≡◌, ◌∙◌, ℕ, zero, suc, ◌<◌, ◌≤◌, max, List, ◌∷◌, Option, Some, None, Bool, true, false, inl, inr, lit<, subst, ap, sym, refl, arith}
-use Rattle.std.specs.Prelude.{◌⊎◌, ℤ, slice_get, IsSome, IfSome, nat_lt, nat_le, ◌==◌, if◌then◌else◌, length}
+use Rattle.std.proofs.Common.{◌≡◌, ◌∙◌, ℕ, zero, suc, ◌<◌, ◌≤◌, max, List, [], ◌∷◌, Option, Some, None, Bool, true, false, inl, inr, lit<, subst, ap, sym, refl, arith}
+use Rattle.std.specs.Prelude.{◌⊎◌, ℤ, slice_get, IsSome, IfSome, nat_lt, nat_le, ◌==◌, if◌then◌else◌, length, codes}
 use Rattle.std.proofs.lemmas.Bool.Decides.{nat_tests}
 use Rattle.serde_json.specs.Data as serde
-use Rattle.kj_value.specs.Json.{Json, text}
+use Rattle.kj_value.specs.Json.{Json, text, object, members_of}
 use Rattle.kj_value.specs.Text.{text_of}
 use Rattle.kj_value.specs.Reading.{Reads, IsReading, json_of}
-use Rattle.kj_value.specs.Fields.{Pairs}
+use Rattle.kj_value.specs.Fields.{Pairs, with_field}
 use Rattle.kube_meta.specs.View.{ObjectView}
-use Rattle.kube_meta.specs.Document.{document}
-use Rattle.kube_meta.specs.Names.{is_name}
+use Rattle.kube_meta.specs.Document.{document, metadata}
+use Rattle.kube_meta.specs.Names.{is_name, is_namespace}
+use Rattle.object_reading.specs.Keeping.{KeepsRules, is_empty_or}
 use Rattle.api_calls.specs.Cause.{CauseView, not_json, too_deep, not_whole, not_object, wrong_version, wrong_kind, wrong_namespace, wrong_name, bad_query, bad_token, bad_options}
 use Rattle.api_calls.specs.Meaning.{Request, Fault, bad_request, invalid, Weighs, stamped, unnumbered, widest, chunks, measure}
-use Rattle.api_calls.specs.Versions.{AreFlags, AreStamps, IsBody, StandsAt, Stand, IgnoresStamps, IsOneToOne, IsRequest, IsAdmitted, Decides}
+use Rattle.api_calls.specs.Versions.{AreFlags, AreStamps, IsBody, StandsAt, Stand, IgnoresStamps, IsOneToOne, IsRequest, KeepsFinalizers, NamesDiffer, IsAdmitted, AdmitsWhole, Decides, RefusesUnread, DecidesBodies}
+use Rattle.api_calls.specs.declared.flags.Flags.{Flags}
 use Rattle.api_calls.specs.declared.versions.TheConstants.{OBJECT_LEVELS}
-use Rattle.versions_fixture.specs.Parts.{PartsView, body_at, object_at, bare, version_at}
+use Rattle.versions_fixture.specs.Parts.{PartsView, body_at, meta_at, object_at, bare, version_at, version_name}
 use Rattle.versions_fixture.specs.Documents.{depth-document, sound-document, document_name, document_value}
-use Rattle.versions_fixture.specs.Definition.{IsWhole, Submits, placed, Admits, no_name, no_number, too_heavy, IsInvalid, Refuses, storing, two_names, weight_of}
+use Rattle.versions_fixture.specs.Definition.{IsWhole, Submits, placed, Admits, no_name, no_number, too_heavy, IsInvalid, Refuses, storing, setting, Sets, keeping, Keeps, IsNone, two_names, weight_of}
 use Rattle.versions_fixture.specs.declared.admission.TheConstants.{MOST_CHUNKS}
 use Rattle.versions_fixture.specs.declared.parts.Version.{Version}
 use Rattle.versions_fixture.specs.declared.parts.Version.TheVariants.{V1, V1beta1}
@@ -71,11 +73,27 @@ is_body v None = record { api_version = refl; kind = refl; metadata = refl }
 is_body V1 (Some x) = record { api_version = refl; kind = refl; metadata = refl }
 is_body V1beta1 (Some x) = record { api_version = refl; kind = refl; metadata = refl }
 
-stands : (v : ℕ) (p : PartsView) → is_name p.name ≡ true → AreStamps p.created p.deleted p.generation → StandsAt two_names v (object_at (version_at v) p)
-stands v p named stamps = record {
+in_namespace : (s : List ℕ) → is_namespace s ≡ true → is_empty_or is_namespace s ≡ true
+in_namespace [] h = refl
+in_namespace (b ∷ bs) h = h
+
+rules : (p : PartsView) → is_name p.name ≡ true → is_namespace p.namespace ≡ true → KeepsRules (meta_at p)
+rules p named in_place = record {
+  name = named;
+  namespace = in_namespace p.namespace in_place;
+  labels = refl;
+  annotations = refl;
+  few = refl;
+  finalizers = refl;
+  resource_version = refl;
+}
+
+pub stands : (v : ℕ) (p : PartsView) → is_name p.name ≡ true → is_namespace p.namespace ≡ true → AreStamps p.created p.deleted p.generation
+    → StandsAt two_names v (object_at (version_at v) p)
+stands v p named in_place stamps = record {
   api_version = refl;
   kind = refl;
-  name = named;
+  rules = rules p named in_place;
   no_number = refl;
   no_uid = refl;
   stamps = stamps;
@@ -85,21 +103,39 @@ stands v p named stamps = record {
 }
 
 -- a hub value's parts
-parts_legal : (h : ObjectView) (q : PartsView) → (w : IsWhole h) → h ≡ object_at V1 q → (is_name q.name ≡ true) × AreStamps q.created q.deleted q.generation
+pub parts_legal : (h : ObjectView) (q : PartsView) → (w : IsWhole h) → h ≡ object_at V1 q
+    → (is_name q.name ≡ true) × (is_namespace q.namespace ≡ true) × AreStamps q.created q.deleted q.generation
 parts_legal h q w e =
-    subst (λ (p : PartsView). (is_name p.name ≡ true) × AreStamps p.created p.deleted p.generation)
-    (object_one V1 w.parts q (sym w.is ∙ e)) (w.named, w.stamps)
+    subst (λ (p : PartsView). (is_name p.name ≡ true) × (is_namespace p.namespace ≡ true) × AreStamps p.created p.deleted p.generation)
+    (object_one V1 w.parts q (sym w.is ∙ e)) (w.named, w.placed, w.stamps)
 
 pub stand : Stand two_names
 stand = record {
   hub = lit< tt;
-  whole = λ h w. subst (λ (x : ObjectView). StandsAt two_names 0 x) (sym w.is) (stands 0 w.parts w.named w.stamps);
+  whole = λ h w. subst (λ (x : ObjectView). StandsAt two_names 0 x) (sym w.is) (stands 0 w.parts w.named w.placed w.stamps);
   pair = λ v h x known w one.
       let legal = parts_legal h one.parts w one.hub in
-      subst (λ (y : ObjectView). StandsAt two_names v y) (sym one.form) (stands v one.parts legal.0 legal.1);
+      subst (λ (y : ObjectView). StandsAt two_names v y) (sym one.form) (stands v one.parts legal.0 legal.1 legal.2);
 }
 
-abbrev parts_stamped : PartsView → Option (List ℕ) → Option (List ℕ) → ℤ → PartsView
+pub finalizers : KeepsFinalizers two_names
+finalizers = record {
+  same = λ v h x known w one. ap (λ (y : ObjectView). y.meta.finalizers) one.form ∙ sym (ap (λ (y : ObjectView). y.meta.finalizers) one.hub);
+}
+
+differ : (v w : ℕ) → v < 2 → w < 2 → version_name (version_at v) ≡ version_name (version_at w) → v ≡ w
+differ zero zero p q e = refl
+differ zero (suc zero) p q e = let other : 2 ≡ 7 = ap length e in absurd (omega (arith, other))
+differ zero (suc (suc w)) p q e = absurd (omega arith)
+differ (suc zero) zero p q e = let other : 7 ≡ 2 = ap length e in absurd (omega (arith, other))
+differ (suc zero) (suc zero) p q e = refl
+differ (suc zero) (suc (suc w)) p q e = absurd (omega arith)
+differ (suc (suc v)) w p q e = absurd (omega arith)
+
+pub names_differ : NamesDiffer two_names
+names_differ = record { differ = differ }
+
+abbrev pub parts_stamped : PartsView → Option (List ℕ) → Option (List ℕ) → ℤ → PartsView
 parts_stamped p created deleted generation = record p { created = created; deleted = deleted; generation = generation }
 
 pub unstamped : IgnoresStamps two_names
@@ -312,4 +348,74 @@ complete r is never_admitted never_refused =
     never_refused (bad_request not_json) (λ d reading. data_decided r d is reading never_admitted never_refused)
 
 pub decides : Decides two_names
-decides = record { admitted = admitted; one = one; excludes = excludes; complete = complete }
+decides = record { one = one; excludes = excludes; complete = complete }
+
+pub admits_whole : AdmitsWhole two_names
+admits_whole = record { admitted = admitted }
+
+document_object : (x : ObjectView) → (fields : Pairs) × (document x ≡ object (members_of fields))
+unfolding document
+document_object x = (
+  with_field (codes "metadata") (object (members_of (metadata x.meta)))
+      (with_field (codes "kind") (text x.kind) (with_field (codes "apiVersion") (text x.api_version) x.body)),
+  refl,
+)
+
+pub unread : RefusesUnread two_names
+unread = record {
+  not_json = λ r h. h;
+  too_deep = λ r h. h;
+  not_whole = λ r h. h;
+  not_object = λ r j reads other. record {
+    value = j;
+    reads = reads;
+    other = λ name given same.
+        let fields = document_object (object_at (version_at r.version) (bare name given)) in
+        other fields.0 (same ∙ fields.1);
+  };
+}
+
+-- ---- flags and stored versions
+
+-- of two bodies, one for each version, that differ
+module _ (body : Version → List ℕ) (differs : body V1 ≡ body V1beta1 → ⊥) where
+  one_version : (v w : ℕ) → v < 2 → w < 2 → body (version_at v) ≡ body (version_at w) → v ≡ w
+  one_version zero zero p q e = refl
+  one_version zero (suc zero) p q e = absurd (differs e)
+  one_version zero (suc (suc w)) p q e = absurd (omega arith)
+  one_version (suc zero) zero p q e = absurd (differs (sym e))
+  one_version (suc zero) (suc zero) p q e = refl
+  one_version (suc zero) (suc (suc w)) p q e = absurd (omega arith)
+  one_version (suc (suc v)) w p q e = absurd (omega arith)
+
+settings_differ : setting V1 ≡ setting V1beta1 → ⊥
+unfolding setting
+settings_differ e = let other : 25 ≡ 30 = ap length e in omega (arith, other)
+
+keepings_differ : keeping V1 ≡ keeping V1beta1 → ⊥
+unfolding keeping
+keepings_differ e = let other : 36 ≡ 41 = ap length e in omega (arith, other)
+
+sets_any : (bytes : List ℕ) → ((f : Flags) → Sets bytes f → ⊥) → (v : Version) → bytes ≡ setting v → ⊥
+sets_any bytes never V1 e = never (storing 0) (record { version = 0; known = lit< tt; body = e; flags = refl })
+sets_any bytes never V1beta1 e = never (storing 1) (record { version = 1; known = lit< tt; body = e; flags = refl })
+
+pub decides_flags : DecidesBodies Flags Sets (λ bytes f. IsNone setting bytes f)
+decides_flags = record {
+  one = λ bytes a b p q. p.flags ∙ ap storing (one_version setting settings_differ p.version q.version p.known q.known (sym p.body ∙ q.body)) ∙ sym q.flags;
+  one_fault = λ bytes f g p q. p.fault ∙ sym q.fault;
+  excludes = λ bytes a f p q. q.other (version_at p.version) p.body;
+  complete = λ bytes never_sets never_refused. never_refused (bad_request not_object) (record { fault = refl; other = sets_any bytes never_sets });
+}
+
+keeps_any : (bytes : List ℕ) → ((vs : List ℕ) → Keeps bytes vs → ⊥) → (v : Version) → bytes ≡ keeping v → ⊥
+keeps_any bytes never V1 e = never (0 ∷ []) (record { version = 0; known = lit< tt; body = e; versions = refl })
+keeps_any bytes never V1beta1 e = never (1 ∷ []) (record { version = 1; known = lit< tt; body = e; versions = refl })
+
+pub decides_keep : DecidesBodies (List ℕ) Keeps (λ bytes f. IsNone keeping bytes f)
+decides_keep = record {
+  one = λ bytes a b p q. p.versions ∙ ap (λ (v : ℕ). v ∷ []) (one_version keeping keepings_differ p.version q.version p.known q.known (sym p.body ∙ q.body)) ∙ sym q.versions;
+  one_fault = λ bytes f g p q. p.fault ∙ sym q.fault;
+  excludes = λ bytes a f p q. q.other (version_at p.version) p.body;
+  complete = λ bytes never_keeps never_refused. never_refused (bad_request not_object) (record { fault = refl; other = keeps_any bytes never_keeps });
+}

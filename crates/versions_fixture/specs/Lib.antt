@@ -2,5 +2,6 @@ pub mod Parts
 pub mod Definition
 pub mod Documents
 pub mod Laws
+pub mod Unknown
 pub mod Example
 pub mod History

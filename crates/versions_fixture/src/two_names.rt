@@ -44,7 +44,7 @@ impl Versions for TwoNames {
     ghost use Rattle.std.specs.Prelude.{true, refl};
     ghost use Rattle.std.proofs.Common.{arith};
     ghost use Rattle.versions_fixture.specs.Definition.{two_names};
-    ghost use Rattle.versions_fixture.specs.Laws.{decides, legal_opening, one_to_one, stand, unstamped};
+    ghost use Rattle.versions_fixture.specs.Laws.{admits_whole, decides, decides_flags, decides_keep, finalizers, legal_opening, names_differ, one_to_one, stand, unread, unstamped};
 
     type Tool = NoTool;
 
@@ -60,13 +60,25 @@ impl Versions for TwoNames {
 
     ghost opens = { λ it. legal_opening };
 
+    ghost names = { λ it. names_differ };
+
     ghost stand = { λ it. stand };
 
     ghost unstamped = { λ it. unstamped };
 
     ghost one_to_one = { λ it honest. one_to_one };
 
+    ghost finalizers = { λ it honest. finalizers };
+
+    ghost admitted = { λ it. admits_whole };
+
     ghost decides = { λ it honest. decides };
+
+    ghost unread = { λ it honest. unread };
+
+    ghost decides_flags = { λ it. decides_flags };
+
+    ghost decides_keep = { λ it. decides_keep };
 
     fn count(&self) -> u8 {
         2

@@ -1,0 +1,34 @@
+use Rattle.std.proofs.Common.{◌<◌, ◌≤◌}
+use Rattle.std.specs.Prelude.{IsTrue, false}
+use Rattle.kj_value.specs.Json.{depth}
+use Rattle.kube_meta.specs.View.{object_of}
+use Rattle.kube_meta.specs.Document.{document}
+use Rattle.api_calls.specs.Meaning.{Weighs}
+use Rattle.api_calls.specs.Versions.{Refused, request_of}
+use Rattle.versions_fixture.specs.Definition.{Admits, Refuses, placed, two_names}
+use Rattle.versions_fixture.specs.Laws.{weighs_some}
+use Rattle.versions_fixture.specs.Unknown.{unknown, not_honest, refused_so}
+use Rattle.versions_fixture.specs.declared.parts.Version.TheVariants.{V1}
+use Rattle.versions_fixture.proofs.Found.{levels}
+use Rattle.versions_fixture.proofs.Refusing.{ok_mapped, err_mapped}
+use Rattle.versions_fixture.proofs.unknown_names.UnknownNamesVersions.admit.Goals as goal
+
+pub returns-clause-weighs : goal.returns-clause-weighs
+returns-clause-weighs c =
+    ok_mapped c.admitted.result (λ a. Weighs two_names (object_of a.hub) a.weight) (λ a. IsTrue false → Weighs unknown (object_of a.hub) a.weight)
+    (λ a w honest. not_honest honest) c.admitted.ensures.weight
+
+pub returns-clause-weight : goal.returns-clause-weight
+returns-clause-weight c =
+    ok_mapped c.admitted.result (λ a. Weighs two_names (object_of a.hub) a.weight) (λ a. 0 < a.weight)
+    (λ a w. weighs_some (object_of a.hub) a.weight w) c.admitted.ensures.weight
+
+pub returns-clause-levels : goal.returns-clause-levels
+returns-clause-levels c =
+    ok_mapped c.admitted.result (λ a. Admits (request_of c.args.input.now) (object_of a.hub) a.expected) (λ a. depth (document (object_of a.hub)) ≤ 64)
+    (λ a h. levels V1 (placed c.args.input.now.ns.now h.name h.value) (object_of a.hub) h.is) c.admitted.ensures.ok
+
+pub returns-clause-refused : goal.returns-clause-refused
+returns-clause-refused c =
+    err_mapped c.admitted.result (Refused (Refuses (request_of c.args.input.now)) ⊥) (Refused (λ g. Unit {0}) _)
+    (λ f h. refused_so (request_of c.args.input.now) _ f h) c.admitted.ensures.refused
