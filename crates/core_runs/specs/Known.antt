@@ -1,15 +1,16 @@
 -- What the caller knows of a call, at the list that the core stands for.
-use Rattle.std.specs.Prelude.{◌≡◌, ◌≢◌, ℕ, ◌≤◌, true, List, Option, None, Some, IsTrue}
+use Rattle.std.specs.Prelude.{◌≡◌, ℕ, ◌+◌, ◌≤◌, true, List, ◌++◌, Option, None, Some, IsTrue}
 use Rattle.kube_meta.specs.Key.{KeyView}
 use Rattle.kube_meta.specs.Names.{is_name}
 use Rattle.kube_meta.specs.View.{ObjectView}
 use Rattle.api_calls.specs.Meaning.{Meaning}
 use Rattle.api_calls.specs.Item.{Item}
-use Rattle.api_calls.specs.Objects.{Stored, find, elsewhere}
-use Rattle.api_calls.specs.State.{state}
+use Rattle.api_calls.specs.Objects.{Stored, find}
+use Rattle.api_calls.specs.State.{revision, state}
 use Rattle.api_calls.specs.Legal.{IsNew}
 use Rattle.api_calls.specs.Versions.{AreFlags}
-use Rattle.api_calls.specs.Work.{Work, work_of}
+use Rattle.api_calls.specs.Ends.{prepare}
+use Rattle.api_calls.specs.Work.{turn_decision}
 use Rattle.turn_state.specs.declared.seen.Prepared.{Prepared}
 use Rattle.turn_state.specs.Prepared.{IsSized, Prepares, KnownAt, Replacing, Marking, IsFree, IsEnding}
 use Rattle.core_runs.specs.declared.calls.Call.{Call}
@@ -20,15 +21,12 @@ abbrev pub Matches : KeyView → ℕ → Prepared → Option Stored → Type 0
 Matches k expected p None = Unit {0}
 Matches k expected p (Some e) = e.number ≡ expected → (p.key ≡ k) × (p.weight ≡ e.weight)
 
--- the first object of a claim's span that stands elsewhere has this key
-abbrev pub IsFirst : Work → KeyView → List Stored → Type 0
-IsFirst w k es = (e : Stored) × (elsewhere w.span w.target es ≡ Some e) × (e.key ≡ k)
-
--- where the claim is held and the key's object stands elsewhere, it is the first such object of the claim's span
-abbrev pub ComesNext : Option Work → KeyView → List Stored → Option Stored → Type 0
-ComesNext None k es o = Unit {0}
-ComesNext (Some w) k es None = Unit {0}
-ComesNext (Some w) k es (Some e) = e.at ≢ w.target → IsFirst w k es
+-- at a turn before, or at this one, a worker with the claim was told to prepare the object of a key, which stood at a number
+pub record WasAsked (m : Meaning) (log : List Item) (claim : Option ℕ) (k : KeyView) (number : ℕ) : Type 0 where
+  pub before : List Item
+  pub since : List Item
+  pub goes_on : before ++ since ≡ log
+  pub told : (turn_decision (revision before + 1) (state m before) claim).decision.answer ≡ prepare k number
 
 -- A prepared text means h. Of the object that stands under the key nothing has to be known but where it stands at the
 -- expected number: what was known of it when it was looked at holds then.
@@ -45,5 +43,5 @@ IsKnown m log h stamp (call.Start name) = is_name name.bytes ≡ true
 IsKnown m log h stamp (call.Work claim) = Unit {0}
 IsKnown m log h stamp (call.Touch claim expected new) = IsSized new × Prepares m new h × KnownAt m log new.key expected (λ e. h ≡ e.h)
     × Matches new.key expected new (find new.key (state m log).objects)
-    × ComesNext (work_of claim (state m log)) new.key (state m log).objects (find new.key (state m log).objects)
+    × WasAsked m log claim new.key expected
 IsKnown m log h stamp (call.GiveBack claim) = Unit {0}

@@ -61,7 +61,7 @@ migration_turn-end-requires-in-Touch-clause-fits g c =
 pub migration_turn-end-requires-in-Touch-clause-next : goal.migration_turn-end-requires-in-Touch-clause-next
 migration_turn-end-requires-in-Touch-clause-next g c =
     let k = subst (IsKnown (g.V.Versions.meaning c.args.core.now.versions) c.requires.0 c.requires.1 c.requires.2) c.in-Touch.is c.requires.4 in
-    next (g.V.Versions.meaning c.args.core.now.versions) c.args.core.now.view c.requires.0 c.requires.3 c.in-Touch.claim c.in-Touch.moved.key k.4
+    next (g.V.Versions.meaning c.args.core.now.versions) c.args.core.now.view c.requires.0 c.requires.3 c.in-Touch.claim c.in-Touch.moved.key c.in-Touch.expected k.4
 
 pub returns-in-Create-clause-turn : goal.returns-in-Create-clause-turn
 returns-in-Create-clause-turn g c = λ log h stamp st known.
