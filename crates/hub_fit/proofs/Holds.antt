@@ -24,7 +24,7 @@ pub none_right : {A : Type 0} (o p : Option A) → or_else o p ≡ None → p �
 none_right None p e = e
 none_right (Some x) p e = absurd (cc)
 
-no_spot : (d : Side) (w : Why) (o : Option Name) → spot_at d w o ≡ None → o ≡ None
+pub no_spot : (d : Side) (w : Why) (o : Option Name) → spot_at d w o ≡ None → o ≡ None
 no_spot d w None e = refl
 no_spot d w (Some k) e = absurd (cc)
 
@@ -37,11 +37,11 @@ pub passed_on : {A : Type 0} (b : Bool) (o : Option A) (x : A) → cond b o (Som
 passed_on true o x e = e
 passed_on false o x e = absurd (cc)
 
-failed : {A : Type 0} (b : Bool) (o : Option A) (x : A) → cond b (Some x) o ≡ None → b ≡ false
+pub failed : {A : Type 0} (b : Bool) (o : Option A) (x : A) → cond b (Some x) o ≡ None → b ≡ false
 failed true o x e = absurd (cc)
 failed false o x e = refl
 
-failed_on : {A : Type 0} (b : Bool) (o : Option A) (x : A) → cond b (Some x) o ≡ None → o ≡ None
+pub failed_on : {A : Type 0} (b : Bool) (o : Option A) (x : A) → cond b (Some x) o ≡ None → o ≡ None
 failed_on true o x e = absurd (cc)
 failed_on false o x e = e
 

@@ -8,3 +8,4 @@ pub mod LevelFits
 pub mod Fronts
 pub mod Rising
 pub mod Building
+pub mod Exactly

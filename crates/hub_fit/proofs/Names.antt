@@ -44,7 +44,7 @@ has_middle k ws xs bs =
     has_append k ws (xs ++ bs) ∙ ap (λ (b : Bool). has_name k ws || b) (has_append k xs bs) ∙ or_swap (has_name k ws) (has_name k xs) (has_name k bs)
     ∙ ap (λ (b : Bool). has_name k xs || b) (sym (has_append k ws bs))
 
-self : (k : Name) → bytes_eq k k ≡ true
+pub self : (k : Name) → bytes_eq k k ≡ true
 self k = (bytes_eq-Decides k k).1 refl
 
 pub fresh : (k : Name) (ns : List Name) → has_name k ns ≡ false → IsFresh k ns
@@ -74,7 +74,7 @@ distinct_left [] ys p = tt
 distinct_left (x ∷ xs) ys p =
     (fresh x xs (or_left (has_name x xs) (has_name x ys) (sym (has_append x xs ys) ∙ not_fresh x (xs ++ ys) p.0)), distinct_left xs ys p.1)
 
-distinct_right : (xs ys : List Name) → AreDistinct (xs ++ ys) → AreDistinct ys
+pub distinct_right : (xs ys : List Name) → AreDistinct (xs ++ ys) → AreDistinct ys
 distinct_right [] ys p = p
 distinct_right (x ∷ xs) ys p = distinct_right xs ys p.1
 

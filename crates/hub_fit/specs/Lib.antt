@@ -2,3 +2,4 @@ pub mod Chosen
 pub mod InnerFits
 pub mod Refuses
 pub mod Differ
+pub mod Conditions
