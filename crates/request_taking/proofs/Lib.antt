@@ -1,7 +1,6 @@
 mod Lookup
 mod Depths
 mod Schemas
-mod Agrees
 mod Lists
 mod Refusing
 mod Rows

@@ -34,7 +34,7 @@ use Rattle.crd_meaning.specs.Refusal.{cause_at, Refuses, is_early, is_broken}
 use Rattle.loaded_versions.specs.Passed.{IsPassed}
 use Rattle.request_taking.specs.Low.{HasLowDefaults}
 use Rattle.request_taking.specs.Steps.{IsFirst, BreaksRule, TellsCause}
-use Rattle.request_taking.proofs.Agrees.{agrees}
+use Rattle.struct_schema.proofs.Agrees.{agrees}
 use Rattle.request_taking.proofs.Lists.{pairs_members, body_depth, owners_depth}
 use Rattle.request_taking.proofs.Depths.{filled_within}
 use Rattle.request_taking.proofs.Rows.{none_asked, early_fields}

@@ -1,6 +1,6 @@
 -- The defaults of the schemas of an accepted definition are within the levels of an object.
 use Rattle.std.proofs.Common.{◌≡◌, ℕ, zero, suc, ◌+◌, ◌≤◌, List, Bool, true, false, ◌&&◌, cond, Option, Some, None, refl, subst, arith}
-use Rattle.std.specs.Prelude.{not, nat_lt, is_some, slice_index_or}
+use Rattle.std.specs.Prelude.{not, nat_lt, slice_index_or}
 use Rattle.std.proofs.lemmas.Bool.Decides.{nat_tests}
 use Rattle.kj_value.specs.Json.{Json, null, boolean, whole, text, list, object, Items, no_items, item, Members, no_members, member, depth}
 use Rattle.struct_schema.specs.Names.{is_name, value_at}
@@ -8,7 +8,7 @@ use Rattle.struct_schema.specs.Shape.{Shape, Shapes, MaybeShapes, MaybeShape, so
 use Rattle.struct_schema.specs.Valid.{valid}
 use Rattle.struct_schema.specs.Stays.{stays}
 use Rattle.schema_reading.specs.Words.{word, passed_type}
-use Rattle.schema_reading.specs.Kind.{node_kind}
+use Rattle.schema_reading.specs.Kind.{node_kind, type_allowed}
 use Rattle.schema_reading.specs.Allowed.{items_allowed, additional_allowed}
 use Rattle.schema_reading.specs.ShapeRead.{property_read, shape_read, inner_read, map_read, named_read, shapes_read, bare_read}
 use Rattle.schema_reading.specs.Accepted.{names_allowed, no_bad_default, node_allowed, property_allowed, all_allowed, inner_allowed, map_allowed, named_allowed, each_allowed}
@@ -49,11 +49,11 @@ default_low root d ms (Some j) n h =
     sum_within d (depth j) n (fourth_true (not root) (valid (bare_read root ms) j) (stays (bare_read root ms) j) (nat_lt (depth j) (suc MAX_DEFAULT_DEPTH)) h)
 
 own_low : (u v w : _) (root : Bool) (d : ℕ) (ms : Members) → nat_lt d (suc MAX_NESTING) ≡ true
-    → names_allowed (node_kind root ms) ms && (additional_allowed (node_kind root ms) ms (value_at (word u) ms) && (items_allowed (node_kind root ms) (value_at (word v) ms)
-    && (is_some (node_kind root ms) && no_bad_default root (bare_read root ms) (value_at (word w) ms)))) ≡ true
+    → names_allowed (node_kind ms) ms && (additional_allowed (node_kind ms) ms (value_at (word u) ms) && (items_allowed (node_kind ms) (value_at (word v) ms)
+    && (type_allowed root (node_kind ms) && no_bad_default root (bare_read root ms) (value_at (word w) ms)))) ≡ true
     → WithinAt d (value_at (word w) ms)
 own_low u v w root d ms n h =
-    default_low root d ms (value_at (word w) ms) n (five_true (names_allowed (node_kind root ms) ms) (additional_allowed (node_kind root ms) ms (value_at (word u) ms)) (items_allowed (node_kind root ms) (value_at (word v) ms)) (is_some (node_kind root ms)) (no_bad_default root (bare_read root ms) (value_at (word w) ms)) h)
+    default_low root d ms (value_at (word w) ms) n (five_true (names_allowed (node_kind ms) ms) (additional_allowed (node_kind ms) ms (value_at (word u) ms)) (items_allowed (node_kind ms) (value_at (word v) ms)) (type_allowed root (node_kind ms)) (no_bad_default root (bare_read root ms) (value_at (word w) ms)) h)
 
 parts_true : (u v : _) (root : Bool) (d : ℕ) (ms : Members) → inner_allowed u d ms && (inner_allowed v d ms && map_allowed root d ms) ≡ true
     → (inner_allowed u d ms ≡ true) × (inner_allowed v d ms ≡ true) × (map_allowed root d ms ≡ true)
