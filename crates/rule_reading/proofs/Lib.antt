@@ -1,3 +1,4 @@
 pub mod Places
 pub mod Froms
 pub mod Within
+mod Spelling

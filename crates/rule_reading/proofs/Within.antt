@@ -17,7 +17,7 @@ use Rattle.hub_rules.specs.declared.rules.TheConstants.{MAX_OBJECTS}
 use Rattle.rule_reading.specs.declared.rules.TheConstants.{MAX_RULES}
 use Rattle.rule_reading.specs.declared.words.Word.TheVariants as w
 
-field_is : {A : Type 0} (x k : Name) (j : Json) (f : Json → Result A Path) → read_in x f (at_name x k (Ok j)) ≡ at_name x k (under_name x (f j))
+pub field_is : {A : Type 0} (x k : Name) (j : Json) (f : Json → Result A Path) → read_in x f (at_name x k (Ok j)) ≡ at_name x k (under_name x (f j))
 field_is {A = A} x k j f = by_order (slice_cmp nat_cmp k x)
   where
     by_order : (o : Ordering) → read_in x f (match_ordering o (Err (in_name k here)) (Ok j) (Err (in_name x here))) ≡ match_ordering o (Err (in_name k here)) (under_name x (f j)) (Err (in_name x here))

@@ -6,3 +6,4 @@ pub mod SeenSet
 pub mod RuleRead
 pub mod SetRead
 pub mod Told
+pub mod Written
