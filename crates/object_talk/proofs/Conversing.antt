@@ -21,7 +21,7 @@ use Rattle.object_server.specs.View.{base_of}
 use Rattle.object_talk.specs.Faults.{last_words}
 use Rattle.object_talk.specs.Answering.{Base, Answers}
 use Rattle.object_talk.specs.Talk.{Talks, Conversation}
-use Rattle.object_talk.specs.Steps.{AnsweredOne, Ends, Did, Refuses, step_of}
+use Rattle.object_talk.specs.Steps.{AnsweredOne, Ends, Did, HandsOn, Refuses, step_of}
 use Rattle.object_talk.specs.Conversed.{Replied, Served, Conversed}
 use Rattle.object_talk.specs.declared.conversation.OneEnd.{OneEnd}
 use Rattle.object_talk.specs.declared.conversation.OneEnd.TheVariants as steps
@@ -232,6 +232,11 @@ pub did_either : (base : Base) (closes : Bool) (log after : List Item) (stood : 
     → Did base (step_of closes) log stood bytes known before written
 did_either base true log after stood bytes rest known before written stands is one = (after, stands, rest, is, one)
 did_either base false log after stood bytes rest known before written stands is one = (after, stands, rest, is, one)
+
+-- an answer was handed on
+pub handed_on : (closes : Bool) (flushed untouched : Type 0) → flushed → HandsOn (step_of closes) flushed untouched
+handed_on true flushed untouched done = done
+handed_on false flushed untouched done = done
 
 pub did_refuse : (base : Base) (f : WireFault) (step : OneEnd) (log : List Item) (stood : List Item → Type 0) (bytes : List ℕ) (known before written : Option (List ℕ))
     → ((budget : ℕ) → 0 < budget → Stops budget bytes (refused f))

@@ -1,5 +1,6 @@
 -- How a request is answered in a conversation: by a definition without a tool, at a moment of the clock.
 use Rattle.std.specs.Prelude.{◌≡◌, ℕ, List, Option, IfSome}
+use Rattle.edge_io.specs.Stamps.{HasStampForm}
 use Rattle.http_wire.specs.Head.{Request}
 use Rattle.api_calls.specs.Item.{Item}
 use Rattle.api_calls.specs.Reply.{ReplyView}
@@ -10,9 +11,9 @@ pub record Base : Type 1 where
   pub server : replies.Base
   pub told : Option (List ℕ)
 
--- a moment that the clock may have given
+-- a stamp that the clock may have given: one of a stamp's form, and where the clock tells one, that one
 abbrev pub MayStamp : Option (List ℕ) → List ℕ → Type 0
-MayStamp told stamp = IfSome told (λ text. stamp ≡ text)
+MayStamp told stamp = IfSome told (λ text. stamp ≡ text) × HasStampForm stamp
 
 -- A request's reply at a list of the history, and the list after it. There is no tool that could fail.
 unfoldable pub Answers : Base → List Item → Request → ReplyView → List Item → Type 0

@@ -34,6 +34,16 @@ StepBlames Closed read write = Unit {0}
 StepBlames (Torn held) read write = Unit {0}
 StepBlames (Refused f) read write = Unit {0}
 
+-- What a step wrote was handed on before it ended, unless that failed. Nothing was written where nothing was answered.
+abbrev pub HandsOn : OneEnd → Type 0 → Type 0 → Type 0
+HandsOn Answered flushed untouched = flushed
+HandsOn Last flushed untouched = flushed
+HandsOn (Refused f) flushed untouched = flushed
+HandsOn Closed flushed untouched = untouched
+HandsOn (Torn held) flushed untouched = untouched
+HandsOn ReadFault flushed untouched = untouched
+HandsOn WriteFault flushed untouched = Unit {0}
+
 -- one request is read and has its answer, and `rest` is left
 pub record AnswersOne (base : Base) (log after : List Item) (bytes rest : List ℕ) (request : Request) (answer : ReplyView) : Type 0 where
   pub reads : Reads bytes request rest

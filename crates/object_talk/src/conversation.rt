@@ -1,8 +1,9 @@
 //! The conversation: requests are read, answered and handed on, one after the other.
-ghost use Rattle.std.specs.Prelude.{◌≡◌, ◌+◌, ◌^◌, ◌<◌, ◌≤◌, [], ℕ, List, Some, true, length, IsTrue};
+ghost use Rattle.std.specs.Prelude.{◌≡◌, ◌+◌, ◌^◌, ◌<◌, ◌≤◌, [], ℕ, List, Some, true, length, IsTrue, OnOk};
 ghost use Rattle.std.specs.Io.KnownBytes.{prepend_known};
 ghost use Rattle.edge_io.specs.Causes.{HasCause, Rose};
 ghost use Rattle.edge_io.specs.Sends.{Sends};
+ghost use Rattle.http_wire.specs.Head.{Request, Reads};
 ghost use Rattle.http_wire.specs.Inboxes.{LiesIn, request_at};
 ghost use Rattle.http_wire.specs.Response.{HasPhrase, says};
 ghost use Rattle.http_wire.specs.declared.limits.TheConstants.{MOST_REQUESTS};
@@ -12,7 +13,7 @@ ghost use Rattle.object_server.specs.Answered.{answer_of};
 ghost use Rattle.object_server.specs.View.{base_of};
 ghost use Rattle.object_talk.specs.Answering.{Answers};
 ghost use Rattle.object_talk.specs.Faults.{fault_words};
-ghost use Rattle.object_talk.specs.Steps.{Did, StepBlames, Refuses, step_of, IsHeadFault};
+ghost use Rattle.object_talk.specs.Steps.{Did, HandsOn, StepBlames, Refuses, step_of, IsHeadFault};
 ghost use Rattle.object_talk.specs.Conversed.{Conversed, Blames};
 
 use api_calls::{NoTool, Versions};
@@ -88,6 +89,7 @@ fn refusal_of(fault: WireFault) -> (u16, &'static str)
 fn refuse_head<K: Sink>(output: &mut K, fault: WireFault) -> Result<(), Failed>
     requires { IsHeadFault fault }
     ensures sent { Sends (K.written output.old) (K.written output.new) (fault_words fault) result }
+    ensures flushed { OnOk result (K.flushed output.new ≡ K.written output.new) }
     ensures cause { HasCause (K.faults output.old) (K.faults output.new) result }
 {
     let (code, text) = refusal_of(fault);
@@ -99,6 +101,7 @@ fn refuse_head<K: Sink>(output: &mut K, fault: WireFault) -> Result<(), Failed>
 fn hand_on<K: Sink>(output: &mut K, answer: &Answer, closing: bool) -> Result<(), Failed>
     requires { HasPhrase (answer_of answer.now).code }
     ensures sent { Sends (K.written output.old) (K.written output.new) (says (answer_of answer.now).code (answer_of answer.now).text closing) result }
+    ensures flushed { OnOk result (K.flushed output.new ≡ K.written output.new) }
     ensures cause { HasCause (K.faults output.old) (K.faults output.new) result }
 {
     write_answer(output, answer, closing)?;
@@ -162,6 +165,10 @@ pub fn serve_one<V: Versions<Tool = NoTool>, S: Source, K: Sink, C: Clock>(
     ensures did { (b : List ℕ) (log : List Item) → prepend_known inbox.old.bytes (S.left input.old) ≡ Some b → StandsFor V.meaning server.old log
         → Did (record { server = base_of V.meaning server.old; told = C.told clock.now }) result log (StandsFor V.meaning server.new) b
         (prepend_known inbox.new.bytes (S.left input.new)) (K.written output.old) (K.written output.new) }
+    // Nothing is read where a whole request is held.
+    ensures ready { (r : Request) (rest : List ℕ) → Reads inbox.old.bytes r rest → input.new ≡ input.old }
+    // What was written is handed on before the step ends, and so before the next read.
+    ensures flushed { HandsOn result (K.flushed output.new ≡ K.written output.new) (output.new ≡ output.old) }
     ensures stands { (log : List Item) × StandsFor V.meaning server.new log }
     ensures blames { StepBlames result (Rose (S.faults input.old) (S.faults input.new)) (Rose (K.faults output.old) (K.faults output.new)) }
     ensures read_later { S.faults input.old ≤ S.faults input.new }
@@ -194,6 +201,7 @@ pub fn serve_one<V: Versions<Tool = NoTool>, S: Source, K: Sink, C: Clock>(
 fn refused<K: Sink>(output: &mut K, fault: WireFault) -> OneEnd
     requires { IsHeadFault fault }
     ensures wrote { Refuses fault (K.written output.old) (K.written output.new) result }
+    ensures flushed { HandsOn result (K.flushed output.new ≡ K.written output.new) (output.new ≡ output.old) }
     ensures blame { StepBlames result ⊥ (Rose (K.faults output.old) (K.faults output.new)) }
     ensures later { K.faults output.old ≤ K.faults output.new }
 {

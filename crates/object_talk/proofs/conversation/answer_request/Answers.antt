@@ -19,7 +19,7 @@ returns-clause-answer g c = λ log stands.
       made.1,
       (
         c.stamp.result.text,
-        c.stamp.ensures.told,
+        (c.stamp.ensures.told, c.stamp.ensures.form),
         answered_without (base_of g.V.Versions.meaning c.args.server.now) _ c.stamp.result.text log (request_at c.args.inbox.now.bytes c.args.parts) (answer_of c.answer.result) made.0
             (λ h. absurd (omega (arith, h))) made.2,
       ),

@@ -3,7 +3,7 @@ use Rattle.http_wire.specs.Inboxes.{request_at}
 use Rattle.http_wire.specs.declared.WireFault.TheVariants as faults
 use Rattle.api_core.specs.View.{StandsFor}
 use Rattle.object_server.specs.Answered.{answer_of}
-use Rattle.object_talk.proofs.Conversing.{did_close, did_either, did_tear, did_refuse}
+use Rattle.object_talk.proofs.Conversing.{did_close, did_either, did_tear, did_refuse, handed_on}
 use Rattle.object_talk.proofs.conversation.serve_one.Goals as goal
 
 pub returns-in-Ok-hand_on-clause-did : goal.returns-in-Ok-hand_on-clause-did
@@ -42,3 +42,27 @@ returns-in-Err-LengthRequired-clause-did g c = λ b log known stands.
 pub returns-clause-did : goal.returns-clause-did
 returns-clause-did g c = λ b log known stands.
     did_refuse _ (faults.BodyTooLong c.in-Err-BodyTooLong.length) c.refused-in-Err-BodyTooLong.result log _ b _ _ _ (rw c.in-Err-BodyTooLong.field-0-is at (c.in-Err-BodyTooLong.ensures.asks b known)) (rw c.in-Err-BodyTooLong.length-is at c.refused-in-Err-BodyTooLong.ensures.wrote)
+
+pub returns-in-Ok-hand_on-clause-flushed : goal.returns-in-Ok-hand_on-clause-flushed
+returns-in-Ok-hand_on-clause-flushed g c = rw c.step_by.ensures (handed_on c.in-Ok.parts.closing _ _ c.in-Ok-hand_on.ensures.flushed)
+
+pub returns-in-Ok-hand_on-clause-ready : goal.returns-in-Ok-hand_on-clause-ready
+returns-in-Ok-hand_on-clause-ready g c = λ r rest reads. (c.in-Ok.ensures.ready r rest reads).0
+
+pub returns-in-Err-Closed-clause-ready : goal.returns-in-Err-Closed-clause-ready
+returns-in-Err-Closed-clause-ready g c = λ r rest reads. (c.in-Err-Closed.ensures.ready r rest reads).0
+
+pub returns-in-Err-Torn-clause-ready : goal.returns-in-Err-Torn-clause-ready
+returns-in-Err-Torn-clause-ready g c = λ r rest reads. (c.in-Err-Torn.ensures.ready r rest reads).0
+
+pub returns-in-Err-BadHead-clause-ready : goal.returns-in-Err-BadHead-clause-ready
+returns-in-Err-BadHead-clause-ready g c = λ r rest reads. (c.in-Err-BadHead.ensures.ready r rest reads).0
+
+pub returns-in-Err-HeadTooLong-clause-ready : goal.returns-in-Err-HeadTooLong-clause-ready
+returns-in-Err-HeadTooLong-clause-ready g c = λ r rest reads. (c.in-Err-HeadTooLong.ensures.ready r rest reads).0
+
+pub returns-in-Err-LengthRequired-clause-ready : goal.returns-in-Err-LengthRequired-clause-ready
+returns-in-Err-LengthRequired-clause-ready g c = λ r rest reads. (c.in-Err-LengthRequired.ensures.ready r rest reads).0
+
+pub returns-clause-ready : goal.returns-clause-ready
+returns-clause-ready g c = λ r rest reads. (c.in-Err-BodyTooLong.ensures.ready r rest reads).0
