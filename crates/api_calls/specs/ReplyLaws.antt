@@ -15,9 +15,9 @@ use Rattle.api_calls.specs.State.{State, served}
 use Rattle.api_calls.specs.Room.{lacking, lacking_chunks}
 use Rattle.api_calls.specs.Legal.{key_of}
 use Rattle.api_calls.specs.Values.{IsUpdate, created_value, has_finalizer, is_marked, is_forbidden, is_release}
-use Rattle.api_calls.specs.Ends.{WriteEnd, done, kept, unserved, present, gone, newer, storage_moved, TurnEnd, prepare, touched, missed, Decision, says, enters}
+use Rattle.api_calls.specs.Ends.{WriteEnd, done, kept, same, unserved, present, gone, newer, storage_moved, TurnEnd, prepare, touched, missed, Decision, says, enters}
 use Rattle.api_calls.specs.Writes.{with_room, if_storage, at_number, create_commit, create_decision, replace_commit, release_commit, delete_commit, mark_commit, replaced, removed, Takes, Replaces, ReplaceDecision, DeleteDecision}
-use Rattle.api_calls.specs.Replies.{Answer, Wrote, Deleted, Deletes, IsRefused, WeighsIt, Creates, CreateReply, ReplaceReply, DeleteReply, kept_value, code_ok, code_created}
+use Rattle.api_calls.specs.Replies.{Answer, Shows, Wrote, Deleted, Deletes, IsRefused, WeighsIt, Creates, CreateReply, ReplaceReply, DeleteReply, kept_value, code_ok, code_created}
 use Rattle.api_calls.specs.Bodies.{IsServedDelete}
 use Rattle.api_calls.specs.Cause.{bad_options}
 use Rattle.api_calls.specs.Work.{Turn, Work, work_of, first_turn, whole_turn, prepare_turn, work_turn, ready_turn, is_ready, turn_decision, touch_decision, work_decision}
@@ -81,10 +81,17 @@ create-reply m limits boot n s r stamp new e w at a admits weighs final wrote =
     ⊎ ((x : ObjectView) × (f : Option ℕ) × (y : ℕ) × m.admits r x f × WeighsIt m x y × Creates m limits boot n s r.version (created_value stamp x) y b i))
     (λ is wrote.
     let one : create_decision limits n s r.version (key_of h) h w ≡ commit = may r.version s (created limits n s s.flags.storage (key_of h) h w) is ∙ sym (same is) in
-    inr (new, e, w, admits, weighs, (
-      subst (λ (d : Decision WriteEnd). Wrote m boot code_created r.version h.meta.name h d.answer a) (sym one) wrote,
-      ap (λ (d : Decision WriteEnd). d.item) (sym one),
-    ))) wrote
+    inr (
+      new,
+      e,
+      w,
+      admits,
+      weighs,
+      (
+        subst (λ (d : Decision WriteEnd). Wrote m boot code_created r.version h.meta.name h d.answer a) (sym one) wrote,
+        ap (λ (d : Decision WriteEnd). d.item) (sym one),
+      ),
+    )) wrote
   where
     h : ObjectView
     h = created_value stamp new
@@ -136,8 +143,18 @@ replaced-reply m limits boot n s r k over new w h old equal inner a admits weigh
     × m.admits r x (Some number) × WeighsIt m x y
     × ReplaceDecision m limits n s r.version k number x y g d × Wrote m boot code_ok r.version k.name g d.answer b × (i ≡ d.item)))
     (λ is wrote.
-    inr (new, over, w, h, at_number over (find k s.objects) inner, admits, weighs,
-    replace-decided m limits n s r.version k over new w h old equal inner update equals (known is) is, wrote, refl)) wrote
+    inr (
+      new,
+      over,
+      w,
+      h,
+      at_number over (find k s.objects) inner,
+      admits,
+      weighs,
+      replace-decided m limits n s r.version k over new w h old equal inner update equals (known is) is,
+      wrote,
+      refl,
+    )) wrote
 
 -- what is decided of the object that stands at the number
 at_found : (over : ℕ) (o : Option Stored) (e : Stored) (inner : Stored → Decision WriteEnd) → o ≡ Some e → e.number ≡ over → at_number over o inner ≡ inner e
@@ -175,6 +192,63 @@ replace-reply m limits boot n s r k over new w h old equal at a admits weighs up
         let found = may r.version s (at_number over (find k s.objects) inner) is ∙ at_found over (find k s.objects) e inner there is_over in
         storage_final (nat_eq at s.flags.storage) s.flags.storage (entered e over) (subst (λ (d : Decision WriteEnd). IsFinal d.answer) found final)
         ∙ ap (entered e) (sym is_over) ∙ sym (plain e changes)
+
+-- a commit that finds another storage version finds the object at its number
+pub moved-stands : (limits : Limits) (n : ℕ) (s : State) (v at : ℕ) (k : KeyView) (over : ℕ) (h : ObjectView) (w now : ℕ)
+    → (replace_commit limits n s v at k over h w).answer ≡ storage_moved now
+    → (served s.flags v ≡ true) × (e : Stored) × (find k s.objects ≡ Some e) × (e.number ≡ over) × (s.flags.storage ≡ now)
+moved-stands limits n s v at k over h w now is = by (served s.flags v) refl (find k s.objects) refl is
+  where
+    entered : Stored → Decision WriteEnd
+    entered e = with_room n e.born (entry (Replace k over h w)) (lacking_chunks limits s.objects e.weight w)
+
+    inner : Stored → Decision WriteEnd
+    inner e = if_storage s at (with_room n e.born (entry (Replace k over h w)) (lacking_chunks limits s.objects e.weight w))
+
+    number : (i j : ℕ) → nat_eq i j ≡ true → i ≡ j
+    number i j h = grind (arith, nat_tests)
+
+    no_room : (born : ℕ) (i : Item) (r : Option Room) → (with_room n born i r).answer ≡ storage_moved now → ⊥
+    no_room born i None is = cc
+    no_room born i (Some r) is = cc
+
+    stored : (e : Stored) (b : Bool) → (if b then entered e else says (storage_moved s.flags.storage)).answer ≡ storage_moved now → s.flags.storage ≡ now
+    stored e true is = absurd (no_room e.born (entry (Replace k over h w)) (lacking_chunks limits s.objects e.weight w) is)
+    stored e false is = let same : s.flags.storage ≡ now = cc in same
+
+    stands : (e : Stored) (b : Bool) → nat_eq e.number over ≡ b → (if b then inner e else says (newer e.number)).answer ≡ storage_moved now
+        → (e.number ≡ over) × (s.flags.storage ≡ now)
+    stands e true is_over is = (number e.number over is_over, stored e (nat_eq at s.flags.storage) is)
+    stands e false is_over is = cc
+
+    by : (b : Bool) → served s.flags v ≡ b → (o : Option Stored) → find k s.objects ≡ o
+        → (if not b then says unserved else at_number over o inner).answer ≡ storage_moved now
+        → (served s.flags v ≡ true) × (e : Stored) × (find k s.objects ≡ Some e) × (e.number ≡ over) × (s.flags.storage ≡ now)
+    by false is_served o there is = cc
+    by true is_served None there is = cc
+    by true is_served (Some e) there is = let (at_over, storage) = stands e (nat_eq e.number over) refl is in (is_served, e, there, at_over, storage)
+
+-- without a commit, of an update that is the value which stands there, at the storage version
+pub same-reply : (m : Meaning) (limits : Limits) (boot n : ℕ) (s : State) (r : Request) (k : KeyView) (over : ℕ) (new : ObjectView) (w : ℕ) (h old : ObjectView) (equal : Bool) (e : Stored)
+    (a : Answer)
+    → m.admits r new (Some over) → WeighsIt m new w → IsUpdate old new h → (IsTrue equal ↔ (h ≡ old)) → is_forbidden old h ≡ false → is_release old h ≡ false
+    → served s.flags r.version ≡ true → find k s.objects ≡ Some e → e.number ≡ over → Takes m e.h old → (equal && nat_eq e.at s.flags.storage) ≡ true
+    → Shows m boot code_ok r.version h e.number e.born a
+    → ReplaceReply m limits boot n s r k a None
+same-reply m limits boot n s r k over new w h old equal e a admits weighs update equals allowed stays is there is_over takes stands shows =
+    subst (λ (d : Decision WriteEnd). ReplaceReply m limits boot n s r k a d.item) one
+    (replaced-reply m limits boot n s r k over new w h old equal (replaced limits n s k old h w equal) a admits weighs update equals
+    (λ served f found at. (subst (λ (g : Stored). Takes m g.h old) (let both : Some e ≡ Some f = sym there ∙ found in let same_one : e ≡ f = cc in same_one) takes, refl))
+    (subst (λ (d : Decision WriteEnd). Wrote m boot code_ok r.version k.name h d.answer a) (sym one) shows))
+  where
+    plain : replaced limits n s k old h w equal e ≡ says (same e.number e.born)
+    plain = rw allowed (rw stays (rw stands refl))
+
+    one : served_only r.version s (at_number over (find k s.objects) (replaced limits n s k old h w equal)) ≡ says (same e.number e.born)
+    one =
+        may r.version s (at_number over (find k s.objects) (replaced limits n s k old h w equal)) is
+        ∙ at_found over (find k s.objects) e (replaced limits n s k old h w equal) there is_over
+        ∙ plain
 
 -- from the release of an object that is being deleted, by an update without finalizers
 pub release-reply : (m : Meaning) (limits : Limits) (boot n : ℕ) (s : State) (r : Request) (k : KeyView) (over : ℕ) (new : ObjectView) (w : ℕ) (h old : ObjectView) (equal : Bool)
