@@ -1,6 +1,6 @@
 -- Laws of every legal list: what stands under a key has that key and its weight, and it stays until an item names the key.
 use Rattle.std.specs.Prelude.{◌≡◌, ◌≢◌, ◌⊎◌, ℕ, ◌+◌, Bool, true, false, List, [], ◌∷◌, ◌++◌, Option, None, Some, IsTrue, nat_eq, if◌then◌else◌}
-use Rattle.std.proofs.Common.{refl, ap, ◌∙◌, sym, subst, inl, inr}
+use Rattle.std.proofs.Common.{refl, ap, ◌∙◌, sym, inl, inr}
 use Rattle.std.specs.Ordering.{match_ordering}
 use Rattle.std.specs.declared.cmp.Ordering.{Ordering}
 use Rattle.std.specs.declared.cmp.Ordering.TheVariants.{Less, Equal, Greater}
@@ -13,7 +13,7 @@ use Rattle.api_calls.specs.Item.{Create, Replace, Mark, Release, Touch, Delete, 
 use Rattle.api_calls.specs.Named.{named_key, Spares, IsNamed}
 use Rattle.api_calls.specs.Objects.{Stored, find, moved, marked, marked_at, born_or}
 use Rattle.api_calls.specs.State.{State, target_of, moved_storage, effect, number_after, number_from, opening, state_from, state}
-use Rattle.api_calls.specs.Legal.{Each, In, key_of, guard, legal_from, legal}
+use Rattle.api_calls.specs.Legal.{Each, key_of, guard, legal_from, legal}
 use Rattle.api_calls.specs.Laws.{IsSound}
 use Rattle.api_calls.specs.EachObject.{each-find}
 use Rattle.api_calls.proofs.Order.{itself, exact}

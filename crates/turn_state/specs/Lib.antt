@@ -30,3 +30,4 @@ pub mod KeptLaws
 pub mod PreparedLaws
 pub mod ListLaws
 pub mod WorkLaws
+pub mod CoreLaws

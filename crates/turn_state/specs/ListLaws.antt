@@ -1,17 +1,19 @@
 -- Laws of lists that go on: how their items and numbers are counted, and that a number names one object in every beginning, also in what stood at an old number.
-use Rattle.std.specs.Prelude.{◌≡◌, ℕ, ◌+◌, ◌≤◌, Bool, true, false, List, [], ◌∷◌, ◌++◌, Option, None, Some, length, take, nat_eq, nat_lt, if◌then◌else◌}
-use Rattle.std.proofs.Common.{refl, ap, ◌∙◌, sym, subst, arith, zero, suc, append-nil, length-append}
+use Rattle.std.specs.Prelude.{◌≡◌, ◌⊎◌, ℕ, ◌+◌, ◌-◌, ◌≤◌, ◌&&◌, not, Bool, cond, filter, true, false, List, [], ◌∷◌, ◌++◌, Option, None, Some, length, take, nat_eq, nat_lt, if◌then◌else◌}
+use Rattle.std.proofs.Common.{refl, ap, ◌∙◌, sym, subst, arith, inl, inr, zero, suc, append-nil, length-append}
 use Rattle.kube_meta.specs.Key.{KeyView}
+use Rattle.kube_meta.specs.Page.{Page, in_namespace, bound_after}
+use Rattle.kube_meta.specs.Plan.{passed}
 use Rattle.kube_meta.specs.declared.limits.Limits.{Limits}
 use Rattle.api_calls.specs.Meaning.{Meaning}
 use Rattle.api_calls.specs.Item.{Entry, Item, entry, note, Logged, items, items_of}
 use Rattle.api_calls.specs.Objects.{Stored, find}
-use Rattle.api_calls.specs.State.{entries, revision, state}
-use Rattle.api_calls.specs.Legal.{guard, legal, CountsFrom, IsLegal}
+use Rattle.api_calls.specs.State.{entries, opening, revision, state}
+use Rattle.api_calls.specs.Legal.{In, guard, legal, CountsFrom, IsLegal}
 use Rattle.api_calls.specs.Ends.{grown}
-use Rattle.api_calls.specs.Snap.{upto, snap}
+use Rattle.api_calls.specs.Snap.{upto, snap, page_at}
 use Rattle.api_calls.specs.Growth.{legal-more, legal-front}
-use Rattle.api_calls.proofs.Numbers.{one-value}
+use Rattle.api_calls.proofs.Numbers.{one-value, one-from, numbered-opening}
 
 -- ---- counts
 
@@ -116,3 +118,42 @@ states-one_value m log more e f a b is =
     one-value m (log ++ more) i j e f
     (ap (λ (l : List Item). find e.key (state m l).objects) first ∙ a)
     (ap (λ (l : List Item). find f.key (state m l).objects) (ap (take j) (sym (append-nil (log ++ more))) ∙ second) ∙ b) is
+
+-- in any two lists that stood at numbers, also where one is a page's
+pub one_value-in : (m : Meaning) (log : List Item) (r q : ℕ) (e f : Stored) → In e (snap m log r) → In f (snap m log q) → e.number ≡ f.number → e ≡ f
+one_value-in m log r q e f a b is =
+    let (i, first) = upto-take 2 r log in
+    let (j, second) = upto-take 2 q log in
+    one-from 2 (opening m) log i j e f (numbered-opening m)
+    (subst (λ (l : List Item). In e (state m l).objects) (sym first) a)
+    (subst (λ (l : List Item). In f (state m l).objects) (sym second) b) is
+
+in-filter : {X : Type 0} (p : X → Bool) (x : X) (xs : List X) → In x (filter p xs) → In x xs
+in-filter p x [] h = h
+in-filter p x (y ∷ ys) h = by (p y) h (in-filter p x ys)
+  where
+    by : (b : Bool) → In x (cond b (y ∷ filter p ys) (filter p ys)) → (In x (filter p ys) → In x ys) → (x ≡ y) ⊎ In x ys
+    by true (inl same) more = inl same
+    by true (inr later) more = inr (more later)
+    by false h more = inr (more h)
+
+in-take : {X : Type 0} (n : ℕ) (x : X) (xs : List X) → In x (take n xs) → In x xs
+in-take zero x xs h = absurd h
+in-take (suc n) x [] h = h
+in-take (suc n) x (y ∷ ys) (inl same) = inl same
+in-take (suc n) x (y ∷ ys) (inr later) = inr (in-take n x ys later)
+
+-- what a page shows stood at its number
+pub page-in : (m : Meaning) (log : List Item) (ns : Option (List ℕ)) (after : Option KeyView) (r limit : ℕ) (e : Stored) → In e (page_at m log ns after r limit).items → In e (snap m log r)
+page-in m log ns after r limit e h =
+    in-filter (λ (x : Stored). in_namespace ns x.key && not (passed (bound_after after) x.key)) e (snap m log r) (by (nat_eq limit 0) h)
+  where
+    found : List Stored
+    found = filter (λ (x : Stored). in_namespace ns x.key && not (passed (bound_after after) x.key)) (snap m log r)
+
+    page : Bool → Page Stored
+    page b = if b then record { number = r; items = found; remaining = 0 } else record { number = r; items = take limit found; remaining = length found - limit }
+
+    by : (b : Bool) → In e (page b).items → In e found
+    by true h = h
+    by false h = in-take limit e found h

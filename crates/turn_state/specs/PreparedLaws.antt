@@ -1,20 +1,20 @@
 -- Laws of what a worker was told to prepare: it stays the first of its claim's range that stands elsewhere, along every legal list, until it is written or the claim is lost.
-use Rattle.std.specs.Prelude.{◌≡◌, ◌≢◌, ◌⊎◌, ℕ, ◌+◌, ◌<◌, ◌≤◌, Bool, true, false, not, ◌&&◌, List, [], ◌∷◌, ◌++◌, Option, None, Some, nat_eq, replicate, if◌then◌else◌}
+use Rattle.std.specs.Prelude.{◌≡◌, ◌≢◌, ◌⊎◌, ℕ, ◌+◌, ◌≤◌, Bool, true, false, not, ◌&&◌, List, [], ◌∷◌, ◌++◌, Option, None, Some, nat_eq, replicate, if◌then◌else◌}
 use Rattle.std.proofs.Common.{refl, ap, ◌∙◌, sym, subst, inl, inr, arith, eq-eqb}
 use Rattle.std.proofs.lemmas.Bool.{cases_lt}
 use Rattle.std.specs.Ordering.{match_ordering}
 use Rattle.std.specs.declared.cmp.Ordering.{Ordering}
 use Rattle.std.specs.declared.cmp.Ordering.TheVariants.{Less, Equal, Greater}
 use Rattle.kube_meta.specs.Key.{KeyView, key_cmp}
-use Rattle.kube_meta.specs.Plan.{Span, Slot, Free, Held, Loose, Plan, Migration, After, in_span, span_of, changed, claimed, cleared, stopped, pass_key, slot_count, running, ended}
+use Rattle.kube_meta.specs.Plan.{Span, Slot, Free, Held, Loose, Plan, Migration, After, in_span, span_of, changed, claimed, cleared, stopped, pass_key, slot_count, running}
 use Rattle.kube_meta.specs.declared.limits.Limits.{Limits}
-use Rattle.kube_meta.specs.declared.limits.Condition.TheVariants.{Running, Succeeded, Failed}
+use Rattle.kube_meta.specs.declared.limits.Condition.TheVariants.{Succeeded, Failed}
 use Rattle.api_calls.specs.Meaning.{Meaning}
 use Rattle.api_calls.specs.Item.{Create, Replace, Mark, Release, Touch, Delete, SetVersions, Trim, StartMigration, MarkSucceeded, Claim, RangeDone, GiveBack, Item, entry, note}
 use Rattle.api_calls.specs.Named.{IsNamed, Spares}
 use Rattle.api_calls.specs.Objects.{Stored, find, put, without, updated, moved, marked_at, elsewhere, keys, born_or}
 use Rattle.api_calls.specs.State.{State, target_of, moved_storage, effect, number_after, number_from, opening, state_from, state}
-use Rattle.api_calls.specs.Legal.{Each, In, MayTouch, MayClaim, IsHeld, guard, legal_from, legal}
+use Rattle.api_calls.specs.Legal.{Each, In, MayTouch, IsHeld, guard, legal_from, legal}
 use Rattle.api_calls.specs.Laws.{IsRising, IsSound}
 use Rattle.api_calls.specs.Ends.{TurnEnd, touched, missed, says, enters}
 use Rattle.api_calls.specs.Work.{Turn, Work, work_in, work_under, work_of, is_ready, ready_turn, touch_decision}
@@ -27,7 +27,7 @@ use Rattle.api_calls.proofs.Snaps.{in-find}
 use Rattle.api_calls.proofs.Standing.{each-elsewhere}
 use Rattle.api_calls.proofs.Parts.{state_from-append, legal_from-append}
 use Rattle.api_calls.proofs.Sound.{sound-step, sound-from, sound-opening, touch_target, none-ended}
-use Rattle.turn_state.specs.SlotLaws.{IsOnce, slots_of, one_if, number, none-held, some-held, free-slots, span-changed_other, slots-changed, slots-freed, span-claimed, last-claimed, once-claimed, once-fewer}
+use Rattle.turn_state.specs.SlotLaws.{IsOnce, slots_of, number, none-held, some-held, free-slots, span-changed_other, slots-changed, slots-freed, span-claimed, last-claimed, once-claimed, once-fewer}
 use Rattle.turn_state.specs.KeptLaws.{same_or_not, find-key, object-stays, named-or_spared}
 
 differ : (x v : ℕ) → nat_eq x v ≡ false → x ≢ v

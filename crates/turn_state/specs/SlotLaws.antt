@@ -1,6 +1,6 @@
 -- Laws of the slots of a plan: a claim is in one slot at most, no other claim's move changes its span, and where it is done or given back it is in none.
-use Rattle.std.specs.Prelude.{◌≡◌, ◌≢◌, ℕ, ◌+◌, ◌<◌, ◌≤◌, Bool, true, false, List, [], ◌∷◌, Option, None, Some, nat_eq, replicate, if◌then◌else◌}
-use Rattle.std.proofs.Common.{refl, ap, ◌∙◌, sym, subst, arith, zero, suc, eq-eqb}
+use Rattle.std.specs.Prelude.{◌≡◌, ℕ, ◌+◌, ◌<◌, ◌≤◌, Bool, true, false, List, [], ◌∷◌, Option, None, Some, nat_eq, replicate, if◌then◌else◌}
+use Rattle.std.proofs.Common.{refl, ap, ◌∙◌, sym, subst, arith, zero, suc}
 use Rattle.std.specs.List.{list_any}
 use Rattle.std.proofs.lemmas.Bool.Decides.{nat_tests}
 use Rattle.kube_meta.specs.Key.{KeyView}

@@ -4,9 +4,9 @@ use Rattle.std.proofs.Common.{refl, ap, ◌∙◌, sym, subst}
 use Rattle.kube_meta.specs.Key.{KeyView}
 use Rattle.api_calls.specs.Item.{Item, entry, Touch}
 use Rattle.api_calls.specs.Objects.{find}
-use Rattle.api_calls.specs.State.{State, revision, state}
+use Rattle.api_calls.specs.State.{revision, state}
 use Rattle.api_calls.specs.Legal.{legal}
-use Rattle.api_calls.specs.Ends.{TurnEnd, prepare, touched, missed, says, enters}
+use Rattle.api_calls.specs.Ends.{prepare, touched, missed, says, enters}
 use Rattle.api_calls.specs.Work.{Turn, Work, work_of, is_ready, ready_turn, turn_decision, touch_decision, work_decision}
 use Rattle.api_calls.specs.WorkGuards.{IsPrepared}
 use Rattle.api_calls.specs.Calls.{Server, work, worked, IsAsked, Comes, decided, moved, lost}
