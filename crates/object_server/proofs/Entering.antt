@@ -3,7 +3,7 @@ use Rattle.std.proofs.Common.{◌≡◌, ◌⊎◌, ℕ, ◌+◌, List, Option, 
 use Rattle.std.specs.Prelude.{MatchBool}
 use Rattle.kube_meta.specs.Key.{KeyView}
 use Rattle.kube_meta.specs.View.{ObjectView}
-use Rattle.api_calls.specs.Meaning.{Meaning, Request, Weighs, bad_request, invalid}
+use Rattle.api_calls.specs.Meaning.{Meaning, Request, bad_request, invalid}
 use Rattle.api_calls.specs.Cause.{cause_of, why_of}
 use Rattle.api_calls.specs.Refusal.{RefusalView, not_found, no_resource, already_exists, conflict, invalid as invalid_refusal, bad_request as bad_refusal, expired, full as full_refusal, migration_running, still_stored, converter, no_memory}
 use Rattle.api_calls.specs.Item.{Item}
@@ -115,10 +115,10 @@ module _ (b : Base) (rose : Type 0) (stamp : List ℕ) (log : List Item) (q : Re
   bound_by (Err no_memory) after i reply grows c n = (tt, sym (n refl))
 
   -- of an admitted value
-  pub admitted_ends : (new : ObjectView) (e : Option ℕ) (w : ℕ) (d : Answer) (after : List Item) → b.meaning.admits q new e → Weighs b.meaning new w
+  pub admitted_ends : (new : ObjectView) (e : Option ℕ) (w : ℕ) (d : Answer) (after : List Item) → b.meaning.admits q new e → WeighsIt b.meaning new w
       → Created b q.version log (created_value stamp new) w d after → Ends b rose stamp log (create q) d after
   admitted_ends new e w d after admits weighs made =
-      bound_by d after made.item (holds (served (state b.meaning log).flags q.version) (Accepts b stamp log q d made.item) (Lacks d made.item) is_served (inr (new, e, w, admits, (λ honest. weighs), made.creates))) (sym made.grows)
+      bound_by d after made.item (holds (served (state b.meaning log).flags q.version) (Accepts b stamp log q d made.item) (Lacks d made.item) is_served (inr (new, e, w, admits, weighs, made.creates))) (sym made.grows)
       (λ is. never_converter b.meaning b.boot code_created q.version (created_value stamp new).meta.name (created_value stamp new)
       (Decided b q.version log (created_value stamp new) w).answer (subst (λ (x : Answer). Wrote b.meaning b.boot code_created q.version (created_value stamp new).meta.name (created_value stamp new)
       (Decided b q.version log (created_value stamp new) w).answer x) is made.creates.0))

@@ -35,16 +35,22 @@ seen_born m c log k p seen stands sees is few =
     let number = stands.revision in
     omega (arith, within, born, number, few)
 
+-- what shows a value shows any that it is, where it is known what values mean
+pub shown_other : (m : Meaning) (boot v : ℕ) (g h : ObjectView) (number born : ℕ) (text : List ℕ) → (IsTrue m.honest → g ≡ h)
+    → IsShown m boot v g number born text → IsShown m boot v h number born text
+shown_other m boot v g h number born text same s =
+    (s.0, (λ honest. subst (λ (o : ObjectView). m.pair v o s.0) (same honest) (s.1 honest)), s.2)
+
 -- the reply that shows it
-pub seen_reply : (m : Meaning) (boot v : ℕ) (log : List Item) (k : KeyView) (p : Peeked) (seen : Seen) (r : ReplyView) → IsTrue m.honest → Sees m log k p → p.found ≡ Some seen
+pub seen_reply : (m : Meaning) (boot v : ℕ) (log : List Item) (k : KeyView) (p : Peeked) (seen : Seen) (r : ReplyView) → Sees m log k p → p.found ≡ Some seen
     → served (state m log).flags v ≡ true → r.code ≡ code_ok
     → ((h : ObjectView) → IsStored m seen.at h seen.bytes.bytes → IsShown m boot v h seen.rv seen.born r.text)
     → GetReply m boot (state m log) v k (Ok r) None
-seen_reply m boot v log k p seen r honest sees is may code shows =
+seen_reply m boot v log k p seen r sees is may code shows =
     let (e, there, keeps) = kept m log k p seen sees is in
     let text = keeps.text in
     let shown : IsShown m boot v text.value seen.rv seen.born r.text = shows text.value (subst (λ (a : ℕ). IsStored m a text.value seen.bytes.bytes) (sym keeps.at) text.stored) in
-    let by_value : IsShown m boot v e.h seen.rv seen.born r.text = subst (λ (h : ObjectView). IsShown m boot v h seen.rv seen.born r.text) (text.same honest) shown in
+    let by_value : IsShown m boot v e.h seen.rv seen.born r.text = shown_other m boot v text.value e.h seen.rv seen.born r.text text.same shown in
     let by_number : IsShown m boot v e.h e.number seen.born r.text = subst (λ (n : ℕ). IsShown m boot v e.h n seen.born r.text) keeps.number by_value in
     let by_birth : IsShown m boot v e.h e.number e.born r.text = subst (λ (n : ℕ). IsShown m boot v e.h e.number n r.text) keeps.born by_number in
     let told : MatchOption (find k (state m log).objects) (Ok r ≡ Err (not_found k.name)) (λ x. Shows m boot code_ok v x.h x.number x.born (Ok r)) =

@@ -1,11 +1,12 @@
 -- What a create makes of an admitted value.
 use Rattle.std.proofs.Common.{◌≡◌, ℕ, pos, List, Option, None, Some, true, sym, subst, refl, ◌∙◌, arith}
+use Rattle.std.specs.Prelude.{IsTrue}
 use Rattle.kube_meta.specs.Names.{is_name}
 use Rattle.kube_meta.specs.View.{ObjectView}
 use Rattle.api_calls.specs.Meaning.{Meaning, Request, Weighs}
 use Rattle.api_calls.specs.Legal.{IsNew, key_of}
 use Rattle.api_calls.specs.Values.{created_value}
-use Rattle.api_calls.specs.Versions.{AreStamps, Decides, IgnoresStamps, IsStamp, IsStored, Stand}
+use Rattle.api_calls.specs.Versions.{AdmitsWhole, AreStamps, IgnoresStamps, IsStamp, IsStored, Stand}
 use Rattle.api_calls.specs.Replies.{IsShown}
 use Rattle.object_server.specs.Known.{MeansNew}
 use Rattle.object_server.specs.declared.create.Ready.{Ready}
@@ -17,20 +18,20 @@ pub record IsFresh (m : Meaning) (ns : List ℕ) (h : ObjectView) : Type 0 where
   pub name : is_name h.meta.name ≡ true
   pub new : IsNew h
 
-pub fresh : (m : Meaning) → Stand m → IgnoresStamps m → Decides m → (q : Request) (old : ObjectView) (e : Option ℕ) (stamp : List ℕ) → IsStamp stamp
+pub fresh : (m : Meaning) → Stand m → IgnoresStamps m → AdmitsWhole m → (q : Request) (old : ObjectView) (e : Option ℕ) (stamp : List ℕ) → IsStamp stamp
     → m.admits q old e → IsFresh m q.ns (created_value stamp old)
-fresh m stand unstamped decides q old e stamp is_stamp admits =
-    let is = decides.admitted q old e admits in
+fresh m stand unstamped admitted q old e stamp is_stamp admits =
+    let is = admitted.admitted q old e admits in
     let stamps : AreStamps (Some stamp) None (pos 1) = record { created = is_stamp; deleted = tt; generation = omega arith } in
     record {
       whole = unstamped.whole old (Some stamp) None (pos 1) stamps is.whole;
       namespace = is.namespace;
-      name = (stand.whole old is.whole).name;
+      name = (stand.whole old is.whole).rules.name;
       new = record { generation = refl; unmarked = refl };
     }
 
 pub means_new : (m : Meaning) (boot v number : ℕ) (ns : List ℕ) (h : ObjectView) (ready : Ready) → IsFresh m ns h
-    → Weighs m h ready.prepared.weight
+    → (IsTrue m.honest → Weighs m h ready.prepared.weight)
     → ready.prepared.key.ns ≡ ns → ready.prepared.key.name ≡ h.meta.name → ready.name.bytes ≡ h.meta.name
     → IsStored m ready.prepared.at h ready.prepared.bytes.bytes → IsShown m boot v h number number ready.text.bytes
     → MeansNew m boot v number h ready
@@ -38,7 +39,7 @@ means_new m boot v number ns h ready f weighs key_ns key_name name stored shown 
     let under : ready.prepared.key ≡ key_of h = λ i. record { ns = (key_ns ∙ sym f.namespace) i; name = key_name i } in
     record {
       prepares = record {
-        value = λ honest. record { whole = f.whole; key = sym under; weighs = weighs };
+        value = λ honest. record { whole = f.whole; key = sym under; weighs = weighs honest };
         text = record { value = h; stored = stored; same = λ honest. refl };
       };
       key = under;

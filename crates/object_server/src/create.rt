@@ -1,5 +1,5 @@
 //! A create of an object.
-ghost use Rattle.std.specs.Prelude.{◌≡◌, ◌+◌, ◌<◌, ◌≤◌, ◌^◌, List, ℕ, None, Err, IfOk, IsErrOf, IsTrue};
+ghost use Rattle.std.specs.Prelude.{◌≡◌, ◌+◌, ◌*◌, ◌<◌, ◌≤◌, ◌^◌, ◌↔◌, List, length, ℕ, None, Err, IfOk, IsErrOf, IsTrue};
 ghost use Rattle.http_wire.specs.Response.{HasPhrase};
 ghost use Rattle.kube_meta.specs.View.{ObjectView, object_of};
 ghost use Rattle.api_calls.specs.Item.{Item};
@@ -18,9 +18,7 @@ ghost use Rattle.object_server.specs.View.{base_of};
 use crate::given::Given;
 use crate::refused::{Refused, not_admitted};
 use crate::served::is_served;
-use api_calls::{
-    Admitted, BORN_END, ConvFault, Incoming, Refusal, Reply, Versions, one_weight, stored_fits,
-};
+use api_calls::{Admitted, BORN_END, ConvFault, Incoming, Refusal, Reply, Versions, one_weight};
 use api_core::Core;
 use kj_value::{Stamp, Txt};
 use kube_meta::{Key, Object};
@@ -44,10 +42,18 @@ fn new_value(mut hub: Object, stamp: Stamp) -> Object
     hub
 }
 
+// Whether a text takes no more than so many chunks of 256 bytes.
+fn fits(text: &Txt, chunks: u64) -> bool
+    ensures { IsTrue result ↔ (length text.now.bytes ≤ 256 * chunks) }
+{
+    let bytes = text.len() as u64;
+    let full = bytes / 256;
+    full < chunks || (full == chunks && bytes % 256 == 0)
+}
+
 // Stores what is ready, and tells how that ended.
 #[tactic(auto, using(http_wire::specs::Phrases::phrases))]
 fn commit<V: Versions>(core: &mut Core<V>, v: u8, ready: Ready) -> Result<Reply, Refused>
-    requires honest { IsTrue V.HONEST }
     requires few { core.old.view.revision ≤ 2 ^ 61 }
     requires sized { IsSized ready.prepared }
     requires at { ready.prepared.at ≡ core.old.view.flags.storage }
@@ -92,13 +98,13 @@ impl<V: Versions> Given<'_, V> {
         number: u64,
         admitted: Admitted,
     ) -> Result<Ready, ConvFault>
-        requires honest { IsTrue V.HONEST }
         requires stamp { IsStamp stamp.text }
         requires request { IsRequest (V.meaning self.now.versions.now) (request_of input.now) }
         requires storage { storage < (V.meaning self.now.versions.now).count }
         requires number { number < BORN_END }
         requires admits { (V.meaning self.now.versions.now).admits (request_of input.now) (object_of admitted.hub) admitted.expected }
-        requires weighs { Weighs (V.meaning self.now.versions.now) (object_of admitted.hub) admitted.weight }
+        requires weighs { IsTrue (V.meaning self.now.versions.now).honest → Weighs (V.meaning self.now.versions.now) (object_of admitted.hub) admitted.weight }
+        requires some { 0 < admitted.weight }
         ensures sized { IfOk result (λ r. IsSized r.prepared) }
         ensures at { IfOk result (λ r. r.prepared.at ≡ storage) }
         ensures weight { IfOk result (λ r. r.prepared.weight ≡ admitted.weight) }
@@ -107,9 +113,8 @@ impl<V: Versions> Given<'_, V> {
         ensures tool { IsErrOf result ConvFault.Tool → V.Tool.faults tool.old < V.Tool.faults tool.new }
         ensures rises { V.Tool.faults tool.old ≤ V.Tool.faults tool.new }
     {
-        // Asked for what their clauses say: the weight is that of the value with its stamps, and bounds its stored text.
+        // Asked for what its clause says: the weight is that of the value with its stamps.
         one_weight::<V>();
-        stored_fits::<V>();
         let Admitted {
             hub,
             weight,
@@ -120,6 +125,10 @@ impl<V: Versions> Given<'_, V> {
         let name = Txt::of(self.alloc, hub.meta.name.as_str())?;
         let text = self.shown(tool, input.version, number, number, &hub)?;
         let bytes = self.stored(tool, storage, &hub)?;
+        // Where it isn't known what values mean, the text may be longer than its weight.
+        if !fits(&bytes, weight) {
+            return Err(ConvFault::NoMemory);
+        }
         Ok(Ready {
             prepared: Prepared {
                 key,
@@ -140,7 +149,6 @@ impl<V: Versions> Given<'_, V> {
         stamp: Stamp,
         input: &Incoming<'_>,
     ) -> Result<Reply, Refused>
-        requires honest { IsTrue V.HONEST }
         requires stamp { IsStamp stamp.text }
         requires request { IsRequest (V.meaning self.now.versions.now) (request_of input.now) }
         requires creating { IsTrue input.now.creating }

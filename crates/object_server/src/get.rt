@@ -1,5 +1,5 @@
 //! A get of an object at a version.
-ghost use Rattle.std.specs.Prelude.{◌≡◌, ◌<◌, ◌≤◌, ◌^◌, List, ℕ, length, IfOk, IsErrOf, IsTrue};
+ghost use Rattle.std.specs.Prelude.{◌≡◌, ◌<◌, ◌≤◌, ◌^◌, List, ℕ, length, IfOk, IsErrOf};
 ghost use Rattle.http_wire.specs.Response.{HasPhrase};
 ghost use Rattle.kube_meta.specs.View.{ObjectView};
 ghost use Rattle.api_calls.specs.Item.{Item};
@@ -24,7 +24,6 @@ use turn_state::{Peeked, Seen};
 impl<V: Versions> Given<'_, V> {
     // The reply that shows at a version what is stored.
     fn show(&self, tool: &mut V::Tool, v: u8, seen: &Seen) -> Result<Reply, ConvFault>
-        requires honest { IsTrue V.HONEST }
         requires known { v < (V.meaning self.now.versions.now).count }
         requires stored { (h : ObjectView) × IsStored (V.meaning self.now.versions.now) seen.now.at h seen.now.bytes.bytes }
         requires born { seen.now.born < BORN_END }
@@ -51,7 +50,6 @@ impl<V: Versions> Given<'_, V> {
         namespace: &str,
         name: &str,
     ) -> Result<Reply, Refused>
-        requires honest { IsTrue V.HONEST }
         requires known { v < (V.meaning self.now.versions.now).count }
         requires ns_fits { length namespace.now ≤ NAMESPACE_BYTES }
         requires name_fits { length name.now ≤ NAME_BYTES }

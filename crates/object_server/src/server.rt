@@ -1,5 +1,5 @@
 //! The server, and what a request is answered.
-ghost use Rattle.std.specs.Prelude.{◌≡◌, ◌+◌, ◌<◌, ◌≤◌, ◌^◌, [], List, ℕ, IfOk, IsTrue};
+ghost use Rattle.std.specs.Prelude.{◌≡◌, ◌+◌, ◌<◌, ◌≤◌, ◌^◌, [], List, ℕ, IfOk};
 ghost use Rattle.std.specs.Arc.{arc_value};
 ghost use Rattle.http_wire.specs.Head.{Request};
 ghost use Rattle.http_wire.specs.Response.{HasPhrase};
@@ -55,7 +55,6 @@ impl<V: Versions> Given<'_, V> {
         namespace: &[u8],
         name: &[u8],
     ) -> Answer
-        requires honest { IsTrue V.HONEST }
         requires known { v < (V.meaning self.now.versions.now).count }
         requires same { core.now.versions ≡ self.now.versions.now }
         requires boot { core.now.view.boot ≡ self.now.boot }
@@ -87,7 +86,6 @@ impl<V: Versions> Given<'_, V> {
         namespace: &'b [u8],
         body: &'b [u8],
     ) -> Answer
-        requires honest { IsTrue V.HONEST }
         requires stamp { IsStamp stamp.text }
         requires known { v < (V.meaning self.now.versions.now).count }
         requires same { core.old.versions ≡ self.now.versions.now }
@@ -154,7 +152,6 @@ impl<V: Versions> Server<V> {
         stamp: Stamp,
         asked: &Asked<'_>,
     ) -> Answer
-        requires honest { IsTrue V.HONEST }
         requires stamp { IsStamp stamp.text }
         requires few { self.old.view.revision ≤ 2 ^ 61 }
         requires stands { (log : List Item) × StandsFor V.meaning self.old log }

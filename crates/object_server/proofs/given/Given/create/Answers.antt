@@ -62,9 +62,9 @@ returns-clause-ends g c = λ log stands.
       admitted_ends (base_of g.V.Versions.meaning c.args.core.now) (g.V.Tool.Tool.faults c.args.tool.now < g.V.Tool.Tool.faults c.prepare.new.tool) c.args.stamp.text log (request_of c.args.input.now) may
           (object_of c.in-Ok.admitted.hub) c.in-Ok.admitted.expected c.in_ok-ready.ready.prepared.weight (decided c.commit.result) made.0
           (subst (λ x. (g.V.Versions.meaning x).admits (request_of c.args.input.now) (object_of c.in-Ok.admitted.hub) c.in-Ok.admitted.expected) (sym c.requires.same) c.in-Ok.ensures.ok)
-          (subst (λ (w : ℕ). Weighs (g.V.Versions.meaning c.args.core.now.versions) (object_of c.in-Ok.admitted.hub) w) (sym c.in_ok-ready.ensures.weight)
+          (λ honest. subst (λ (w : ℕ). Weighs (g.V.Versions.meaning c.args.core.now.versions) (object_of c.in-Ok.admitted.hub) w) (sym c.in_ok-ready.ensures.weight)
           (subst (λ x. Weighs (g.V.Versions.meaning x) (object_of c.in-Ok.admitted.hub) c.in-Ok.admitted.weight) (sym c.requires.same)
-          (c.in-Ok.ensures.weighs (g.met.V.Versions.told c.args.self.now.versions.now ∙ c.requires.honest))))
+          (c.in-Ok.ensures.weighs (subst (λ x. (g.V.Versions.meaning x).honest ≡ true) c.requires.same honest))))
           made.2,
       λ e is. made.2.refused e is,
     )

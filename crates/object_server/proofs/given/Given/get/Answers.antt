@@ -21,7 +21,6 @@ returns-clause-ends g c = λ log stamp stands.
       None,
       seen_reply (g.V.Versions.meaning c.args.core.now.versions) c.args.core.now.view.boot c.args.v log (record { ns = c.args.namespace.now; name = c.args.name.now })
           c.in_ok-peeked.peeked c.in-Some.seen (reply_of c.in_ok-reply.reply)
-          (g.met.V.Versions.told c.args.core.now.versions ∙ c.requires.honest)
           (subst (λ (k : KeyView). Sees (g.V.Versions.meaning c.args.core.now.versions) log k c.in_ok-peeked.peeked) key (c.in_ok-peeked.ensures.sees log stands))
           c.in-Some.is may c.in_ok-reply.ensures.code
           (shows_as g.V.Versions.meaning c.args.self.now.versions.now c.args.core.now.versions c.args.self.now.boot c.args.core.now.view.boot c.args.v c.in-Some.seen c.in_ok-reply.reply.text.bytes
