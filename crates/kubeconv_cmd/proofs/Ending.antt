@@ -9,7 +9,7 @@ use Rattle.object_talk.specs.Conversed.{Blames}
 use Rattle.object_talk.specs.declared.conversation.PipeEnd.{PipeEnd}
 use Rattle.object_talk.specs.declared.conversation.PipeEnd.TheVariants.{Closed, Closing, Torn, Refused, Spent, ReadFault, WriteFault}
 use Rattle.kubeconv_cmd.specs.Lines.{Line}
-use Rattle.kubeconv_cmd.specs.Serving.{Start, Serves, Converses}
+use Rattle.kubeconv_cmd.specs.Serving.{Start, Serves, Converses, Held, IsUnheld}
 use Rattle.kubeconv_cmd.specs.Refusal.{Refuses, RefusesSome, IsServed}
 use Rattle.kubeconv_cmd.specs.Status.{status_of, pipe_status, error_line, refusal_line}
 use Rattle.kubeconv_cmd.specs.Ends.{OnRefused, OnUnread, status_at, line_at, why_text}
@@ -62,6 +62,23 @@ talks line crd rules start b before written files reads writes (Err stops.ReadFa
 talks line crd rules start b before written files reads writes (Err (stops.Refused file why)) s c is nf nr nw =
     inr (inl (is, (file.now, why_text why, c.refused)))
 talks line crd rules start b before written files reads writes (Err stops.NoMemory) s c is nf nr nw = inr (inr is)
+
+-- a conversation was held, or none
+pub held : (C : PipeEnd → Type 0) (U V files reads writes : Type 0) (came : Result PipeEnd Stop) (s : ℕ)
+    → IfOk came C → IfOk came (λ end. Blames end reads writes) → OnErr came (U × V) → IfErr came (λ stop. OnUnread stop files)
+    → s ≡ status_at came
+    → Held C reads writes s ⊎ (IsUnheld files s × U × V)
+held C U V files reads writes (Ok end) s talk blames u unread is = inl (record { end = end; conversed = talk; blames = blames; is_status = is })
+held C U V files reads writes (Err stops.ReadFailed) s talk blames u unread is = inr (inr (inr (is, unread)), u.0, u.1)
+held C U V files reads writes (Err (stops.Refused file why)) s talk blames u unread is = inr (inl is, u.0, u.1)
+held C U V files reads writes (Err stops.NoMemory) s talk blames u unread is = inr (inr (inl is), u.0, u.1)
+
+-- what holds of a call's end at each told input holds of its end
+pub told_ends : (T : List ℕ → List ℕ → Type 0) (L : List ℕ → Type 0) (C : List ℕ → List ℕ → List ℕ → PipeEnd → Type 0) (came : Result PipeEnd Stop)
+    → ((crd rules b : List ℕ) → T crd rules → L b → IfOk came (C crd rules b))
+    → IfOk came (λ end. (crd rules b : List ℕ) → T crd rules → L b → C crd rules b end)
+told_ends T L C (Ok end) each = each
+told_ends T L C (Err stop) each = tt
 
 -- what is served has the status of the one end of its input
 pub exactly : (line : Line) (crd rules : List ℕ) (start : Start) (b : List ℕ) (before written : Option (List ℕ)) (s : ℕ) (requests : List Request) (end : End)

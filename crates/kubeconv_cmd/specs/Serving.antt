@@ -1,5 +1,5 @@
 -- What it is to serve the definition that two texts are.
-use Rattle.std.specs.Prelude.{◌≡◌, ℕ, List, [], Option}
+use Rattle.std.specs.Prelude.{◌≡◌, ◌⊎◌, ℕ, List, [], Option}
 use Rattle.kube_meta.specs.declared.limits.TheConstants.Limits.{STANDING}
 use Rattle.api_calls.specs.Meaning.{Meaning}
 use Rattle.crd_meaning.specs.Definition.{Definition}
@@ -12,9 +12,10 @@ use Rattle.http_wire.specs.Stream.{End}
 use Rattle.http_wire.specs.declared.limits.TheConstants.{MOST_REQUESTS}
 use Rattle.object_talk.specs.Answering.{Base}
 use Rattle.object_talk.specs.Talk.{Conversation}
-use Rattle.object_talk.specs.Conversed.{Conversed}
+use Rattle.object_talk.specs.Conversed.{Blames, Conversed}
 use Rattle.object_talk.specs.declared.conversation.PipeEnd.{PipeEnd}
-use Rattle.kubeconv_cmd.specs.Status.{status_of}
+use Rattle.kubeconv_cmd.specs.Status.{status_of, pipe_status}
+use Rattle.kubeconv_cmd.specs.declared.status.TheConstants.{REFUSED, READ_FAILED, NO_MEMORY}
 
 -- the number of the server's start, and the one stamp of the clock where the clock tells it
 pub record Start : Type 0 where
@@ -49,3 +50,15 @@ pub record Converses (crd rules : List ℕ) (start : Start) (input : List ℕ) (
   pub loaded : LoadedView
   pub loads : Loads crd rules loaded
   pub conversed : Conversed (base_of (served_meaning loaded) start) MOST_REQUESTS [] input before written end
+
+-- A conversation was held to this end, and the status is that of the end. A fault of the input has one cause, and one of the
+-- output another.
+pub record Held (converses : PipeEnd → Type 0) (reads writes : Type 0) (status : ℕ) : Type 0 where
+  pub end : PipeEnd
+  pub conversed : converses end
+  pub blames : Blames end reads writes
+  pub is_status : status ≡ pipe_status end
+
+-- no conversation was held: a file is refused, memory is wanted, or a file can't be read, which has a cause
+abbrev pub IsUnheld : Type 0 → ℕ → Type 0
+IsUnheld files status = (status ≡ REFUSED) ⊎ ((status ≡ NO_MEMORY) ⊎ ((status ≡ READ_FAILED) × files))

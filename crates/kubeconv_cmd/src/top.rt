@@ -12,7 +12,7 @@ ghost use Rattle.crd_loading.specs.View.{LoadedView};
 ghost use Rattle.versions_loading.specs.Set.{set_of};
 ghost use Rattle.crd_versions.specs.Set.{definition_of};
 ghost use Rattle.kubeconv_cmd.specs.Lines.{Line, IsLine, Texts};
-ghost use Rattle.kubeconv_cmd.specs.Serving.{Serves, Converses};
+ghost use Rattle.kubeconv_cmd.specs.Serving.{Serves, Converses, Held, IsUnheld};
 ghost use Rattle.kubeconv_cmd.specs.Refusal.{Refuses, RefusesSome, IsServed};
 ghost use Rattle.kubeconv_cmd.specs.Status.{status_of, error_line, refusal_line};
 ghost use Rattle.kubeconv_cmd.specs.Ends.{line_of, OnRefused, OnUnread};
@@ -124,6 +124,13 @@ pub fn run<
         → ¬ (Rose (F.faults files.old) (F.faults files.new)) → ¬ (Rose (S.faults input.old) (S.faults input.new)) → ¬ (Rose (K.faults output.old) (K.faults output.new))
         → Serves crd rules (record { boot = boot; told = C.told clock.now }) b (K.written output.old) (K.written output.new) result
         ⊎ (((result ≡ REFUSED) × RefusesSome line crd rules) ⊎ (result ≡ NO_MEMORY)) }
+    // Whatever the outside did, a conversation was held to some end, and the status is that of the end; or none was held, and
+    // nothing was read of the input or written.
+    ensures held { (line : Line) → IsLine words.now line
+        → Held (λ end. (crd rules b : List ℕ) → Texts (F.file files.old) line crd rules → S.left input.old ≡ Some b
+        → Converses crd rules (record { boot = boot; told = C.told clock.now }) b (K.written output.old) (K.written output.new) end)
+        (Rose (S.faults input.old) (S.faults input.new)) (Rose (K.faults output.old) (K.faults output.new)) result
+        ⊎ (IsUnheld (Rose (F.faults files.old) (F.faults files.new)) result × (input.new ≡ input.old) × (output.new ≡ output.old)) }
     // Where the texts load, the status is that of the one end of the input, whatever was written.
     ensures exact { (line : Line) (crd rules b : List ℕ) (requests : List Request) (end : End) → IsLine words.now line → Texts (F.file files.old) line crd rules → S.left input.old ≡ Some b
         → ¬ (Rose (F.faults files.old) (F.faults files.new)) → ¬ (Rose (S.faults input.old) (S.faults input.new)) → ¬ (Rose (K.faults output.old) (K.faults output.new))
