@@ -6,6 +6,7 @@
 //! answered, nor of where files and streams come from.
 #![tactic(auto)]
 
+pub mod laws;
 mod loading;
 mod pipe;
 mod status;
@@ -13,6 +14,8 @@ mod stop;
 mod top;
 mod words;
 
-pub use status::{BAD_WORDS, CUT, DONE, NO_MEMORY, READ_FAILED, REFUSED, TOO_MANY, WRITE_FAILED};
+pub use status::{
+    BAD_WORDS, CUT, DONE, NO_MEMORY, READ_FAILED, REFUSED, TOO_MANY, WRITE_FAILED, ended,
+};
 pub use top::run;
 pub use words::Words;

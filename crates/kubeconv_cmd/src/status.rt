@@ -128,8 +128,9 @@ fn write_refusal<E: Sink>(errors: &mut E, file: &str, why: &Why) -> Result<(), F
     errors.flush()
 }
 
-/// Ends a run with a status but `REFUSED`, whose line is written. A failed write of that line changes nothing.
-pub(crate) fn ended<E: Sink>(errors: &mut E, status: u8) -> u8
+/// Ends with a status but `REFUSED`, whose line is written: a run, or a program whose run can't begin, since a word of the
+/// command line isn't UTF-8 (`BAD_WORDS`) or memory is wanted (`NO_MEMORY`). A failed write of that line changes nothing.
+pub fn ended<E: Sink>(errors: &mut E, status: u8) -> u8
     ensures status { result ≡ status }
     ensures line { ¬ (Rose (E.faults errors.old) (E.faults errors.new))
         → E.written errors.new ≡ append_known (E.written errors.old) (error_line_of status) }

@@ -1,0 +1,41 @@
+//! The statuses by their numbers, and the numbers of what the program promises, which no edit of a constant can turn. Those of
+//! keys and a server's limits, of heads and bodies, of files and of chunks stand with the crates that have them.
+ghost use Rattle.std.specs.Prelude.{◌≡◌};
+ghost use Rattle.kj_value.specs.declared.reading.TheConstants.{MAX_LEVELS as most_document_levels};
+ghost use Rattle.object_reading.specs.declared.finalizers.TheConstants.{FINALIZERS as most_finalizers, FINALIZER_BYTES as most_finalizer_bytes};
+ghost use Rattle.object_reading.specs.declared.labels.TheConstants.{KEY_NAME_BYTES as most_label_bytes};
+ghost use Rattle.schema_reading.specs.declared.walk.TheConstants.{MAX_NESTING as most_nesting, MAX_NODES as most_nodes, MAX_DEFAULT_DEPTH as most_default_levels};
+ghost use Rattle.crd_reading.specs.declared.places.TheConstants.{MIN_VERSIONS as least_versions, MAX_VERSIONS as most_versions, KIND_BYTES as most_kind_bytes};
+ghost use Rattle.hub_cells.specs.declared.allowed.TheConstants.{MAX_LEVELS as most_object_levels};
+ghost use Rattle.hub_rules.specs.declared.rules.TheConstants.{MAX_OBJECTS as most_object_rules};
+ghost use Rattle.rule_reading.specs.declared.rules.TheConstants.{MAX_RULES as most_rules};
+ghost use Rattle.kept_entries.specs.declared.reading.TheConstants.{KEPT_LEVELS as most_kept_levels};
+ghost use Rattle.crd_meaning.specs.declared.limits.TheConstants.{MAX_MEASURE as most_measure};
+
+use crate::status::{
+    BAD_WORDS, CUT, DONE, NO_MEMORY, READ_FAILED, REFUSED, TOO_MANY, WRITE_FAILED,
+};
+
+/// The statuses.
+pub fn statuses()
+    ensures done { DONE ≡ 0 }
+    ensures bad_words { BAD_WORDS ≡ 2 }
+    ensures refused { REFUSED ≡ 3 }
+    ensures read_failed { READ_FAILED ≡ 5 }
+    ensures write_failed { WRITE_FAILED ≡ 6 }
+    ensures no_memory { NO_MEMORY ≡ 7 }
+    ensures cut { CUT ≡ 9 }
+    ensures too_many { TOO_MANY ≡ 10 }
+{}
+
+/// The bounds on definitions, schemas, rules, objects and their texts: numbers of things, bytes and levels.
+pub fn bounds()
+    ensures versions { (least_versions ≡ 2) × (most_versions ≡ 8) }
+    ensures kind { most_kind_bytes ≡ 63 }
+    ensures schema { (most_nesting ≡ 32) × (most_nodes ≡ 1_024) × (most_default_levels ≡ 32) }
+    ensures rules { (most_rules ≡ 64) × (most_object_rules ≡ 8) }
+    ensures levels { (most_document_levels ≡ 100) × (most_object_levels ≡ 64) × (most_kept_levels ≡ 66) }
+    ensures measure { most_measure ≡ 262_144 }
+    ensures labels { most_label_bytes ≡ 63 }
+    ensures finalizers { (most_finalizers ≡ 64) × (most_finalizer_bytes ≡ 317) }
+{}
