@@ -25,7 +25,6 @@ pub(crate) fn serve<V: Versions<Tool = NoTool> + Drop, S: Source, K: Sink, C: Cl
     clock: &C,
     boot: u64,
 ) -> Result<PipeEnd, NoMemory>
-    requires honest { IsTrue V.HONEST }
     ensures talk { (b : List ℕ) → S.left input.old ≡ Some b
         → IfOk result (Conversed (base_of (V.meaning versions) (record { boot = boot; told = C.told clock.now })) MOST_REQUESTS [] b (K.written output.old) (K.written output.new)) }
     ensures blames { IfOk result (λ end. Blames end (Rose (S.faults input.old) (S.faults input.new)) (Rose (K.faults output.old) (K.faults output.new))) }

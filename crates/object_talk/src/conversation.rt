@@ -127,7 +127,6 @@ fn answer_request<V: Versions<Tool = NoTool>, C: Clock>(
     clock: &C,
     parts: RequestParts,
 ) -> Answer
-    requires honest { IsTrue V.HONEST }
     requires few { server.old.view.revision ≤ 2 ^ 61 }
     requires stands { (log : List Item) × StandsFor V.meaning server.old log }
     requires method { LiesIn (length inbox.now.bytes) parts.method }
@@ -159,7 +158,6 @@ pub fn serve_one<V: Versions<Tool = NoTool>, S: Source, K: Sink, C: Clock>(
     output: &mut K,
     clock: &C,
 ) -> OneEnd
-    requires honest { IsTrue V.HONEST }
     requires few { server.old.view.revision ≤ 2 ^ 61 }
     requires stands { (log : List Item) × StandsFor V.meaning server.old log }
     ensures did { (b : List ℕ) (log : List Item) → prepend_known inbox.old.bytes (S.left input.old) ≡ Some b → StandsFor V.meaning server.old log
@@ -222,7 +220,6 @@ pub fn converse<V: Versions<Tool = NoTool>, S: Source, K: Sink, C: Clock>(
     output: &mut K,
     clock: &C,
 ) -> PipeEnd
-    requires honest { IsTrue V.HONEST }
     requires stands { StandsFor V.meaning server.old [] }
     ensures talk { (b : List ℕ) → prepend_known inbox.old.bytes (S.left input.old) ≡ Some b
         → Conversed (record { server = base_of V.meaning server.old; told = C.told clock.now }) MOST_REQUESTS [] b (K.written output.old) (K.written output.new) result }

@@ -57,7 +57,6 @@ fn says<V: Versions>(
     code: u16,
     text: &str,
 )
-    requires honest { IsTrue V.HONEST }
     requires young { server.old.view.revision ≤ 1_000 }
     requires stands { (log : List Item) × StandsFor V.meaning server.old log }
     ensures stands { (log : List Item) × StandsFor V.meaning server.new log }
@@ -82,7 +81,6 @@ fn posts<V: Versions>(
     code: u16,
     text: &str,
 )
-    requires honest { IsTrue V.HONEST }
     requires young { server.old.view.revision ≤ 1_000 }
     requires stands { (log : List Item) × StandsFor V.meaning server.old log }
     ensures stands { (log : List Item) × StandsFor V.meaning server.new log }
@@ -105,7 +103,6 @@ fn gets<V: Versions>(
     code: u16,
     text: &str,
 )
-    requires honest { IsTrue V.HONEST }
     requires young { server.old.view.revision ≤ 1_000 }
     requires stands { (log : List Item) × StandsFor V.meaning server.old log }
     ensures stands { (log : List Item) × StandsFor V.meaning server.new log }
