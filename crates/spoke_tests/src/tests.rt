@@ -143,7 +143,27 @@ to_hub
 a_bad_text_at_the_hub
 settle_hub
 {"apiVersion":"example.com/v1","kind":"CronTab","metadata":{"annotations":{"hub.kubeconv.local/kept":"[","spoke.kubeconv.local/v1beta1":"["},"name":"a"}}
-BadKept spoke.kubeconv.local/v1beta1"#;
+BadKept spoke.kubeconv.local/v1beta1
+
+a_live_entry_stays_beside_a_dead_one_behind_it
+settle_spoke
+{"apiVersion":"example.com/v1beta1","kind":"CronTab","metadata":{"annotations":{"hub.kubeconv.local/kept":"[{\"at\":[],\"was\":{\"owner\":\"o\"}},{\"at\":[],\"was\":{\"timeoutMillis\":-1500}}]"},"name":"a"},"paused":false,"timeoutSeconds":5}
+{"apiVersion":"example.com/v1beta1","kind":"CronTab","metadata":{"annotations":{"hub.kubeconv.local/kept":"[{\"at\":[],\"was\":{\"owner\":\"o\"}}]"},"name":"a"},"paused":false,"timeoutSeconds":5}
+
+a_live_entry_stays_beside_a_dead_one_before_it
+settle_spoke
+{"apiVersion":"example.com/v1beta1","hostPort":"x:1","kind":"CronTab","metadata":{"annotations":{"hub.kubeconv.local/kept":"[{\"at\":[],\"was\":{\"host\":\"x\",\"port\":\"a:b\"}},{\"at\":[],\"was\":{\"owner\":\"o\"}}]"},"name":"a"},"paused":false}
+{"apiVersion":"example.com/v1beta1","hostPort":"x:1","kind":"CronTab","metadata":{"annotations":{"hub.kubeconv.local/kept":"[{\"at\":[],\"was\":{\"owner\":\"o\"}}]"},"name":"a"},"paused":false}
+
+a_live_entry_of_a_spoke_stays_beside_a_dead_one
+settle_hub
+{"apiVersion":"example.com/v1","host":"h","kind":"CronTab","metadata":{"annotations":{"spoke.kubeconv.local/v1beta1":"[{\"at\":[],\"was\":{\"hostPort\":\"nocolon\"}},{\"at\":[],\"was\":{\"legacy\":\"l\"}}]"},"name":"a"},"paused":false,"port":"1"}
+{"apiVersion":"example.com/v1","host":"h","kind":"CronTab","metadata":{"annotations":{"spoke.kubeconv.local/v1beta1":"[{\"at\":[],\"was\":{\"legacy\":\"l\"}}]"},"name":"a"},"paused":false,"port":"1"}
+
+a_live_entry_goes_over_beside_a_dead_one
+to_hub
+{"apiVersion":"example.com/v1beta1","kind":"CronTab","metadata":{"annotations":{"hub.kubeconv.local/kept":"[{\"at\":[],\"was\":{\"owner\":\"o\"}},{\"at\":[],\"was\":{\"timeoutMillis\":-1500}}]"},"name":"a"},"paused":false,"timeoutSeconds":5}
+{"apiVersion":"example.com/v1","kind":"CronTab","metadata":{"name":"a"},"owner":"o","paused":false,"timeoutMillis":5000}"#;
 
 // That an object of v1beta1 and one of v1 become each other, and nothing is to be left out of them.
 fn are_one(

@@ -266,6 +266,15 @@ fn fits() -> &'static str {
 "properties":{"a":{"maximum":9,"minimum":0,"type":"integer"}} | "properties":{"b":{"maximum":20,"minimum":0,"type":"integer"}} | {"scale":{"by":2,"names":["a","b"]}} => Rules "a" RangeLost
 "properties":{"a":{"format":"int32","type":"integer"}} | "properties":{"b":{"type":"integer"}} | {"scale":{"by":2,"names":["a","b"]}} => Rules "a" RangeLost
 "properties":{"a":{"format":"int32","type":"integer"}} | "properties":{"b":{"maximum":4294967295,"minimum":-4294967296,"type":"integer"}} | {"scale":{"by":2,"names":["a","b"]}} => ok
+
+"properties":{"a":{"type":"string"},"b":{"type":"string"},"c":{"type":"string"}} | "properties":{"a":{"type":"string"},"b":{"type":"string"},"c":{"type":"string"}} | {"same":["a","b"]},{"same":["c","c"]},{"same":["b","b"]},{"same":["c","a"]} => Rules "b" NameTwice
+"properties":{"a":{"type":"string"},"b":{"type":"string"},"c":{"type":"string"}} | "properties":{"a":{"type":"string"},"b":{"type":"string"},"c":{"type":"string"}} | {"same":["a","a"]},{"same":["b","c"]},{"same":["b","a"]} => Rules "a" NameTwice
+"properties":{"a":{"type":"string"},"b":{"type":"string"},"c":{"type":"string"}} | "properties":{"a":{"type":"string"},"b":{"type":"string"},"c":{"type":"string"}} | {"same":["a","b"]},{"same":["a","b"]} => Rules "a" NameTwice
+"properties":{"a":{"type":"string"},"b":{"type":"string"},"c":{"type":"string"}} | "properties":{"a":{"type":"string"},"b":{"type":"string"},"c":{"type":"string"}} | {"split":{"hub":["b","b"],"spoke":"a"}},{"spokeOnly":"a"} => Rules "a" NameTwice
+
+"properties":{"a":{"default":"x","type":"string"}} | "properties":{"a":{"default":"q","type":"string"}} | {"table":{"hubBlank":"p","names":["a","a"],"pairs":[["x","p"],["x","q"]],"spokeBlank":"x"}} => Rules "a" UnpairedDefault
+"properties":{"a":{"default":"x","type":"string"}} | "properties":{"a":{"default":"q","type":"string"}} | {"table":{"hubBlank":"p","names":["a","a"],"pairs":[["x","q"],["x","p"]],"spokeBlank":"x"}} => Rules "a" RangeLost
+"properties":{"a":{"default":"x","type":"string"}} | "properties":{"a":{"default":"q","type":"string"}} | {"table":{"hubBlank":"p","names":["a","a"],"pairs":[["x","q"],["y","p"]],"spokeBlank":"x"}} => ok
 "#
 }
 
