@@ -3,16 +3,25 @@
 
 use edge_io::{DiskFiles, MemEars, RealClock, StdSink, StdSource};
 use kj_value::Txt;
-use kubeconv_cmd::{BAD_WORDS, NO_MEMORY, Words, run};
-use std::env;
+use kubeconv_cmd::{BAD_WORDS, NO_MEMORY, Words, ended, run};
 use std::io::{BufReader, BufWriter};
 use std::process::ExitCode;
 use std::time::Clock;
+use std::{env, io};
+
+// The status where the command line can't be had: there is no memory for it, or a word isn't UTF-8.
+fn status_of(fault: io::Error) -> u8 {
+    if fault.kind() == io::ErrorKind::OutOfMemory {
+        NO_MEMORY
+    } else {
+        BAD_WORDS
+    }
+}
 
 // The words of the command line without the program's name, or the status where they can't be had.
 fn words(rt: &HostRuntime) -> Result<Words, u8> {
     let mut words = Words::new(rt.alloc());
-    for word in env::args(rt).map_err(|_| BAD_WORDS)?.skip(1) {
+    for word in env::args(rt).map_err(status_of)?.skip(1) {
         words.push(Txt::of_string(word)).map_err(|_| NO_MEMORY)?;
     }
     Ok(words)
@@ -31,24 +40,24 @@ fn boot_number(rt: &HostRuntime) -> u64 {
 
 fn main(rt: HostRuntime) -> ExitCode {
     let alloc = rt.alloc();
+    let mut errors = StdSink::new(rt.stderr());
     let words = match words(&rt) {
         Ok(words) => words,
-        Err(status) => return ExitCode::from(status),
+        Err(status) => return ExitCode::from(ended(&mut errors, status)),
     };
     let Ok(reader) = BufReader::new(alloc, rt.stdin()) else {
-        return ExitCode::from(NO_MEMORY);
+        return ExitCode::from(ended(&mut errors, NO_MEMORY));
     };
     let Ok(writer) = BufWriter::new(alloc, rt.stdout()) else {
-        return ExitCode::from(NO_MEMORY);
+        return ExitCode::from(ended(&mut errors, NO_MEMORY));
     };
     let Ok(mut ears) = MemEars::new(alloc, Vec::new(alloc), Vec::new(alloc)) else {
-        return ExitCode::from(NO_MEMORY);
+        return ExitCode::from(ended(&mut errors, NO_MEMORY));
     };
     let boot = boot_number(&rt);
     let mut files = DiskFiles::new(&rt);
     let mut input = StdSource::new(reader);
     let mut output = StdSink::new(writer);
-    let mut errors = StdSink::new(rt.stderr());
     let clock = RealClock::new(&rt);
     ExitCode::from(run(
         &rt,
