@@ -174,7 +174,7 @@ fn definitions() -> &'static str {
 {"type":"string"} ~> {"properties":{},"type":"string"} => Crd "spec.versions[0].schema.openAPIV3Schema.properties.b" properties
 {"type":"string"} ~> {"additionalProperties":{"type":"string"},"type":"string"} => Crd "spec.versions[0].schema.openAPIV3Schema.properties.b" additionalProperties
 {"type":"string"} ~> {"items":{"default":"x","type":"integer"},"type":"array"} => Crd "spec.versions[0].schema.openAPIV3Schema.properties.b.items" default
-"type":"object" ~> "type":"array" => Crd "spec.versions[0].schema.openAPIV3Schema" properties
+"type":"object" ~> "type":"array" => Crd "spec.versions[0].schema.openAPIV3Schema" items
 {"a":{"type":"string"}} ~> {"a":({"items":*33){"type":"string"}(,"type":"array"}*33)} => Crd "spec.versions[1].schema.openAPIV3Schema.properties.a(.items*32)" Limit
 
 "apiVersion":"apiextensions.k8s.io/v1" ~> "apiVersion":"apiextensions.k8s.io/v2" => Crd "apiVersion" Shape
