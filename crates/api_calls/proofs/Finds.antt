@@ -12,7 +12,7 @@ use Rattle.api_calls.specs.Item.{Entry, Create, Replace, Mark, Release, Touch, D
 use Rattle.api_calls.specs.Objects.{Stored, find, put, without, updated, moved, marked_at, born_or}
 use Rattle.api_calls.specs.State.{State, has, target_of, moved_storage, entry_effect, effect, number_after, number_from, opening, state_from, state}
 use Rattle.api_calls.specs.Legal.{Each, guard, legal_from, legal}
-use Rattle.api_calls.specs.Laws.{IsRising, IsSound, Leaves, Writes}
+use Rattle.api_calls.specs.Laws.{IsRising, IsSoundState, Leaves, Writes}
 use Rattle.api_calls.proofs.Order.{itself, exact, chain}
 use Rattle.api_calls.proofs.Lists.{each}
 use Rattle.api_calls.proofs.Parts.{state_from-append, legal_from-append}
@@ -128,7 +128,7 @@ find-updated_other f k j (e ∷ es) key ne = by (key_cmp j e.key) refl (find-upd
 value-put : (k : KeyView) (h : ObjectView) (x : Stored) (es : List Stored) → k ≢ x.key → HasValue k h es → HasValue k h (put x es)
 value-put k h x es ne (e, is, same) = (e, find-put_other k x es ne ∙ is, same)
 
-pub stays-step : (m : Meaning) (limits : Limits) (n : ℕ) (k : KeyView) (h : ObjectView) (i : Item) (s : State) → guard m limits s i → IsSound s → Leaves k i → HasValue k h s.objects
+pub stays-step : (m : Meaning) (limits : Limits) (n : ℕ) (k : KeyView) (h : ObjectView) (i : Item) (s : State) → guard m limits s i → IsSoundState s → Leaves k i → HasValue k h s.objects
     → HasValue k h (effect n i s).objects
 stays-step m limits n k h (entry (Create j g w)) s may sound leaves (e, is, same) =
     value-put k h (record { key = j; h = g; number = n; at = s.flags.storage; born = n; weight = w }) s.objects
@@ -152,7 +152,7 @@ stays-step m limits n k h (note (Claim c)) s may sound leaves has = has
 stays-step m limits n k h (note (RangeDone c)) s may sound leaves has = has
 stays-step m limits n k h (note (GiveBack c)) s may sound leaves has = has
 
-stays-from : (m : Meaning) (limits : Limits) (n : ℕ) (k : KeyView) (h : ObjectView) (s : State) (log : List Item) → legal_from m limits n s log → IsSound s → Each (Leaves k) log
+stays-from : (m : Meaning) (limits : Limits) (n : ℕ) (k : KeyView) (h : ObjectView) (s : State) (log : List Item) → legal_from m limits n s log → IsSoundState s → Each (Leaves k) log
     → HasValue k h s.objects → HasValue k h (state_from n s log).objects
 stays-from m limits n k h s [] l sound leaves has = has
 stays-from m limits n k h s (i ∷ log) l sound leaves has =

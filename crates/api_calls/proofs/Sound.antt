@@ -15,7 +15,7 @@ use Rattle.api_calls.specs.Item.{Create, Replace, Mark, Release, Touch, Delete, 
 use Rattle.api_calls.specs.Objects.{Stored, find, put, without, updated, moved, marked_at, elsewhere, keys, born_or}
 use Rattle.api_calls.specs.State.{State, has, joined, target_or, target_of, moved_storage, entry_effect, note_effect, effect, number_after, opening, state_from, state}
 use Rattle.api_calls.specs.Legal.{Each, IsHeld, MayTouch, MayClaim, MayEnd, MaySucceed, MayStart, guard, legal_from, legal}
-use Rattle.api_calls.specs.Laws.{IsSound, AtMostOneRuns, KeepsPlan}
+use Rattle.api_calls.specs.Laws.{IsSoundState, AtMostOneRuns, KeepsPlan}
 use Rattle.api_calls.proofs.Lists.{each, each_two, each-put, each-without, each-updated, rising-put, rising-without, rising-updated, each-first}
 use Rattle.kube_meta.specs.PlanLaws.{covered-changed, covered-claimed}
 
@@ -89,7 +89,7 @@ has-kept xs v w h = by (has xs v)
 
 -- ---- the moves
 
-pub sound-put : (x : Stored) (s : State) → x.at ≡ s.flags.storage → IsSound s → IsSound (record s { objects = put x s.objects })
+pub sound-put : (x : Stored) (s : State) → x.at ≡ s.flags.storage → IsSoundState s → IsSoundState (record s { objects = put x s.objects })
 sound-put x s at h = record {
   rising = rising-put x s.objects h.rising;
   one = h.one;
@@ -110,7 +110,7 @@ later_span r k x gt h = by (is_gt (key_cmp x k)) gt (not (passed r.after x)) h
     by true gt false h = cc
     by false gt a h = cc
 
-sound-touched : (n : ℕ) (k : KeyView) (c : ℕ) (s : State) → MayTouch k c s → IsSound s → IsSound (record s { objects = updated (moved n s.flags.storage) k s.objects; plan = pass_key c k s.plan })
+sound-touched : (n : ℕ) (k : KeyView) (c : ℕ) (s : State) → MayTouch k c s → IsSoundState s → IsSoundState (record s { objects = updated (moved n s.flags.storage) k s.objects; plan = pass_key c k s.plan })
 sound-touched n k c s g h = record {
   rising = rising-updated (moved n s.flags.storage) k s.objects (λ e. refl) h.rising;
   one = h.one;
@@ -140,19 +140,19 @@ sound-touched n k c s g h = record {
         p (covered-changed e.key (λ r. Held c (record r { after = After k })) c s.plan g.claim.span g.claim.held (λ ins. cc) cov)
 
 -- the target of a running migration is the storage version
-pub touch_target : (s : State) → IsSound s → target_of s ≡ s.flags.storage
+pub touch_target : (s : State) → IsSoundState s → target_of s ≡ s.flags.storage
 touch_target s h = by (running s.migrations) refl
   where
     by : (o : Option Migration) → running s.migrations ≡ o → target_or o s.flags.storage ≡ s.flags.storage
     by None is = refl
     by (Some m) is = (h.plan m is).target
 
-sound-touch : (n : ℕ) (k : KeyView) (c : ℕ) (s : State) → MayTouch k c s → IsSound s → IsSound (entry_effect n (Touch k c) s)
+sound-touch : (n : ℕ) (k : KeyView) (c : ℕ) (s : State) → MayTouch k c s → IsSoundState s → IsSoundState (entry_effect n (Touch k c) s)
 sound-touch n k c s g h =
-    subst (λ (v : ℕ). IsSound (record s { objects = updated (moved n v) k s.objects; plan = pass_key c k s.plan })) (sym (touch_target s h)) (sound-touched n k c s g h)
+    subst (λ (v : ℕ). IsSoundState (record s { objects = updated (moved n v) k s.objects; plan = pass_key c k s.plan })) (sym (touch_target s h)) (sound-touched n k c s g h)
 
 -- a value got a deletion stamp, and stands at the storage version
-sound-mark : (n : ℕ) (k : KeyView) (stamp : List ℕ) (s : State) → IsSound s → IsSound (record s { objects = updated (marked_at n s.flags.storage stamp) k s.objects })
+sound-mark : (n : ℕ) (k : KeyView) (stamp : List ℕ) (s : State) → IsSoundState s → IsSoundState (record s { objects = updated (marked_at n s.flags.storage stamp) k s.objects })
 sound-mark n k stamp s h = record {
   rising = rising-updated (marked_at n s.flags.storage stamp) k s.objects (λ e. refl) h.rising;
   one = h.one;
@@ -165,7 +165,7 @@ sound-mark n k stamp s h = record {
   };
 }
 
-sound-without : (k : KeyView) (s : State) → IsSound s → IsSound (record s { objects = without k s.objects })
+sound-without : (k : KeyView) (s : State) → IsSoundState s → IsSoundState (record s { objects = without k s.objects })
 sound-without k s h = record {
   rising = rising-without k s.objects h.rising;
   one = h.one;
@@ -178,8 +178,8 @@ sound-without k s h = record {
 }
 
 sound-none : (s : State) (flags : Flags) (stored : List ℕ) (ms : List Migration) (plan : Plan) → running ms ≡ None → has stored flags.storage ≡ true
-    → Each (λ e. has stored e.at ≡ true) s.objects → IsSound s
-    → IsSound (record { flags = flags; stored = stored; objects = s.objects; migrations = ms; plan = plan })
+    → Each (λ e. has stored e.at ≡ true) s.objects → IsSoundState s
+    → IsSoundState (record { flags = flags; stored = stored; objects = s.objects; migrations = ms; plan = plan })
 sound-none s flags stored ms plan none storage all h = record {
   rising = h.rising;
   one = one-none ms none;
@@ -188,10 +188,10 @@ sound-none s flags stored ms plan none storage all h = record {
   plan = λ m is. let both : None ≡ Some m = sym none ∙ is in cc;
 }
 
-sound-set : (n : ℕ) (f : Flags) (s : State) → IsSound s → IsSound (entry_effect n (SetVersions f) s)
+sound-set : (n : ℕ) (f : Flags) (s : State) → IsSoundState s → IsSoundState (entry_effect n (SetVersions f) s)
 sound-set n f s h = by (nat_eq f.storage s.flags.storage) refl
   where
-    by : (b : Bool) → nat_eq f.storage s.flags.storage ≡ b → IsSound (if b then record s { flags = f } else moved_storage f s)
+    by : (b : Bool) → nat_eq f.storage s.flags.storage ≡ b → IsSoundState (if b then record s { flags = f } else moved_storage f s)
     by true is =
         let same : f.storage ≡ s.flags.storage = number f.storage s.flags.storage is in
         record {
@@ -206,7 +206,7 @@ sound-set n f s h = by (nat_eq f.storage s.flags.storage) refl
         (has-joined s.stored f.storage)
         (each (λ e. has s.stored e.at ≡ true) (λ e. has (joined s.stored f.storage) e.at ≡ true) s.objects h.stored (λ e p. has-kept s.stored f.storage e.at p)) h
 
-sound-start : (limits : Limits) (n : ℕ) (name : List ℕ) (s : State) → MayStart limits name s → IsSound s → IsSound (entry_effect n (StartMigration name) s)
+sound-start : (limits : Limits) (n : ℕ) (name : List ℕ) (s : State) → MayStart limits name s → IsSoundState s → IsSoundState (entry_effect n (StartMigration name) s)
 sound-start limits n name s g h =
     let new : Migration = record { name = name; target = s.flags.storage; condition = Running } in
     let after = started s.migrations (record { name = name; target = s.flags.storage; condition = Running }) g.idle refl in
@@ -226,7 +226,7 @@ sound-start limits n name s g h =
 
 -- a plan under which no more is covered
 sound-plan : (p : Plan) (s : State) → ((m : Migration) → running s.migrations ≡ Some m → KeepsPlan m s → Each (λ e. covered p e.key ≡ true → e.at ≡ m.target) s.objects)
-    → IsSound s → IsSound (record s { plan = p })
+    → IsSoundState s → IsSoundState (record s { plan = p })
 sound-plan p s fewer h = record {
   rising = h.rising;
   one = h.one;
@@ -235,7 +235,7 @@ sound-plan p s fewer h = record {
   plan = λ m is. record { target = (h.plan m is).target; done = fewer m is (h.plan m is) };
 }
 
-sound-claim : (c : ℕ) (s : State) → MayClaim c s → IsSound s → IsSound (note_effect (Claim c) s)
+sound-claim : (c : ℕ) (s : State) → MayClaim c s → IsSoundState s → IsSoundState (note_effect (Claim c) s)
 sound-claim c s g h =
     sound-plan (claimed c (keys s.objects) s.plan) s
     (λ m is keeps. each (λ e. covered s.plan e.key ≡ true → e.at ≡ m.target) (λ e. covered (claimed c (keys s.objects) s.plan) e.key ≡ true → e.at ≡ m.target) s.objects keeps.done
@@ -250,7 +250,7 @@ none_elsewhere r v (e ∷ es) h = by (in_span r e.key && not (nat_eq e.at v)) h 
     by true h more = cc
     by false h more = (refl, more h)
 
-sound-done : (c : ℕ) (s : State) → MayEnd c s → IsSound s → IsSound (note_effect (RangeDone c) s)
+sound-done : (c : ℕ) (s : State) → MayEnd c s → IsSoundState s → IsSoundState (note_effect (RangeDone c) s)
 sound-done c s g h =
     sound-plan (free_slot c s.plan) s
     (λ m is keeps.
@@ -268,13 +268,13 @@ sound-done c s g h =
     outside m e false is_a false is_b out p cov =
         p (covered-changed e.key (λ r. Free) c s.plan g.claim.span g.claim.held (λ ins. cc) cov)
 
-sound-back : (c : ℕ) (s : State) → IsHeld c s → IsSound s → IsSound (note_effect (GiveBack c) s)
+sound-back : (c : ℕ) (s : State) → IsHeld c s → IsSoundState s → IsSoundState (note_effect (GiveBack c) s)
 sound-back c s g h =
     sound-plan (give_back c s.plan) s
     (λ m is keeps. each (λ e. covered s.plan e.key ≡ true → e.at ≡ m.target) (λ e. covered (give_back c s.plan) e.key ≡ true → e.at ≡ m.target) s.objects keeps.done
     (λ e p cov. p (covered-changed e.key (λ r. Loose r) c s.plan g.span g.held (λ ins. ins) cov))) h
 
-pub sound-step : (m : Meaning) (limits : Limits) (n : ℕ) (i : Item) (s : State) → guard m limits s i → IsSound s → IsSound (effect n i s)
+pub sound-step : (m : Meaning) (limits : Limits) (n : ℕ) (i : Item) (s : State) → guard m limits s i → IsSoundState s → IsSoundState (effect n i s)
 sound-step m limits n (entry (Create k h w)) s g sound =
     sound-put (record { key = k; h = h; number = n; at = s.flags.storage; born = n; weight = w }) s refl sound
 sound-step m limits n (entry (Replace k over h w)) s g sound =
@@ -298,11 +298,11 @@ sound-step m limits n (note (Claim c)) s g sound = sound-claim c s g sound
 sound-step m limits n (note (RangeDone c)) s g sound = sound-done c s g sound
 sound-step m limits n (note (GiveBack c)) s g sound = sound-back c s g sound
 
-pub sound-from : (m : Meaning) (limits : Limits) (n : ℕ) (s : State) (log : List Item) → legal_from m limits n s log → IsSound s → IsSound (state_from n s log)
+pub sound-from : (m : Meaning) (limits : Limits) (n : ℕ) (s : State) (log : List Item) → legal_from m limits n s log → IsSoundState s → IsSoundState (state_from n s log)
 sound-from m limits n s [] l h = h
 sound-from m limits n s (i ∷ log) l h = sound-from m limits (number_after n i) (effect n i s) log l.1 (sound-step m limits n i s l.0 h)
 
-pub sound-opening : (m : Meaning) → IsSound (opening m)
+pub sound-opening : (m : Meaning) → IsSoundState (opening m)
 sound-opening m = record {
   rising = tt;
   one = tt;
@@ -311,7 +311,7 @@ sound-opening m = record {
   plan = λ q is. cc;
 }
 
-pub sound-all : (m : Meaning) (limits : Limits) (log : List Item) → legal m limits log → IsSound (state m log)
+pub sound-all : (m : Meaning) (limits : Limits) (log : List Item) → legal m limits log → IsSoundState (state m log)
 sound-all m limits log l = sound-from m limits 2 (opening m) log l (sound-opening m)
 
 at_end : (b : Bound) → is_end b ≡ true → (x : KeyView) → passed b x ≡ true
@@ -331,7 +331,7 @@ both_true true false h = (refl, refl)
 both_true false b h = cc
 
 -- where every key was handed out and no claim is left, all is done
-pub finished : (m : Migration) (s : State) → IsSound s → running s.migrations ≡ Some m → is_done s.plan ≡ true → MaySucceed s
+pub finished : (m : Migration) (s : State) → IsSoundState s → running s.migrations ≡ Some m → is_done s.plan ≡ true → MaySucceed s
 finished m s h is done =
     let parts = both_true (is_end s.plan.cursor) (list_any (λ t. not (is_free t)) s.plan.slots) done in
     record {

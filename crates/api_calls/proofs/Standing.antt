@@ -14,7 +14,7 @@ use Rattle.api_calls.specs.Item.{Create, Replace, Mark, Release, Touch, Delete, 
 use Rattle.api_calls.specs.Objects.{Stored, find, put, without, updated, moved, marked_at, elsewhere, born_or}
 use Rattle.api_calls.specs.State.{State, has, target_of, moved_storage, effect, number_after, number_from, next_number, opening, state_from, state}
 use Rattle.api_calls.specs.Legal.{Each, MayTouch, MaySucceed, MayStart, guard, legal_from, legal}
-use Rattle.api_calls.specs.Laws.{IsRising, IsSound, KeepsStorage, away, is_touch, is_named, touches_of}
+use Rattle.api_calls.specs.Laws.{IsRising, IsSoundState, KeepsStorage, away, is_touch, is_named, touches_of}
 use Rattle.std.specs.Str.{bytes_eq}
 use Rattle.std.proofs.lemmas.Slice.Eq.{bytes_eq-Decides}
 use Rattle.api_calls.proofs.Order.{itself, chain, same_left}
@@ -28,7 +28,7 @@ pub record AllAt (v : ℕ) (s : State) : Type 0 where
   pub storage : s.flags.storage ≡ v
   pub all : Each (λ e. e.at ≡ v) s.objects
 
-pub at-step : (n v : ℕ) (i : Item) (s : State) → IsSound s → KeepsStorage v i → AllAt v s → AllAt v (effect n i s)
+pub at-step : (n v : ℕ) (i : Item) (s : State) → IsSoundState s → KeepsStorage v i → AllAt v s → AllAt v (effect n i s)
 at-step n v (entry (Create k h w)) s sound keeps a = record {
   storage = a.storage;
   all = each-put (λ e. e.at ≡ v) (record { key = k; h = h; number = n; at = s.flags.storage; born = n; weight = w }) s.objects a.storage a.all;
@@ -59,13 +59,13 @@ at-step n v (note (Claim c)) s sound keeps a = record { storage = a.storage; all
 at-step n v (note (RangeDone c)) s sound keeps a = record { storage = a.storage; all = a.all }
 at-step n v (note (GiveBack c)) s sound keeps a = record { storage = a.storage; all = a.all }
 
-pub at-from : (m : Meaning) (limits : Limits) (n v : ℕ) (s : State) (log : List Item) → legal_from m limits n s log → IsSound s → Each (KeepsStorage v) log → AllAt v s
+pub at-from : (m : Meaning) (limits : Limits) (n v : ℕ) (s : State) (log : List Item) → legal_from m limits n s log → IsSoundState s → Each (KeepsStorage v) log → AllAt v s
     → AllAt v (state_from n s log)
 at-from m limits n v s [] l sound keeps a = a
 at-from m limits n v s (i ∷ log) l sound keeps a =
     at-from m limits (number_after n i) v (effect n i s) log l.1 (sound-step m limits n i s l.0 sound) keeps.1 (at-step n v i s sound keeps.0 a)
 
-pub at-mark : (limits : Limits) (meaning : Meaning) (n : ℕ) (s : State) (log : List Item) (m : Migration) → legal_from meaning limits n s (entry MarkSucceeded ∷ log) → IsSound s
+pub at-mark : (limits : Limits) (meaning : Meaning) (n : ℕ) (s : State) (log : List Item) (m : Migration) → legal_from meaning limits n s (entry MarkSucceeded ∷ log) → IsSoundState s
     → running s.migrations ≡ Some m → Each (KeepsStorage m.target) log → Each (λ e. e.at ≡ m.target) (state_from n s (entry MarkSucceeded ∷ log)).objects
 at-mark limits meaning n s log m l sound is keeps =
     let g : MaySucceed s = l.0 in
@@ -155,7 +155,7 @@ away-touched r n v k (e ∷ es) first under rising is =
 abbrev one_if : Bool → ℕ
 one_if b = if b then 1 else 0
 
-away-touch : (n v : ℕ) (k : KeyView) (c : ℕ) (s : State) → MayTouch k c s → IsSound s → s.flags.storage ≡ v → 1 + away v (updated (moved n (target_of s)) k s.objects) ≤ away v s.objects
+away-touch : (n v : ℕ) (k : KeyView) (c : ℕ) (s : State) → MayTouch k c s → IsSoundState s → s.flags.storage ≡ v → 1 + away v (updated (moved n (target_of s)) k s.objects) ≤ away v s.objects
 away-touch n v k c s g sound at =
     let first : elsewhere g.claim.span s.flags.storage s.objects ≡ Some g.first =
     subst (λ (t : ℕ). elsewhere g.claim.span t s.objects ≡ Some g.first) (sound.plan g.claim.migration g.claim.runs).target g.is_first in
@@ -165,7 +165,7 @@ away-touch n v k c s g sound at =
     subst (λ (t : ℕ). 1 + away v (updated (moved n t) k s.objects) ≤ away v s.objects) (sym (touch_target s sound)) there
 
 -- a touch takes one object off those that stand elsewhere, and no item that keeps the storage version adds one
-away-step : (m : Meaning) (limits : Limits) (n v : ℕ) (i : Item) (s : State) → guard m limits s i → IsSound s → KeepsStorage v i → s.flags.storage ≡ v
+away-step : (m : Meaning) (limits : Limits) (n v : ℕ) (i : Item) (s : State) → guard m limits s i → IsSoundState s → KeepsStorage v i → s.flags.storage ≡ v
     → (one_if (is_touch i) + away v (effect n i s).objects ≤ away v s.objects) × ((effect n i s).flags.storage ≡ v)
 away-step m limits n v (entry (Create k h w)) s g sound keeps at =
     (omega (arith, away-put v (record { key = k; h = h; number = n; at = s.flags.storage; born = n; weight = w }) s.objects (eq-eqb s.flags.storage v at)), at)
@@ -312,7 +312,7 @@ at_most true true = omega arith
 at_most true false = omega arith
 at_most false b = omega arith
 
-few-from : (m : Meaning) (limits : Limits) (n v : ℕ) (name : List ℕ) (s : State) (log : List Item) (q : Migration) → legal_from m limits n s log → IsSound s → s.flags.storage ≡ v
+few-from : (m : Meaning) (limits : Limits) (n v : ℕ) (name : List ℕ) (s : State) (log : List Item) (q : Migration) → legal_from m limits n s log → IsSoundState s → s.flags.storage ≡ v
     → HasName name s.migrations → running s.migrations ≡ Some q → touches_of name n s log ≤ away v s.objects
 few-from m limits n v name s [] q l sound at has is = omega arith
 few-from m limits n v name s (i ∷ log) q l sound at has is =

@@ -2,7 +2,7 @@
 use Rattle.std.proofs.Common.{◌≡◌, ◌∙◌, ℕ, ◌<◌, ◌≤◌, List, Option, ap, sym, arith}
 use Rattle.std.specs.Prelude.{ℤ, length}
 use Rattle.kj_value.specs.Json.{Json}
-use Rattle.kj_value.specs.Sound.{IsSound}
+use Rattle.kj_value.specs.Sound.{IsSoundJson}
 use Rattle.kj_value.specs.Text.{text_of}
 use Rattle.kube_meta.specs.View.{ObjectView}
 use Rattle.kube_meta.specs.Document.{document}
@@ -16,14 +16,14 @@ unnumbered-itself : (m : Meaning) (v : ℕ) (x : ObjectView) → StandsAt m v x 
 unnumbered-itself m v x s =
     λ i. record x { meta = record x.meta { resource_version = sym s.no_number i; uid = sym s.no_uid i } }
 
-pub one_form : (m : Meaning) (v w : ℕ) (x y : ObjectView) → ((j k : Json) → IsSound j → IsSound k → text_of j ≡ text_of k → j ≡ k)
+pub one_form : (m : Meaning) (v w : ℕ) (x y : ObjectView) → ((j k : Json) → IsSoundJson j → IsSoundJson k → text_of j ≡ text_of k → j ≡ k)
     → StandsAt m v x → StandsAt m w y → stored_text x ≡ stored_text y → x ≡ y
 one_form m v w x y one_text s t e =
     let same : text_of (document x) ≡ text_of (document y) =
     ap (λ (z : ObjectView). text_of (document z)) (sym (unnumbered-itself m v x s)) ∙ e ∙ ap (λ (z : ObjectView). text_of (document z)) (unnumbered-itself m w y t) in
     document_one x y s.body t.body (one_text (document x) (document y) s.sound t.sound same)
 
-pub stored_one : (m : Meaning) (v : ℕ) (g h : ObjectView) (bytes : List ℕ) → ((j k : Json) → IsSound j → IsSound k → text_of j ≡ text_of k → j ≡ k)
+pub stored_one : (m : Meaning) (v : ℕ) (g h : ObjectView) (bytes : List ℕ) → ((j k : Json) → IsSoundJson j → IsSoundJson k → text_of j ≡ text_of k → j ≡ k)
     → Stand m → IsOneToOne m → IsStored m v g bytes → IsStored m v h bytes → g ≡ h
 stored_one m v g h bytes one_text stand one a b =
     let same = one_form m v v a.form b.form one_text (stand.pair v g a.form a.known a.whole a.pairs) (stand.pair v h b.form b.known b.whole b.pairs) (sym a.spelled ∙ b.spelled) in

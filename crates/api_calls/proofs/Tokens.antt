@@ -19,7 +19,7 @@ use Rattle.kube_meta.specs.Names.{dot, is_label_byte, is_label, is_namespace, is
 use Rattle.kube_meta.specs.declared.key.TheConstants.{NAMESPACE_BYTES, NAME_BYTES}
 use Rattle.api_calls.specs.declared.token.TokenFault.{TokenFault}
 use Rattle.api_calls.specs.declared.token.TokenFault.TheVariants.{BadToken, NoMemory}
-use Rattle.api_calls.specs.Token.{IsToken, token_line, token_text, Refuses, RefusesLine, space}
+use Rattle.api_calls.specs.Token.{IsToken, token_line, token_text, RefusesToken, RefusesLine, space}
 
 -- ---- where a line is cut
 
@@ -231,7 +231,7 @@ tokens_one r s k l t u e =
     one_line r s k l t u (one_encoded url_safe_no_pad _ _ refl (ascii-line r k t) (ascii-line s l u) e)
 
 -- what refuses a line refuses the text that the line is read of
-pub refuses_text : (e : TokenFault) (line s : List ℕ) → decode_of url_safe_no_pad s ≡ Ok line → RefusesLine e line → Refuses e s
+pub refuses_text : (e : TokenFault) (line s : List ℕ) → decode_of url_safe_no_pad s ≡ Ok line → RefusesLine e line → RefusesToken e s
 unfolding token_text
 refuses_text BadToken line s d h = λ r k t same. h r k t (one_read url_safe_no_pad s (token_line r k) line refl (ascii-line r k t) same d)
 refuses_text NoMemory line s d h = tt

@@ -3,7 +3,7 @@ use Rattle.std.specs.Prelude.{◌≡◌, ◌≢◌, ◌⊎◌, ℕ, true, false,
 use Rattle.kj_value.specs.Json.{Json, null, boolean, whole, text, list, object, Members, no_members, member, members_of}
 use Rattle.kj_value.specs.Fields.{Pairs, field}
 use Rattle.kj_value.specs.Reading.{Reads}
-use Rattle.kj_value.specs.Fault.{IsRefused}
+use Rattle.kj_value.specs.Fault.{IsRefusedJson}
 use Rattle.kj_value.specs.declared.reading.JsonFault.TheVariants.{NotJson, TooDeep, NotWhole}
 use Rattle.kj_value.specs.declared.rule.Rule.TheVariants.{Name, Wrong}
 use Rattle.kube_meta.specs.Names.{is_name}
@@ -25,9 +25,9 @@ pub record IsOfKind (asked asked_kind : List ℕ) (fields : Pairs) : Type 0 wher
 
 -- the first reason for which the body is no document of this apiVersion and kind
 abbrev pub IsNoDocument : List ℕ → List ℕ → List ℕ → WhyView → Type 0
-IsNoDocument version kind body not_json = IsRefused body OBJECT_LEVELS NotJson
-IsNoDocument version kind body too_deep = IsRefused body OBJECT_LEVELS TooDeep
-IsNoDocument version kind body not_whole = IsRefused body OBJECT_LEVELS NotWhole
+IsNoDocument version kind body not_json = IsRefusedJson body OBJECT_LEVELS NotJson
+IsNoDocument version kind body too_deep = IsRefusedJson body OBJECT_LEVELS TooDeep
+IsNoDocument version kind body not_whole = IsRefusedJson body OBJECT_LEVELS NotWhole
 IsNoDocument version kind body not_object =
     (j : Json) × Reads body OBJECT_LEVELS j × ((fields : Pairs) → j ≢ object (members_of fields))
 IsNoDocument version kind body wrong_version =

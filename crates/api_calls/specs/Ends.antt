@@ -83,11 +83,11 @@ pub data EndCause : Type 1 where
   free : Type 0 → EndCause
 
 -- a turn at a list ended with this answer, and something stands for the list afterwards
-abbrev pub Ends : {A : Type 0} → EndCause → (List Item → Type 0) → List Item → Decision A → A → Type 0
-Ends bound stands log d a = (a ≡ d.answer) × stands (grown log d.item)
-Ends (free why) stands log d a = why × stands log
+abbrev pub EndsAsDecided : {A : Type 0} → EndCause → (List Item → Type 0) → List Item → Decision A → A → Type 0
+EndsAsDecided bound stands log d a = (a ≡ d.answer) × stands (grown log d.item)
+EndsAsDecided (free why) stands log d a = why × stands log
 
 -- the same where the answer and the item are any that D allows
-abbrev pub Answers : {A : Type 0} → EndCause → (List Item → Type 0) → List Item → (A → Option Item → Type 0) → A → Type 0
-Answers bound stands log D a = (i : Option Item) × D a i × stands (grown log i)
-Answers (free why) stands log D a = why × stands log
+abbrev pub EndsAsAllowed : {A : Type 0} → EndCause → (List Item → Type 0) → List Item → (A → Option Item → Type 0) → A → Type 0
+EndsAsAllowed bound stands log D a = (i : Option Item) × D a i × stands (grown log i)
+EndsAsAllowed (free why) stands log D a = why × stands log

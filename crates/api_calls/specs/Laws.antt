@@ -26,7 +26,7 @@ pub record KeepsPlan (m : Migration) (s : State) : Type 0 where
   pub target : m.target ≡ s.flags.storage
   pub done : Each (λ e. covered s.plan e.key ≡ true → e.at ≡ m.target) s.objects
 
-pub record IsSound (s : State) : Type 0 where
+pub record IsSoundState (s : State) : Type 0 where
   pub rising : IsRising s.objects
   pub one : AtMostOneRuns s.migrations
   -- the storage version and every object's are in the stored list

@@ -6,7 +6,7 @@ use Rattle.std.proofs.lemmas.Bool.Decides.{nat_tests}
 use Rattle.serde_json.specs.Data as serde
 use Rattle.kj_value.specs.Json.{Json}
 use Rattle.kj_value.specs.Reading.{Reads, IsReading, json_of}
-use Rattle.kj_value.specs.Fault.{IsRefused}
+use Rattle.kj_value.specs.Fault.{IsRefusedJson}
 use Rattle.kj_value.specs.declared.reading.JsonFault.TheVariants.{NotJson, TooDeep, NotWhole}
 use Rattle.api_calls.specs.Cause as why
 use Rattle.api_calls.specs.Meaning.{Fault, bad_request}
@@ -19,9 +19,9 @@ pub data Finding : Type 0 where
 
 -- that is found of the bytes, at so many levels
 abbrev pub Finds : List ℕ → ℕ → Finding → Type 0
-Finds body levels not_json = IsRefused body levels NotJson
-Finds body levels too_deep = IsRefused body levels TooDeep
-Finds body levels not_whole = IsRefused body levels NotWhole
+Finds body levels not_json = IsRefusedJson body levels NotJson
+Finds body levels too_deep = IsRefusedJson body levels TooDeep
+Finds body levels not_whole = IsRefusedJson body levels NotWhole
 Finds body levels (value j) = Reads body levels j
 
 -- the fault that follows of what is found; of a value, one that P tells

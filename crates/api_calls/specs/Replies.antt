@@ -58,14 +58,14 @@ code_created = 201
 abbrev pub IsShown : Meaning → ℕ → ℕ → ObjectView → ℕ → ℕ → List ℕ → Type 0
 IsShown m boot v h number born text = (x : ObjectView) × (IsTrue m.honest → m.pair v h x) × (text ≡ reply_text boot number born x)
 
-abbrev pub Shows : Meaning → ℕ → ℕ → ℕ → ObjectView → ℕ → ℕ → Answer → Type 0
-Shows m boot code v h number born (Ok r) = (r.code ≡ code) × IsShown m boot v h number born r.text
-Shows m boot code v h number born (Err e) = ⊥
+abbrev pub ShowsObject : Meaning → ℕ → ℕ → ℕ → ObjectView → ℕ → ℕ → Answer → Type 0
+ShowsObject m boot code v h number born (Ok r) = (r.code ≡ code) × IsShown m boot v h number born r.text
+ShowsObject m boot code v h number born (Err e) = ⊥
 
 abbrev pub GetReply : Meaning → ℕ → State → ℕ → KeyView → Answer → Option Item → Type 0
 GetReply m boot s v k a i =
     (i ≡ None) × MatchBool (served s.flags v)
-    (MatchOption (find k s.objects) (a ≡ Err (refusal.not_found k.name)) (λ e. Shows m boot code_ok v e.h e.number e.born a))
+    (MatchOption (find k s.objects) (a ≡ Err (refusal.not_found k.name)) (λ e. ShowsObject m boot code_ok v e.h e.number e.born a))
     (a ≡ Err refusal.no_resource)
 
 -- the stored text of the object's form at the version at which it stands
@@ -129,9 +129,9 @@ finalizer_added m name = refusal.invalid (object_subject m name) (record { field
 
 -- the answer to a write of the object of a name that ended so; where it shows a value, it is h at v, and the code of what was entered is this
 abbrev pub Wrote : Meaning → ℕ → ℕ → ℕ → List ℕ → ObjectView → WriteEnd → Answer → Type 0
-Wrote m boot code v name h (done number born) a = Shows m boot code v h number born a
-Wrote m boot code v name h (kept number born) a = Shows m boot code_ok v h number born a
-Wrote m boot code v name h (same number born) a = Shows m boot code_ok v h number born a
+Wrote m boot code v name h (done number born) a = ShowsObject m boot code v h number born a
+Wrote m boot code v name h (kept number born) a = ShowsObject m boot code_ok v h number born a
+Wrote m boot code v name h (same number born) a = ShowsObject m boot code_ok v h number born a
 Wrote m boot code v name h unserved a = a ≡ Err refusal.no_resource
 Wrote m boot code v name h present a = a ≡ Err (refusal.already_exists name)
 Wrote m boot code v name h gone a = a ≡ Err (refusal.not_found name)
@@ -141,8 +141,8 @@ Wrote m boot code v name h (full room) a = a ≡ Err (refusal.full room)
 Wrote m boot code v name h (storage_moved now) a = ⊥
 
 -- a request is refused by itself
-abbrev pub IsRefused : Meaning → Request → Answer → Option Item → Type 0
-IsRefused m r a i = (f : Fault) × m.refuses r f × (a ≡ Err (fault_refusal m f)) × (i ≡ None)
+abbrev pub IsRefusedRequest : Meaning → Request → Answer → Option Item → Type 0
+IsRefusedRequest m r a i = (f : Fault) × m.refuses r f × (a ≡ Err (fault_refusal m f)) × (i ≡ None)
 
 -- the weight that goes with a value
 abbrev pub WeighsIt : Meaning → ObjectView → ℕ → Type 0
@@ -156,7 +156,7 @@ Creates m limits boot n s v h w a i =
 abbrev pub CreateReply : Meaning → Limits → ℕ → ℕ → State → Request → List ℕ → Answer → Option Item → Type 0
 CreateReply m limits boot n s r stamp a i =
     MatchBool (served s.flags r.version)
-    (IsRefused m r a i
+    (IsRefusedRequest m r a i
     ⊎ ((new : ObjectView) × (e : Option ℕ) × (w : ℕ) × m.admits r new e × WeighsIt m new w
     × Creates m limits boot n s r.version (created_value stamp new) w a i))
     ((a ≡ Err refusal.no_resource) × (i ≡ None))
@@ -165,7 +165,7 @@ CreateReply m limits boot n s r stamp a i =
 abbrev pub ReplaceReply : Meaning → Limits → ℕ → ℕ → State → Request → KeyView → Answer → Option Item → Type 0
 ReplaceReply m limits boot n s r k a i =
     MatchBool (served s.flags r.version)
-    (IsRefused m r a i
+    (IsRefusedRequest m r a i
     ⊎ ((new : ObjectView) × (over : ℕ) × (w : ℕ) × (h : ObjectView) × (d : Decision WriteEnd)
     × m.admits r new (Some over) × WeighsIt m new w
     × ReplaceDecision m limits n s r.version k over new w h d × Wrote m boot code_ok r.version k.name h d.answer a × (i ≡ d.item)))

@@ -17,7 +17,7 @@ use Rattle.api_calls.specs.Legal.{key_of}
 use Rattle.api_calls.specs.Values.{IsUpdate, created_value, has_finalizer, is_marked, is_forbidden, is_release}
 use Rattle.api_calls.specs.Ends.{WriteEnd, done, kept, same, unserved, present, gone, newer, storage_moved, TurnEnd, prepare, touched, missed, Decision, says, enters}
 use Rattle.api_calls.specs.Writes.{with_room, if_storage, at_number, create_commit, create_decision, replace_commit, release_commit, delete_commit, mark_commit, replaced, removed, Takes, Replaces, ReplaceDecision, DeleteDecision}
-use Rattle.api_calls.specs.Replies.{Answer, Shows, Wrote, Deleted, Deletes, IsRefused, WeighsIt, Creates, CreateReply, ReplaceReply, DeleteReply, kept_value, code_ok, code_created}
+use Rattle.api_calls.specs.Replies.{Answer, ShowsObject, Wrote, Deleted, Deletes, IsRefusedRequest, WeighsIt, Creates, CreateReply, ReplaceReply, DeleteReply, kept_value, code_ok, code_created}
 use Rattle.api_calls.specs.Bodies.{IsServedDelete}
 use Rattle.api_calls.specs.Cause.{bad_options}
 use Rattle.api_calls.specs.Work.{Turn, Work, work_of, first_turn, whole_turn, prepare_turn, work_turn, ready_turn, is_ready, turn_decision, touch_decision, work_decision}
@@ -77,7 +77,7 @@ pub create-reply : (m : Meaning) (limits : Limits) (boot n : ℕ) (s : State) (r
     → CreateReply m limits boot n s r stamp a (create_commit limits n s r.version at (key_of (created_value stamp new)) (created_value stamp new) w).item
 create-reply m limits boot n s r stamp new e w at a admits weighs final wrote =
     from_served m boot code_created r.version h.meta.name h (served s.flags r.version) commit a
-    (λ b i. IsRefused m r b i
+    (λ b i. IsRefusedRequest m r b i
     ⊎ ((x : ObjectView) × (f : Option ℕ) × (y : ℕ) × m.admits r x f × WeighsIt m x y × Creates m limits boot n s r.version (created_value stamp x) y b i))
     (λ is wrote.
     let one : create_decision limits n s r.version (key_of h) h w ≡ commit = may r.version s (created limits n s s.flags.storage (key_of h) h w) is ∙ sym (same is) in
@@ -138,7 +138,7 @@ pub replaced-reply : (m : Meaning) (limits : Limits) (boot n : ℕ) (s : State) 
     → ReplaceReply m limits boot n s r k a (if not (served s.flags r.version) then says unserved else at_number over (find k s.objects) inner).item
 replaced-reply m limits boot n s r k over new w h old equal inner a admits weighs update equals known wrote =
     from_served m boot code_ok r.version k.name h (served s.flags r.version) (at_number over (find k s.objects) inner) a
-    (λ b i. IsRefused m r b i
+    (λ b i. IsRefusedRequest m r b i
     ⊎ ((x : ObjectView) × (number : ℕ) × (y : ℕ) × (g : ObjectView) × (d : Decision WriteEnd)
     × m.admits r x (Some number) × WeighsIt m x y
     × ReplaceDecision m limits n s r.version k number x y g d × Wrote m boot code_ok r.version k.name g d.answer b × (i ≡ d.item)))
@@ -233,7 +233,7 @@ pub same-reply : (m : Meaning) (limits : Limits) (boot n : ℕ) (s : State) (r :
     (a : Answer)
     → m.admits r new (Some over) → WeighsIt m new w → IsUpdate old new h → (IsTrue equal ↔ (h ≡ old)) → is_forbidden old h ≡ false → is_release old h ≡ false
     → served s.flags r.version ≡ true → find k s.objects ≡ Some e → e.number ≡ over → Takes m e.h old → (equal && nat_eq e.at s.flags.storage) ≡ true
-    → Shows m boot code_ok r.version h e.number e.born a
+    → ShowsObject m boot code_ok r.version h e.number e.born a
     → ReplaceReply m limits boot n s r k a None
 same-reply m limits boot n s r k over new w h old equal e a admits weighs update equals allowed stays is there is_over takes stands shows =
     subst (λ (d : Decision WriteEnd). ReplaceReply m limits boot n s r k a d.item) one

@@ -19,7 +19,7 @@ use Rattle.api_calls.specs.Objects.{Stored}
 use Rattle.api_calls.specs.State.{State, has, joined}
 use Rattle.api_calls.specs.Room.{lacking_migrations}
 use Rattle.api_calls.specs.Legal.{Each, In, IsPart, guard}
-use Rattle.api_calls.specs.Laws.{IsSound}
+use Rattle.api_calls.specs.Laws.{IsSoundState}
 use Rattle.api_calls.specs.Ends.{set, unchanged, trimmed, untrimmed, taken, says, enters}
 use Rattle.api_calls.specs.Settings.{same_flags, set_decision, first_unknown, first_at, hold_of, held_or, first_held, trim_free, trim_known, trim_decision, start_room, start_idle, start_decision}
 
@@ -119,7 +119,7 @@ some_at e (f ∷ es) i none = by (nat_eq f.at e.at) refl i none (some_at e es)
     by false is (inl same) none more = let at : nat_eq f.at e.at ≡ true = eq-eqb f.at e.at (ap (λ (g : Stored). g.at) (sym same)) in absurd cc
     by false is (inr later) none more = more later none
 
-pub trim-guard : (m : Meaning) (limits : Limits) (s : State) (keep : List ℕ) (i : Item) → IsSound s → (trim_decision s keep).item ≡ Some i → guard m limits s i
+pub trim-guard : (m : Meaning) (limits : Limits) (s : State) (keep : List ℕ) (i : Item) → IsSoundState s → (trim_decision s keep).item ≡ Some i → guard m limits s i
 trim-guard m limits s keep i sound is = known (first_unknown s.stored keep) is
   where
     kept_storage : first_held keep s s.stored ≡ None → has keep s.flags.storage ≡ true

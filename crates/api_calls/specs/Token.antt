@@ -22,9 +22,9 @@ unfoldable pub token_text : ℕ → KeyView → List ℕ
 token_text r k = encode_of url_safe_no_pad (token_line r k)
 
 -- a bad token is a text that no token has; want of memory tells nothing
-abbrev pub Refuses : TokenFault → List ℕ → Type 0
-Refuses BadToken s = (r : ℕ) (k : KeyView) → IsToken r k → ¬ (token_text r k ≡ s)
-Refuses NoMemory s = Unit {0}
+abbrev pub RefusesToken : TokenFault → List ℕ → Type 0
+RefusesToken BadToken s = (r : ℕ) (k : KeyView) → IsToken r k → ¬ (token_text r k ≡ s)
+RefusesToken NoMemory s = Unit {0}
 
 -- ---- for private clauses
 

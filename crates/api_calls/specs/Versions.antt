@@ -4,9 +4,9 @@ use Rattle.std.specs.Int.{w64}
 use Rattle.std.specs.Str.{IsAscii}
 use Rattle.std.specs.List.{IsDistinct}
 use Rattle.kj_value.specs.Json.{Json, depth, object, members_of}
-use Rattle.kj_value.specs.Sound.{IsSound}
+use Rattle.kj_value.specs.Sound.{IsSoundJson}
 use Rattle.kj_value.specs.Reading.{Reads}
-use Rattle.kj_value.specs.Fault.{IsRefused}
+use Rattle.kj_value.specs.Fault.{IsRefusedJson}
 use Rattle.kj_value.specs.declared.reading.JsonFault.TheVariants.{NotJson, TooDeep, NotWhole}
 use Rattle.kj_value.specs.Text.{escaped_byte}
 use Rattle.kj_value.specs.Fields.{Pairs, field}
@@ -75,7 +75,7 @@ pub record StandsAt (m : Meaning) (v : ℕ) (x : ObjectView) : Type 0 where
   pub no_uid : x.meta.uid ≡ None
   pub stamps : AreStamps x.meta.created x.meta.deleted x.meta.generation
   pub body : IsBody x.body
-  pub sound : IsSound (document x)
+  pub sound : IsSoundJson (document x)
   pub levels : depth (document x) ≤ OBJECT_LEVELS
 
 -- the bytes are the stored text, at a known version, of a whole hub value
@@ -156,9 +156,9 @@ pub record Decides (m : Meaning) : Type 0 where
 
 -- a request whose body is no object is refused for that
 pub record RefusesUnread (m : Meaning) : Type 0 where
-  pub not_json : (r : Request) → IsRefused r.bytes OBJECT_LEVELS NotJson → m.refuses r (bad_request not_json)
-  pub too_deep : (r : Request) → IsRefused r.bytes OBJECT_LEVELS TooDeep → m.refuses r (bad_request too_deep)
-  pub not_whole : (r : Request) → IsRefused r.bytes OBJECT_LEVELS NotWhole → m.refuses r (bad_request not_whole)
+  pub not_json : (r : Request) → IsRefusedJson r.bytes OBJECT_LEVELS NotJson → m.refuses r (bad_request not_json)
+  pub too_deep : (r : Request) → IsRefusedJson r.bytes OBJECT_LEVELS TooDeep → m.refuses r (bad_request too_deep)
+  pub not_whole : (r : Request) → IsRefusedJson r.bytes OBJECT_LEVELS NotWhole → m.refuses r (bad_request not_whole)
   pub not_object : (r : Request) (j : Json) → Reads r.bytes OBJECT_LEVELS j → ((fields : Pairs) → j ≢ object (members_of fields))
       → m.refuses r (bad_request not_object)
 

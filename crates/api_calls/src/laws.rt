@@ -12,7 +12,7 @@ ghost use Rattle.api_calls.specs.Objects.{Stored, find};
 ghost use Rattle.api_calls.specs.State.{entry_effect, next_number, revision, state};
 ghost use Rattle.api_calls.specs.Legal.{Each, MaySucceed, legal};
 ghost use Rattle.api_calls.specs.Snap.{Supersedes, by_number, floor, past_weight, snap, superseded, window};
-ghost use Rattle.api_calls.specs.Laws.{AreCounted, Holds, IsSound, KeepsStorage, Leaves, MarkedAreHeld, Writes, away, touches_of};
+ghost use Rattle.api_calls.specs.Laws.{AreCounted, Holds, IsSoundState, KeepsStorage, Leaves, MarkedAreHeld, Writes, away, touches_of};
 ghost use Rattle.api_calls.specs.Bodies.{RefusesStart, Starts};
 
 use kj_value::one_reading;
@@ -55,7 +55,7 @@ pub fn few_touches<V: Means>()
 /// At most one migration runs, its target is the storage version, every object stands at a version of the stored
 /// list, and each object that the plan has passed stands at the target.
 pub fn sound<V: Means>()
-    ensures { (it : V) (limits : Limits) (log : List Item) → legal (V.meaning it) limits log → IsSound (state (V.meaning it) log) }
+    ensures { (it : V) (limits : Limits) (log : List Item) → legal (V.meaning it) limits log → IsSoundState (state (V.meaning it) log) }
 {}
 
 /// Where every key was handed out and no claim is left, the running migration may be marked.

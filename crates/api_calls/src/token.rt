@@ -4,7 +4,7 @@ ghost use Rattle.std.specs.Str.{IsAscii};
 ghost use Rattle.base64.specs.Engines.{url_safe_no_pad};
 ghost use Rattle.base64.specs.GeneralPurpose.{encode_of, decode_of};
 ghost use Rattle.kube_meta.specs.Key.{KeyView};
-ghost use Rattle.api_calls.specs.Token.{IsToken, token_line, token_text, Refuses, RefusesLine, space};
+ghost use Rattle.api_calls.specs.Token.{IsToken, token_line, token_text, RefusesToken, RefusesLine, space};
 
 use base64::DecodeAllocError;
 use base64::engine::general_purpose::URL_SAFE_NO_PAD;
@@ -53,7 +53,7 @@ pub fn write_token(alloc: Global, t: &Token) -> Result<Txt, NoMemory>
 /// for namespaces and names.
 pub fn read_token(alloc: Global, text: &str) -> Result<Token, TokenFault>
     ensures ok { IfOk result (λ t. IsToken t.rv t.key × (token_text t.rv t.key ≡ text.now)) }
-    ensures err { IfErr result (λ e. Refuses e text.now) }
+    ensures err { IfErr result (λ e. RefusesToken e text.now) }
 {
     let line = decoded(alloc, text)?;
     match read_line(alloc, line.as_str()) {
@@ -85,7 +85,7 @@ fn token_line(alloc: Global, t: &Token) -> Result<Txt, NoMemory>
 fn decoded(alloc: Global, text: &str) -> Result<Txt, TokenFault>
     ensures spelled { IfOk result (λ line. encode_of url_safe_no_pad line.bytes ≡ text.now) }
     ensures read { IfOk result (λ line. decode_of url_safe_no_pad text.now ≡ Ok line.bytes) }
-    ensures err { IfErr result (λ e. Refuses e text.now) }
+    ensures err { IfErr result (λ e. RefusesToken e text.now) }
 {
     match URL_SAFE_NO_PAD.decode(alloc, text.as_bytes()) {
         Ok(bytes) => match Txt::of_bytes(bytes) {

@@ -16,12 +16,12 @@ use Rattle.api_calls.specs.Legal.{legal}
 use Rattle.api_calls.specs.Snap.{Past, floor, page_at, window}
 use Rattle.api_calls.specs.Pages.{Place, PageEnd, shown, unserved, ahead, expired, place_page, page_decision}
 use Rattle.page_laws.specs.Keeping.{ArePagesOfOne, IsSame, IsSamePast}
-use Rattle.page_laws.specs.Keeping.{Keeps as KeepsHistory}
+use Rattle.page_laws.specs.Keeping.{KeepsHistory}
 use Rattle.turn_state.specs.declared.pages.Page.{Page}
 use Rattle.turn_state.specs.View.{CoreView}
-use Rattle.turn_state.specs.Keeps.{IsText, Keeps, KeepsPast}
+use Rattle.turn_state.specs.Keeps.{IsText, KeepsObject, KeepsPast}
 use Rattle.turn_state.specs.Stands.{Stands}
-use Rattle.turn_state.specs.Pages.{IsPageOf, KeepsPage, Shows}
+use Rattle.turn_state.specs.Pages.{IsPageOf, KeepsPage, ShowsPage}
 use Rattle.api_core.specs.View.{CoreOf, StandsFor}
 
 not_below : (a b : ℕ) → b ≤ a → nat_lt a b ≡ false
@@ -38,10 +38,10 @@ module _ (m : Meaning) where
   abbrev pub text_of : Stored → List ℕ → Type 0
   text_of e bytes = IsText m e.at e.h bytes
 
-  same : (x : RecordItem) (e : Stored) → Keeps m x e → IsSame text_of x e
+  same : (x : RecordItem) (e : Stored) → KeepsObject m x e → IsSame text_of x e
   same x e k = record { key = k.key; number = k.number; version = k.at; birth = k.born; weight = k.weight; bytes = k.text }
 
-  kept : (x : RecordItem) (e : Stored) → IsSame text_of x e → Keeps m x e
+  kept : (x : RecordItem) (e : Stored) → IsSame text_of x e → KeepsObject m x e
   kept x e s = record { key = s.key; number = s.number; at = s.version; born = s.birth; weight = s.weight; text = s.bytes }
 
   same_past : (o : Old) (p : Past) → KeepsPast m o p → IsSamePast text_of o p
@@ -49,7 +49,7 @@ module _ (m : Meaning) where
 
   keeps_history : (c : CoreView) (log : List Item) → Stands m c log → KeepsHistory text_of c.limits m log c.store
   keeps_history c log st = record {
-    records = pairs-map (Keeps m) (IsSame text_of) same c.store.items (state m log).objects st.present.records;
+    records = pairs-map (KeepsObject m) (IsSame text_of) same c.store.items (state m log).objects st.present.records;
     pasts = pairs-map (KeepsPast m) (IsSamePast text_of) same_past c.store.window (window c.limits m log) st.past.window;
     known = st.past.floor;
   }
@@ -57,7 +57,7 @@ module _ (m : Meaning) where
   keeps_page : (p : Page) (q : PageOf RecordItem) (e : PageOf Stored) → IsPageOf p q → ArePagesOfOne text_of q e → KeepsPage m p e
   keeps_page p q e is one = record {
     number = is.number ∙ one.snapshot;
-    records = subst (λ (xs : List RecordItem). AllPair (Keeps m) xs e.items) (sym is.items) (pairs-map (IsSame text_of) (Keeps m) kept q.items e.items one.records);
+    records = subst (λ (xs : List RecordItem). AllPair (KeepsObject m) xs e.items) (sym is.items) (pairs-map (IsSame text_of) (KeepsObject m) kept q.items e.items one.records);
     remaining = is.remaining ∙ one.behind;
   }
 
@@ -110,15 +110,15 @@ module _ {V : Type 0} (meaning : V → Meaning) where
 
   pub page-present : PagesAreOne meaning → (c : CoreOf V) (log : List Item) → StandsFor meaning c log → (v : ℕ) (ns : Option (List ℕ)) (r limit : ℕ) (p : Page)
       → served c.view.flags v ≡ true → r ≡ c.view.revision → c.view.store.floor ≤ r → IsPageOf p (records_at c ns None r limit)
-      → Shows (meaning c.versions) p (decided c log v ns limit None)
+      → ShowsPage (meaning c.versions) p (decided c log v ns limit None)
   page-present law c log st v ns r limit p may now le is =
-      subst (Shows (meaning c.versions) p) (sym (place-decided c log st v ns limit None may))
+      subst (ShowsPage (meaning c.versions) p) (sym (place-decided c log st v ns limit None may))
       (subst (λ (n : ℕ). KeepsPage (meaning c.versions) p (page_at (meaning c.versions) log ns None n limit)) (now ∙ st.revision)
       (page-kept law c log st ns None r limit p le is))
 
   pub page-past : PagesAreOne meaning → (c : CoreOf V) (log : List Item) → StandsFor meaning c log → (v : ℕ) (ns : Option (List ℕ)) (limit : ℕ) (k : Place) (p : Page)
       → served c.view.flags v ≡ true → k.number ≤ c.view.revision → c.view.store.floor ≤ k.number → IsPageOf p (records_at c ns (Some k.key) k.number limit)
-      → Shows (meaning c.versions) p (decided c log v ns limit (Some k))
+      → ShowsPage (meaning c.versions) p (decided c log v ns limit (Some k))
   page-past law c log st v ns limit k p may not_ahead known is =
-      subst (Shows (meaning c.versions) p) (sym (place-decided c log st v ns limit (Some k) may ∙ place-known c log st ns limit k not_ahead known))
+      subst (ShowsPage (meaning c.versions) p) (sym (place-decided c log st v ns limit (Some k) may ∙ place-known c log st ns limit k not_ahead known))
       (page-kept law c log st ns (Some k.key) k.number limit p known is)

@@ -17,9 +17,9 @@ use Rattle.api_calls.specs.Versions.{AreFlags, AreVersions, versions_of}
 use Rattle.api_calls.specs.Item.{Item}
 use Rattle.api_calls.specs.State.{has, joined, next_number, state}
 use Rattle.api_calls.specs.Legal.{legal}
-use Rattle.api_calls.specs.Laws.{IsSound}
+use Rattle.api_calls.specs.Laws.{IsSoundState}
 use Rattle.api_calls.specs.Ends as ends
-use Rattle.api_calls.specs.Ends.{Ends, bound}
+use Rattle.api_calls.specs.Ends.{EndsAsDecided, bound}
 use Rattle.api_calls.specs.Settings.{same_flags, set_decision, first_unknown, trim_decision, start_decision}
 use Rattle.turn_state.specs.Sets.{Decided, start-decided}
 use Rattle.turn_state.specs.Steps.{migrations-stand}
@@ -45,7 +45,7 @@ shown versions limits boot flags stored revision store migrations = record {
 
 -- every legal list has a sound state
 abbrev pub AreSound : {V : Type 0} → (V → Meaning) → Type 0
-AreSound {V} meaning = (it : CoreOf V) (limits : Limits) (log : List Item) → legal (meaning it.versions) limits log → IsSound (state (meaning it.versions) log)
+AreSound {V} meaning = (it : CoreOf V) (limits : Limits) (log : List Item) → legal (meaning it.versions) limits log → IsSoundState (state (meaning it.versions) log)
 
 -- ---- flags and stored list are of known versions
 
@@ -95,9 +95,9 @@ module _ {V : Type 0} (meaning : V → Meaning) where
   pub set-turn_done : (now x : CoreOf V) (f : Flags) (ss : List ℕ) → AreSound meaning → AreFlags (meaning now.versions).count f → same_flags f now.view.flags ≡ false
       → x ≡ left_storage now f.storage → ss ≡ joined x.view.stored f.storage
       → (log : List Item) → StandsFor meaning now log
-      → Ends bound (StandsFor meaning (after_set x f ss)) log (set_decision (state (meaning now.versions) log) f) (ends.set ss)
+      → EndsAsDecided bound (StandsFor meaning (after_set x f ss)) log (set_decision (state (meaning now.versions) log) f) (ends.set ss)
   set-turn_done now x f ss sound flags other is ss_is log st =
-      subst (λ (y : CoreOf V). Ends bound (StandsFor meaning (after_set y f ss)) log (set_decision (state (meaning now.versions) log) f) (ends.set ss)) (sym is)
+      subst (λ (y : CoreOf V). EndsAsDecided bound (StandsFor meaning (after_set y f ss)) log (set_decision (state (meaning now.versions) log) f) (ends.set ss)) (sym is)
       (set-entered (meaning now.versions) now.view log st f (now.view.revision + 1) ss (left_storage now f.storage).view.migrations
       (sound now now.view.limits log st.legal) flags other refl (ss_is ∙ ap (λ (y : CoreOf V). joined y.view.stored f.storage) is) refl)
 
@@ -112,17 +112,17 @@ module _ {V : Type 0} (meaning : V → Meaning) where
       held ∙ ap (held_at now) us_is ∙ ap (λ (y : CoreOf V). held_at y (unkept keep x.view.stored)) (sym is)
 
   pub trim-turn_held : (now x : CoreOf V) (keep us : List ℕ) (v : ℕ) (k : Option KeyView) → x ≡ now → None ≡ first_unknown x.view.stored keep → us ≡ unkept keep x.view.stored → Some (v, k) ≡ held_at now us
-      → (log : List Item) → StandsFor meaning now log → Ends bound (StandsFor meaning now) log (trim_decision (state (meaning now.versions) log) keep) (ends.still_stored v k)
+      → (log : List Item) → StandsFor meaning now log → EndsAsDecided bound (StandsFor meaning now) log (trim_decision (state (meaning now.versions) log) keep) (ends.still_stored v k)
   trim-turn_held now x keep us v k is none us_is held =
-      subst (λ (y : CoreOf V). (log : List Item) → StandsFor meaning y log → Ends bound (StandsFor meaning y) log (trim_decision (state (meaning y.versions) log) keep) (ends.still_stored v k)) is
+      subst (λ (y : CoreOf V). (log : List Item) → StandsFor meaning y log → EndsAsDecided bound (StandsFor meaning y) log (trim_decision (state (meaning y.versions) log) keep) (ends.still_stored v k)) is
       (λ log st. trim-held_end (meaning x.versions) x.view log st keep v k (sym none) (held_by now x keep us (Some (v, k)) is us_is held))
 
   pub trim-turn_same : (now x : CoreOf V) (keep us : List ℕ) (len : ℕ) → x ≡ now → None ≡ first_unknown x.view.stored keep → us ≡ unkept keep x.view.stored → None ≡ held_at now us
       → len ≡ length (unkept keep x.view.stored) → len ≡ 0
       → (log : List Item) → StandsFor meaning now log
-      → Ends bound (StandsFor meaning now) log (trim_decision (state (meaning now.versions) log) keep) (ends.untrimmed x.view.flags x.view.stored)
+      → EndsAsDecided bound (StandsFor meaning now) log (trim_decision (state (meaning now.versions) log) keep) (ends.untrimmed x.view.flags x.view.stored)
   trim-turn_same now x keep us len is none us_is free counted all =
-      subst (λ (y : CoreOf V). (log : List Item) → StandsFor meaning y log → Ends bound (StandsFor meaning y) log (trim_decision (state (meaning y.versions) log) keep) (ends.untrimmed x.view.flags x.view.stored)) is
+      subst (λ (y : CoreOf V). (log : List Item) → StandsFor meaning y log → EndsAsDecided bound (StandsFor meaning y) log (trim_decision (state (meaning y.versions) log) keep) (ends.untrimmed x.view.flags x.view.stored)) is
       (λ log st. trim-unchanged (meaning x.versions) x.view log st keep (sym none) (held_by now x keep us None is us_is free) (let test = eq-eqb (length (unkept keep x.view.stored)) 0 (sym counted ∙ all) in test))
 
   abbrev pub after_trim : CoreOf V → List ℕ → CoreOf V
@@ -131,9 +131,9 @@ module _ {V : Type 0} (meaning : V → Meaning) where
   pub trim-turn_done : (now x : CoreOf V) (keep us ss : List ℕ) (len : ℕ) → AreSound meaning → x ≡ now → None ≡ first_unknown x.view.stored keep → us ≡ unkept keep x.view.stored → None ≡ held_at now us
       → len ≡ length (unkept keep x.view.stored) → len ≢ 0 → ss ≡ filter (has keep) x.view.stored
       → (log : List Item) → StandsFor meaning now log
-      → Ends bound (StandsFor meaning (after_trim x ss)) log (trim_decision (state (meaning now.versions) log) keep) (ends.trimmed x.view.flags ss)
+      → EndsAsDecided bound (StandsFor meaning (after_trim x ss)) log (trim_decision (state (meaning now.versions) log) keep) (ends.trimmed x.view.flags ss)
   trim-turn_done now x keep us ss len sound is none us_is free counted some ss_is =
-      subst (λ (y : CoreOf V). (log : List Item) → StandsFor meaning y log → Ends bound (StandsFor meaning (after_trim x ss)) log (trim_decision (state (meaning y.versions) log) keep) (ends.trimmed x.view.flags ss)) is
+      subst (λ (y : CoreOf V). (log : List Item) → StandsFor meaning y log → EndsAsDecided bound (StandsFor meaning (after_trim x ss)) log (trim_decision (state (meaning y.versions) log) keep) (ends.trimmed x.view.flags ss)) is
       (λ log st. trim-entered (meaning x.versions) x.view log st keep (x.view.revision + 1) ss (sound x x.view.limits log st.legal) (sym none) (held_by now x keep us None is us_is free) (not_none len (length (unkept keep x.view.stored)) counted some) refl ss_is)
 
   -- ---- the start of a migration
@@ -154,8 +154,8 @@ module _ {V : Type 0} (meaning : V → Meaning) where
   pub start-turn_done : (now x : CoreOf V) (name : List ℕ) (target : ℕ) (ms : MigrationsView) → x ≡ now
       → start.Done target ≡ moves.start_end name x.view.flags.storage x.view.migrations → ms ≡ moves.after_start (start.Done target) name x.view.migrations
       → (log : List Item) → StandsFor meaning now log
-      → Ends bound (StandsFor meaning (after_start x (x.view.revision + 1) ms)) log (start_decision now.view.limits (state (meaning now.versions) log) name) (ends.started target)
+      → EndsAsDecided bound (StandsFor meaning (after_start x (x.view.revision + 1) ms)) log (start_decision now.view.limits (state (meaning now.versions) log) name) (ends.started target)
   start-turn_done now x name target ms is end_is ms_is =
       subst (λ (y : CoreOf V). (log : List Item) → StandsFor meaning y log
-      → Ends bound (StandsFor meaning (after_start x (x.view.revision + 1) ms)) log (start_decision y.view.limits (state (meaning y.versions) log) name) (ends.started target)) is
+      → EndsAsDecided bound (StandsFor meaning (after_start x (x.view.revision + 1) ms)) log (start_decision y.view.limits (state (meaning y.versions) log) name) (ends.started target)) is
       (λ log st. start-entered (meaning x.versions) x.view log st name target (x.view.revision + 1) ms (decided x name (start.Done target) ms end_is ms_is log st) refl)

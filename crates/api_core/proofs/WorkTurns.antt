@@ -20,17 +20,17 @@ use Rattle.api_calls.specs.Item.{Item}
 use Rattle.api_calls.specs.State.{revision, state}
 use Rattle.api_calls.specs.Legal.{legal, MaySucceed}
 use Rattle.api_calls.specs.Ends as ends
-use Rattle.api_calls.specs.Ends.{Ends, bound}
+use Rattle.api_calls.specs.Ends.{EndsAsDecided, bound}
 use Rattle.api_calls.specs.Work.{turn_decision, touch_decision, give_back_decision, work_of}
 use Rattle.api_calls.specs.WorkGuards.{MayFinish}
 use Rattle.turn_state.specs.WorkRows.{rows_of, migrations_of, told, work_of-told}
 use Rattle.turn_state.specs.Works.{Advanced, advanced, claim-taken, mark-done, mark-none}
 use Rattle.turn_state.specs.Steps.{item_row, migrations-stand, rows-stand}
 use Rattle.turn_state.specs.declared.seen.Prepared.{Prepared}
-use Rattle.turn_state.specs.Prepared.{Prepares, KnownAt, FitsAt, record_for}
+use Rattle.turn_state.specs.Prepared.{PreparesValue, KnownAt, FitsAt, record_for}
 use Rattle.turn_state.specs.Ready.{is_ready_item, IsNext, next-advance}
 use Rattle.turn_state.specs.TouchSteps.{touch-missed_end, touch-done_end, touched-store, ready-in_work}
-use Rattle.turn_state.specs.Turned.{Turned}
+use Rattle.turn_state.specs.Turned.{WorkerTurned}
 use Rattle.turn_state.specs.WorkSteps.{turn-prepare, turn-done, turn-lost, turn-claimed, turn-finished, turn-idle, given-back}
 use Rattle.api_core.specs.View.{CoreOf, StandsFor}
 
@@ -62,7 +62,7 @@ module _ {V : Type 0} (meaning : V → Meaning) where
 
   -- a turn at the list of the core that was, from one at that of a core that is the same
   abbrev IsTurn : CoreOf V → (List Item → Type 0) → Option ℕ → ends.TurnEnd → Option ℕ → Type 0
-  IsTurn y stands claim end left = (log : List Item) → StandsFor meaning y log → Turned stands log (turn_decision (revision log + 1) (state (meaning y.versions) log) claim) end left
+  IsTurn y stands claim end left = (log : List Item) → StandsFor meaning y log → WorkerTurned stands log (turn_decision (revision log + 1) (state (meaning y.versions) log) claim) end left
 
   pub go-prepare : (now x : CoreOf V) (claim : Option ℕ) (k : KeyView) (rv : ℕ) (ms : MigrationsView) → x ≡ now → Advances x claim (advance.Prepare k rv) ms
       → IsTurn now (StandsFor meaning (with_migrations x ms)) claim (ends.prepare k rv) claim
@@ -82,7 +82,7 @@ module _ {V : Type 0} (meaning : V → Meaning) where
       subst (λ (y : CoreOf V). IsTurn y stands claim end left) is
       (λ log st.
       let lost = turn-lost (meaning x.versions) x.view log st claim ms (advances x claim advance.Lost ms h log st) in
-      subst (λ t. Turned stands log t end left) (sym lost.0) (begun log lost.1))
+      subst (λ t. WorkerTurned stands log t end left) (sym lost.0) (begun log lost.1))
 
   -- ---- without a claim
 
@@ -118,7 +118,7 @@ module _ {V : Type 0} (meaning : V → Meaning) where
       let stayed = not_claimed x ms left h in
       let same = migrations-stand (meaning x.versions) x.view log st in
       let same_after : ms ≡ migrations_of x.view.limits (state (meaning x.versions) log) = stayed.0 ∙ same in
-      subst (λ (o : Option ℕ). Turned (StandsFor meaning (marked_with x after)) log (turn_decision (revision log + 1) (state (meaning x.versions) log) None) (ends.finished (x.view.revision + 1)) o) (sym stayed.1)
+      subst (λ (o : Option ℕ). WorkerTurned (StandsFor meaning (marked_with x after)) log (turn_decision (revision log + 1) (state (meaning x.versions) log) None) (ends.finished (x.view.revision + 1)) o) (sym stayed.1)
       (turn-finished (meaning x.versions) x.view log st (x.view.revision + 1) after (finishes finished x log st) refl
       (mark-done x.view.limits (revision log + 1) (state (meaning x.versions) log) after
       (ap moves.takes_claim (sym same) ∙ sym h.was) (ap moves.may_succeed (sym same_after) ∙ sym may) (marked ∙ ap moves.after_mark same_after))))
@@ -132,7 +132,7 @@ module _ {V : Type 0} (meaning : V → Meaning) where
       let stayed = not_claimed x ms left h in
       let same = migrations-stand (meaning x.versions) x.view log st in
       let same_after : ms ≡ migrations_of x.view.limits (state (meaning x.versions) log) = stayed.0 ∙ same in
-      subst (λ (o : Option ℕ). Turned (StandsFor meaning (with_migrations x after)) log (turn_decision (revision log + 1) (state (meaning x.versions) log) None) ends.idle o) (sym stayed.1)
+      subst (λ (o : Option ℕ). WorkerTurned (StandsFor meaning (with_migrations x after)) log (turn_decision (revision log + 1) (state (meaning x.versions) log) None) ends.idle o) (sym stayed.1)
       (turn-idle (meaning x.versions) x.view log st after
       (mark-none x.view.limits (revision log + 1) (state (meaning x.versions) log) after
       (ap moves.takes_claim (sym same) ∙ sym h.was) (ap moves.may_succeed (sym same_after) ∙ sym may) (marked ∙ ap moves.after_mark same_after))))
@@ -142,9 +142,9 @@ module _ {V : Type 0} (meaning : V → Meaning) where
   pub give_back-turn : (now x : CoreOf V) (claim : Option ℕ) (was : Bool) (ms : MigrationsView) → x ≡ now
       → was ≡ is_some (moves.work_of claim x.view.migrations) → ms ≡ moves.after_give_back (moves.work_of claim x.view.migrations) x.view.migrations
       → (log : List Item) → StandsFor meaning now log
-      → Ends bound (StandsFor meaning (with_migrations x ms)) log (give_back_decision (state (meaning now.versions) log) claim) was
+      → EndsAsDecided bound (StandsFor meaning (with_migrations x ms)) log (give_back_decision (state (meaning now.versions) log) claim) was
   give_back-turn now x claim was ms is was_is ms_is =
-      subst (λ (y : CoreOf V). (log : List Item) → StandsFor meaning y log → Ends bound (StandsFor meaning (with_migrations x ms)) log (give_back_decision (state (meaning y.versions) log) claim) was) is
+      subst (λ (y : CoreOf V). (log : List Item) → StandsFor meaning y log → EndsAsDecided bound (StandsFor meaning (with_migrations x ms)) log (give_back_decision (state (meaning y.versions) log) claim) was) is
       (λ log st.
       let same = migrations-stand (meaning x.versions) x.view log st in
       let work = ap (moves.work_of claim) same ∙ work_of-told x.view.limits claim (state (meaning x.versions) log) in
@@ -159,7 +159,7 @@ module _ {V : Type 0} (meaning : V → Meaning) where
       → Some t ≡ option_map (λ w. w.target) (moves.work_of claim x.view.migrations)
       → ready ≡ is_ready_item rv at t (find_record item_key k now.view.store.items) → ready ≡ false
       → (log : List Item) → StandsFor meaning now log
-      → Turned (StandsFor meaning now) log (touch_decision (revision log + 1) (state (meaning now.versions) log) claim k rv at) ends.missed claim
+      → WorkerTurned (StandsFor meaning now) log (touch_decision (revision log + 1) (state (meaning now.versions) log) claim k rv at) ends.missed claim
   touch-missed_turn now x claim t k rv at ready is has ready_is other log st =
       touch-missed_end (meaning now.versions) now.view log st claim t k rv at
       (has ∙ ap (λ (y : CoreOf V). option_map (λ w. w.target) (moves.work_of claim y.view.migrations)) is) (sym ready_is ∙ other)
@@ -176,20 +176,20 @@ module _ {V : Type 0} (meaning : V → Meaning) where
       → end ≡ touch_end rv (find_record item_key p.key x.view.store.items)
       → store ≡ (if is_done_end end then with_new (x.view.revision + 1) (record_for p) x.view.store else x.view.store)
       → ms ≡ moves.after_pass (moves.work_of claim x.view.migrations) p.key x.view.migrations
-      → (log : List Item) (h : ObjectView) → StandsFor meaning now log → Prepares (meaning now.versions) p h
+      → (log : List Item) (h : ObjectView) → StandsFor meaning now log → PreparesValue (meaning now.versions) p h
       → KnownAt (meaning now.versions) log p.key rv (λ e. h ≡ e.h)
-      → Turned (StandsFor meaning (touched_with x store ms)) log (touch_decision (revision log + 1) (state (meaning now.versions) log) claim p.key rv p.at) (ends.touched (x.view.revision + 1)) claim
+      → WorkerTurned (StandsFor meaning (touched_with x store ms)) log (touch_decision (revision log + 1) (state (meaning now.versions) log) claim p.key rv p.at) (ends.touched (x.view.revision + 1)) claim
   touch-done_turn now x claim t p rv ready end store ms is has ready_is yes_ fits next end_is store_is ms_is =
       subst (λ (y : CoreOf V).
       is_ready_item rv p.at t (find_record item_key p.key y.view.store.items) ≡ true
       → FitsAt p.key rv p (find_record item_key p.key y.view.store.items)
       → IsNext (moves.work_of claim y.view.migrations) p.key y.view.store.items (find_record item_key p.key y.view.store.items)
-      → (log : List Item) (h : ObjectView) → StandsFor meaning y log → Prepares (meaning y.versions) p h
+      → (log : List Item) (h : ObjectView) → StandsFor meaning y log → PreparesValue (meaning y.versions) p h
       → KnownAt (meaning y.versions) log p.key rv (λ e. h ≡ e.h)
-      → Turned (StandsFor meaning (touched_with x store ms)) log (touch_decision (revision log + 1) (state (meaning y.versions) log) claim p.key rv p.at) (ends.touched (x.view.revision + 1)) claim) is
+      → WorkerTurned (StandsFor meaning (touched_with x store ms)) log (touch_decision (revision log + 1) (state (meaning y.versions) log) claim p.key rv p.at) (ends.touched (x.view.revision + 1)) claim) is
       (λ ready_now fits_now next_now log h st prepares known.
       let stored = touched-store rv p.at t (x.view.revision + 1) (record_for p) x.view.store store end ready_now end_is store_is in
-      subst (λ (v : StoreView). Turned (StandsFor meaning (touched_with x v ms)) log (touch_decision (revision log + 1) (state (meaning x.versions) log) claim p.key rv p.at) (ends.touched (x.view.revision + 1)) claim)
+      subst (λ (v : StoreView). WorkerTurned (StandsFor meaning (touched_with x v ms)) log (touch_decision (revision log + 1) (state (meaning x.versions) log) claim p.key rv p.at) (ends.touched (x.view.revision + 1)) claim)
       (sym stored)
       (touch-done_end (meaning x.versions) x.view log st claim t p rv h ms has ready_now prepares known fits_now next_now ms_is))
       (sym ready_is ∙ yes_) fits next

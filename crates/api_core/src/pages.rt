@@ -5,7 +5,7 @@ ghost use Rattle.record_store.specs.Copies.{copied};
 ghost use Rattle.record_store.specs.View.{item_key, items_at};
 ghost use Rattle.api_calls.specs.Item.{Item};
 ghost use Rattle.api_calls.specs.Pages.{page_decision};
-ghost use Rattle.turn_state.specs.Pages.{IsPageOf, Refuses, Shows, place_of};
+ghost use Rattle.turn_state.specs.Pages.{IsPageOf, RefusesPage, ShowsPage, place_of};
 ghost use Rattle.turn_state.specs.Prepared.{seen_item};
 ghost use Rattle.api_core.specs.View.{StandsFor};
 
@@ -57,10 +57,10 @@ impl<V: Versions> Core<V> {
         limit: u64,
     ) -> Result<Page, PageFault>
         ensures shows { IfOk result (λ p. (log : List Item) → StandsFor V.meaning self.now log
-            → Shows (V.meaning self.now.versions) p
+            → ShowsPage (V.meaning self.now.versions) p
             (page_decision self.now.view.limits (V.meaning self.now.versions) log v (option_copied ns.entry) limit (option_map place_of (option_copied token.entry)))) }
         ensures refuses { IfErr result (λ f. (log : List Item) → StandsFor V.meaning self.now log
-            → Refuses f
+            → RefusesPage f
             (page_decision self.now.view.limits (V.meaning self.now.versions) log v (option_copied ns.entry) limit (option_map place_of (option_copied token.entry)))) }
     {
         // Asked for what its clause says: a page of the store is one of the history.

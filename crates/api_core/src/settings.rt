@@ -6,7 +6,7 @@ ghost use Rattle.record_store.specs.Standing.{first_held as first_standing, item
 ghost use Rattle.record_store.specs.View.{item_key};
 ghost use Rattle.api_calls.specs.Item.{Item};
 ghost use Rattle.api_calls.specs.State.{joined, state};
-ghost use Rattle.api_calls.specs.Ends.{Ends, bound};
+ghost use Rattle.api_calls.specs.Ends.{EndsAsDecided, bound};
 ghost use Rattle.api_calls.specs.Settings.{same_flags, set_decision, start_decision, trim_decision};
 ghost use Rattle.api_calls.specs.Versions.{AreFlags, versions_of};
 ghost use Rattle.turn_state.specs.Changes.{after_set, after_start, after_trim};
@@ -39,7 +39,7 @@ impl<V: Versions> Core<V> {
         requires few { self.old.view.revision ≤ 2 ^ 61 }
         requires flags { AreFlags (V.meaning self.old.versions).count flags }
         ensures turn { (log : List Item) → StandsFor V.meaning self.old log
-            → Ends bound (StandsFor V.meaning self.new) log
+            → EndsAsDecided bound (StandsFor V.meaning self.new) log
             (set_decision (state (V.meaning self.old.versions) log) flags)
             (set_end result) }
         ensures leaves { self.new ≡ record self.old { view = after_set result flags self.old.view } }
@@ -83,7 +83,7 @@ impl<V: Versions> Core<V> {
         requires few { self.old.view.revision ≤ 2 ^ 61 }
         requires keep { keep.now.len ≤ 8 }
         ensures turn { (log : List Item) → StandsFor V.meaning self.old log
-            → Ends bound (StandsFor V.meaning self.new) log
+            → EndsAsDecided bound (StandsFor V.meaning self.new) log
             (trim_decision (state (V.meaning self.old.versions) log) (versions_of keep.now))
             (trim_end result) }
         ensures leaves { self.new ≡ record self.old { view = after_trim result self.old.view } }
@@ -140,7 +140,7 @@ impl<V: Versions> Core<V> {
         requires few { self.old.view.revision ≤ 2 ^ 61 }
         requires name { is_name name.bytes ≡ true }
         ensures turn { (log : List Item) → StandsFor V.meaning self.old log
-            → Ends bound (StandsFor V.meaning self.new) log
+            → EndsAsDecided bound (StandsFor V.meaning self.new) log
             (start_decision self.old.view.limits (state (V.meaning self.old.versions) log) name.bytes)
             (start_end result) }
         ensures leaves { self.new ≡ record self.old { view = after_start result name.bytes self.old.view } }

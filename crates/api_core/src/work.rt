@@ -6,13 +6,13 @@ ghost use Rattle.record_index.specs.ByKey.{find};
 ghost use Rattle.record_store.specs.View.{item_key};
 ghost use Rattle.api_calls.specs.Item.{Item};
 ghost use Rattle.api_calls.specs.State.{revision, state};
-ghost use Rattle.api_calls.specs.Ends.{Ends, bound};
+ghost use Rattle.api_calls.specs.Ends.{EndsAsDecided, bound};
 ghost use Rattle.api_calls.specs.Work.{give_back_decision, touch_decision, turn_decision};
 ghost use Rattle.turn_state.specs.Changes.{after_give_back, after_turn};
 ghost use Rattle.turn_state.specs.Ends.{turn_end};
-ghost use Rattle.turn_state.specs.Prepared.{FitsAt, IsSized, KnownAt, Prepares};
+ghost use Rattle.turn_state.specs.Prepared.{FitsAt, IsSized, KnownAt, PreparesValue};
 ghost use Rattle.turn_state.specs.Ready.{IfPrepare, IsNext, is_ready_item};
-ghost use Rattle.turn_state.specs.Turned.{Turned, revision_after_turn};
+ghost use Rattle.turn_state.specs.Turned.{WorkerTurned, revision_after_turn};
 ghost use Rattle.api_core.specs.View.{SameBase, StandsFor};
 
 use crate::present::Core;
@@ -41,12 +41,12 @@ impl<V: Versions> Core<V> {
             self.old.view.store.items (find item_key r.1.key self.old.view.store.items)) }
         ensures turn { MatchOption ready
             ((log : List Item) → StandsFor V.meaning self.old log
-            → Turned (StandsFor V.meaning self.new) log
+            → WorkerTurned (StandsFor V.meaning self.new) log
             (turn_decision (revision log + 1) (state (V.meaning self.old.versions) log) w.old.claim)
             (turn_end result) w.new.claim)
-            (λ r. (log : List Item) (h : ObjectView) → StandsFor V.meaning self.old log → Prepares (V.meaning self.old.versions) r.1 h
+            (λ r. (log : List Item) (h : ObjectView) → StandsFor V.meaning self.old log → PreparesValue (V.meaning self.old.versions) r.1 h
             → KnownAt (V.meaning self.old.versions) log r.1.key r.0 (λ e. h ≡ e.h)
-            → Turned (StandsFor V.meaning self.new) log
+            → WorkerTurned (StandsFor V.meaning self.new) log
             (touch_decision (revision log + 1) (state (V.meaning self.old.versions) log) w.old.claim r.1.key r.0 r.1.at)
             (turn_end result) w.new.claim) }
         ensures prepared { IfPrepare result (λ k. IsNext (work_of w.new.claim self.new.view.migrations) k
@@ -66,7 +66,7 @@ impl<V: Versions> Core<V> {
         requires few { self.old.view.revision ≤ 2 ^ 61 }
         requires claims { self.old.view.migrations.plan.last < 2 ^ 61 }
         ensures turn { (log : List Item) → StandsFor V.meaning self.old log
-            → Turned (StandsFor V.meaning self.new) log
+            → WorkerTurned (StandsFor V.meaning self.new) log
             (turn_decision (revision log + 1) (state (V.meaning self.old.versions) log) w.old.claim)
             (turn_end result) w.new.claim }
         ensures prepared { IfPrepare result (λ k. IsNext (work_of w.new.claim self.new.view.migrations) k
@@ -99,7 +99,7 @@ impl<V: Versions> Core<V> {
         requires few { self.old.view.revision ≤ 2 ^ 61 }
         requires claims { self.old.view.migrations.plan.last < 2 ^ 61 }
         ensures turn { (log : List Item) → StandsFor V.meaning self.old log
-            → Turned (StandsFor V.meaning self.new) log
+            → WorkerTurned (StandsFor V.meaning self.new) log
             (turn_decision (revision log + 1) (state (V.meaning self.old.versions) log) None)
             (turn_end result) w.new.claim }
         ensures prepared { IfPrepare result (λ k. IsNext (work_of w.new.claim self.new.view.migrations) k
@@ -136,9 +136,9 @@ impl<V: Versions> Core<V> {
         requires fits { FitsAt new.key rv new (find item_key new.key self.old.view.store.items) }
         requires next { IsNext (work_of w.old.claim self.old.view.migrations) new.key
             self.old.view.store.items (find item_key new.key self.old.view.store.items) }
-        ensures turn { (log : List Item) (h : ObjectView) → StandsFor V.meaning self.old log → Prepares (V.meaning self.old.versions) new h
+        ensures turn { (log : List Item) (h : ObjectView) → StandsFor V.meaning self.old log → PreparesValue (V.meaning self.old.versions) new h
             → KnownAt (V.meaning self.old.versions) log new.key rv (λ e. h ≡ e.h)
-            → Turned (StandsFor V.meaning self.new) log
+            → WorkerTurned (StandsFor V.meaning self.new) log
             (touch_decision (revision log + 1) (state (V.meaning self.old.versions) log) w.old.claim new.key rv new.at)
             (turn_end result) w.new.claim }
         ensures prepared { IfPrepare result (λ k. IsNext (work_of w.new.claim self.new.view.migrations) k
@@ -178,7 +178,7 @@ impl<V: Versions> Core<V> {
     /// memory.
     pub fn give_back(&mut self, w: &mut Worker) -> bool
         ensures turn { (log : List Item) → StandsFor V.meaning self.old log
-            → Ends bound (StandsFor V.meaning self.new) log (give_back_decision (state (V.meaning self.old.versions) log) w.old.claim) result }
+            → EndsAsDecided bound (StandsFor V.meaning self.new) log (give_back_decision (state (V.meaning self.old.versions) log) w.old.claim) result }
         ensures worker { w.new.claim ≡ None }
         ensures leaves { self.new ≡ record self.old { view = after_give_back result w.old.claim self.old.view } }
         ensures revision { self.new.view.revision ≡ self.old.view.revision }

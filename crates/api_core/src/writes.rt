@@ -6,12 +6,12 @@ ghost use Rattle.record_store.specs.View.{item_key};
 ghost use Rattle.api_calls.specs.Item.{Item};
 ghost use Rattle.api_calls.specs.State.{revision, state};
 ghost use Rattle.api_calls.specs.Legal.{IsNew};
-ghost use Rattle.api_calls.specs.Ends.{Ends, bound};
+ghost use Rattle.api_calls.specs.Ends.{EndsAsDecided, bound};
 ghost use Rattle.api_calls.specs.Writes.{create_commit, delete_commit, mark_commit, release_commit, replace_commit};
 ghost use Rattle.turn_state.specs.declared.seen.Prepared.{Prepared};
 ghost use Rattle.turn_state.specs.Changes.{after_create, after_delete, after_release, after_replace};
 ghost use Rattle.turn_state.specs.Ends.{create_end, delete_end, release_end, replace_end, revision_after};
-ghost use Rattle.turn_state.specs.Prepared.{FitsAt, IsEnding, IsFree, IsSized, KnownAt, Marking, Prepares, Replacing};
+ghost use Rattle.turn_state.specs.Prepared.{FitsAt, IsEnding, IsFree, IsSized, KnownAt, Marking, PreparesValue, Replacing};
 ghost use Rattle.api_core.specs.View.{SameBase, StandsFor};
 
 use crate::present::Core;
@@ -45,9 +45,9 @@ impl<V: Versions> Core<V> {
     pub fn commit_create(&mut self, v: u8, new: Prepared) -> CreateEnd
         requires few { self.old.view.revision ≤ 2 ^ 61 }
         requires sized { IsSized new }
-        ensures turn { (log : List Item) (h : ObjectView) → StandsFor V.meaning self.old log → Prepares (V.meaning self.old.versions) new h
+        ensures turn { (log : List Item) (h : ObjectView) → StandsFor V.meaning self.old log → PreparesValue (V.meaning self.old.versions) new h
             → (IsTrue (V.meaning self.old.versions).honest → IsNew h)
-            → Ends bound (StandsFor V.meaning self.new) log
+            → EndsAsDecided bound (StandsFor V.meaning self.new) log
             (create_commit self.old.view.limits (revision log + 1) (state (V.meaning self.old.versions) log) v new.at new.key h new.weight)
             (create_end result) }
         ensures leaves { self.new ≡ record self.old { view = after_create result new self.old.view } }
@@ -82,9 +82,9 @@ impl<V: Versions> Core<V> {
     pub fn commit_replace(&mut self, v: u8, expected: u64, new: Prepared) -> ReplaceEnd
         requires few { self.old.view.revision ≤ 2 ^ 61 }
         requires sized { IsSized new }
-        ensures turn { (log : List Item) (h : ObjectView) → StandsFor V.meaning self.old log → Prepares (V.meaning self.old.versions) new h
+        ensures turn { (log : List Item) (h : ObjectView) → StandsFor V.meaning self.old log → PreparesValue (V.meaning self.old.versions) new h
             → KnownAt (V.meaning self.old.versions) log new.key expected (Replacing new h)
-            → Ends bound (StandsFor V.meaning self.new) log
+            → EndsAsDecided bound (StandsFor V.meaning self.new) log
             (replace_commit self.old.view.limits (revision log + 1) (state (V.meaning self.old.versions) log) v new.at new.key expected h new.weight)
             (replace_end result) }
         ensures leaves { self.new ≡ record self.old { view = after_replace result new self.old.view } }
@@ -132,12 +132,12 @@ impl<V: Versions> Core<V> {
         requires fits { IfSome ready (λ p. FitsAt key.now expected p (find item_key key.now self.old.view.store.items)) }
         ensures turn { ready ≡ None → (log : List Item) → StandsFor V.meaning self.old log
             → KnownAt (V.meaning self.old.versions) log key.now expected IsFree
-            → Ends bound (StandsFor V.meaning self.new) log
+            → EndsAsDecided bound (StandsFor V.meaning self.new) log
             (delete_commit (revision log + 1) (state (V.meaning self.old.versions) log) v key.now expected)
             (delete_end result) }
         ensures marks { (p : Prepared) → ready ≡ Some p → (log : List Item) (h : ObjectView) (stamp : List ℕ) → StandsFor V.meaning self.old log
-            → Prepares (V.meaning self.old.versions) p h → KnownAt (V.meaning self.old.versions) log key.now expected (Marking h stamp)
-            → Ends bound (StandsFor V.meaning self.new) log
+            → PreparesValue (V.meaning self.old.versions) p h → KnownAt (V.meaning self.old.versions) log key.now expected (Marking h stamp)
+            → EndsAsDecided bound (StandsFor V.meaning self.new) log
             (mark_commit (revision log + 1) (state (V.meaning self.old.versions) log) v p.at key.now expected stamp)
             (delete_end result) }
         ensures leaves { self.new ≡ record self.old { view = after_delete result key.now ready self.old.view } }
@@ -181,7 +181,7 @@ impl<V: Versions> Core<V> {
     pub fn commit_release(&mut self, v: u8, key: &Key, expected: u64) -> ReleaseEnd
         requires { self.old.view.revision ≤ 2 ^ 61 }
         ensures turn { (log : List Item) → StandsFor V.meaning self.old log → KnownAt (V.meaning self.old.versions) log key.now expected IsEnding
-            → Ends bound (StandsFor V.meaning self.new) log
+            → EndsAsDecided bound (StandsFor V.meaning self.new) log
             (release_commit (revision log + 1) (state (V.meaning self.old.versions) log) v key.now expected)
             (release_end result) }
         ensures leaves { self.new ≡ record self.old { view = after_release result key.now self.old.view } }

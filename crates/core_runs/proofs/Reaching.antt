@@ -4,7 +4,7 @@ use Rattle.kube_meta.specs.View.{ObjectView}
 use Rattle.kube_meta.specs.declared.limits.Limits.{Limits}
 use Rattle.api_calls.specs.Meaning.{Meaning}
 use Rattle.api_calls.specs.Item.{Item}
-use Rattle.api_calls.specs.Ends.{Ends, bound, grown}
+use Rattle.api_calls.specs.Ends.{EndsAsDecided, bound, grown}
 use Rattle.api_core.specs.View.{CoreOf, SameBase, StandsFor}
 use Rattle.core_runs.specs.declared.calls.Call.{Call}
 use Rattle.core_runs.specs.declared.calls.Answer.{Answer}
@@ -66,7 +66,7 @@ reached-all m limits stands log asked given r = by r.rest r.calls r.list r.answe
 
 -- what a call is known to do at every list
 abbrev pub Makes : Meaning → Limits → (List Item → Type 0) → (List Item → Type 0) → Call → Answer → Type 0
-Makes m limits was stands k a = (log : List Item) (h : ObjectView) (stamp : List ℕ) → was log → IsKnown m log h stamp k → Ends bound stands log (decided m limits log h stamp k) (told a)
+Makes m limits was stands k a = (log : List Item) (h : ObjectView) (stamp : List ℕ) → was log → IsKnown m log h stamp k → EndsAsDecided bound stands log (decided m limits log h stamp k) (told a)
 
 told-more : (given : List Answer) (a : Answer) (t : Told) (ts : List Told) → told a ≡ t → map told (given ++ a ∷ []) ++ ts ≡ map told given ++ t ∷ ts
 told-more [] a t ts is = ap (λ (u : Told). u ∷ ts) is
@@ -84,7 +84,7 @@ reached-more m limits was stands log asked given k left a makes r = by r.rest r.
         let one : b.call ≡ k = cc in
         let others : calls_of rest ≡ left = cc in
         let made = makes r.now b.h b.stamp r.stands (subst (IsKnown m r.now b.h b.stamp) one known.0) in
-        let made_here = subst (λ (q : Call). Ends bound stands r.now (decided m limits r.now b.h b.stamp q) (told a)) (sym one) made in
+        let made_here = subst (λ (q : Call). EndsAsDecided bound stands r.now (decided m limits r.now b.h b.stamp q) (told a)) (sym one) made in
         record {
           rest = rest;
           now = after m limits r.now b;

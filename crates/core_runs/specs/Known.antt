@@ -12,7 +12,7 @@ use Rattle.api_calls.specs.Versions.{AreFlags}
 use Rattle.api_calls.specs.Ends.{prepare}
 use Rattle.api_calls.specs.Work.{turn_decision}
 use Rattle.turn_state.specs.declared.seen.Prepared.{Prepared}
-use Rattle.turn_state.specs.Prepared.{IsSized, Prepares, KnownAt, Replacing, Marking, IsFree, IsEnding}
+use Rattle.turn_state.specs.Prepared.{IsSized, PreparesValue, KnownAt, Replacing, Marking, IsFree, IsEnding}
 use Rattle.core_runs.specs.declared.calls.Call.{Call}
 use Rattle.core_runs.specs.declared.calls.Call.TheVariants as call
 
@@ -31,17 +31,17 @@ pub record WasAsked (m : Meaning) (log : List Item) (claim : Option ℕ) (k : Ke
 -- A prepared text means h. Of the object that stands under the key nothing has to be known but where it stands at the
 -- expected number: what was known of it when it was looked at holds then.
 abbrev pub IsKnown : Meaning → List Item → ObjectView → List ℕ → Call → Type 0
-IsKnown m log h stamp (call.Create v new) = IsSized new × Prepares m new h × (IsTrue m.honest → IsNew h)
-IsKnown m log h stamp (call.Replace v expected new) = IsSized new × Prepares m new h × KnownAt m log new.key expected (Replacing new h)
+IsKnown m log h stamp (call.Create v new) = IsSized new × PreparesValue m new h × (IsTrue m.honest → IsNew h)
+IsKnown m log h stamp (call.Replace v expected new) = IsSized new × PreparesValue m new h × KnownAt m log new.key expected (Replacing new h)
 IsKnown m log h stamp (call.Delete v key expected) = KnownAt m log key expected IsFree
-IsKnown m log h stamp (call.Mark v key expected new) = IsSized new × Prepares m new h × KnownAt m log key expected (Marking h stamp)
+IsKnown m log h stamp (call.Mark v key expected new) = IsSized new × PreparesValue m new h × KnownAt m log key expected (Marking h stamp)
     × Matches key expected new (find key (state m log).objects)
 IsKnown m log h stamp (call.Release v key expected) = KnownAt m log key expected IsEnding
 IsKnown m log h stamp (call.SetVersions flags) = AreFlags m.count flags
 IsKnown m log h stamp (call.Trim keep) = keep.len ≤ 8
 IsKnown m log h stamp (call.Start name) = is_name name.bytes ≡ true
 IsKnown m log h stamp (call.Work claim) = Unit {0}
-IsKnown m log h stamp (call.Touch claim expected new) = IsSized new × Prepares m new h × KnownAt m log new.key expected (λ e. h ≡ e.h)
+IsKnown m log h stamp (call.Touch claim expected new) = IsSized new × PreparesValue m new h × KnownAt m log new.key expected (λ e. h ≡ e.h)
     × Matches new.key expected new (find new.key (state m log).objects)
     × WasAsked m log claim new.key expected
 IsKnown m log h stamp (call.GiveBack claim) = Unit {0}

@@ -2,7 +2,7 @@
 ghost use Rattle.std.specs.Prelude.{◌≡◌, ◌<◌, ◌^◌, List, ℕ, length};
 ghost use Rattle.kube_meta.specs.View.{ObjectView};
 ghost use Rattle.api_calls.specs.Item.{Item};
-ghost use Rattle.api_calls.specs.Ends.{Ends, bound};
+ghost use Rattle.api_calls.specs.Ends.{EndsAsDecided, bound};
 ghost use Rattle.api_core.specs.View.{SameBase, StandsFor};
 ghost use Rattle.core_runs.specs.Asked.{decided, told};
 ghost use Rattle.core_runs.specs.Known.{IsKnown};
@@ -19,7 +19,7 @@ pub fn make<V: Versions>(core: &mut Core<V>, call: Call) -> Answer
         × IsKnown (V.meaning core.old.versions) log h stamp call × (length log < 2 ^ 61) }
     ensures turn { (log : List Item) (h : ObjectView) (stamp : List ℕ) → StandsFor V.meaning core.old log
         → IsKnown (V.meaning core.old.versions) log h stamp call
-        → Ends bound (StandsFor V.meaning core.new) log
+        → EndsAsDecided bound (StandsFor V.meaning core.new) log
         (decided (V.meaning core.old.versions) core.old.view.limits log h stamp call)
         (told result) }
     ensures base { SameBase core.old core.new }

@@ -7,25 +7,25 @@ use Rattle.hub_cells.specs.Fit.{Fit, IsFitted}
 use Rattle.rule_reading.specs.SetRead.{Spoke}
 use Rattle.kj_value.specs.Txt.{Bytes}
 use Rattle.hub_rules.specs.Rule.{Rules, inner_depth}
-use Rattle.hub_rules.specs.Sound.{AreSound}
+use Rattle.hub_rules.specs.Sound.{AreSoundRules}
 use Rattle.hub_rules.specs.Refusal.{Fault, Why, name_twice, name_missing, schema_differs, unpaired_default, required_lost, range_lost}
 use Rattle.hub_rules.specs.Told.{path_text}
 use Rattle.hub_fit.specs.Chosen.{fit_of}
-use Rattle.hub_fit.specs.Refuses.{Refuses}
+use Rattle.hub_fit.specs.Refuses.{RefusesFit}
 use Rattle.hub_rules.specs.declared.rules.TheConstants.{MAX_OBJECTS}
 use Rattle.hub_rules.specs.declared.refusal.FitFault.TheVariants.{NameTwice, NameMissing, SchemaDiffers, UnpairedDefault, RequiredLost, RangeLost}
 use Rattle.crd_reading.specs.View.{VersionView}
 use Rattle.crd_reading.specs.Offered.{has_version}
 use Rattle.crd_loading.specs.Words.{fit_word}
 use Rattle.crd_reading.specs.Refusal.{Refusal}
-use Rattle.crd_reading.specs.Told.{Names as NamesRefusal}
+use Rattle.crd_reading.specs.Told.{NamesDefinitionFault as NamesRefusal}
 use Rattle.crd_reading.specs.declared.reading.DefinitionFault.TheVariants.{Refused}
 use Rattle.crd_loading.specs.Blame.{blame, of_definition, of_fit}
 use Rattle.crd_loading.specs.Fits.{IsRuled, Placed, version_from, spokes_of, fits_of}
 use Rattle.crd_loading.specs.AllFitted.{AllFitted}
 use Rattle.crd_loading.specs.View.{FitVersions, FitHub}
 
-pub ruled : (s h : Shape) (rs : Rules) (f : Fit) → f ≡ fit_of 0 s h rs → AreSound rs → inner_depth rs ≤ MAX_OBJECTS → IsFitted f → IsRuled f
+pub ruled : (s h : Shape) (rs : Rules) (f : Fit) → f ≡ fit_of 0 s h rs → AreSoundRules rs → inner_depth rs ≤ MAX_OBJECTS → IsFitted f → IsRuled f
 ruled s h rs f e a d k =
     subst IsRuled (sym e) (record { rules = rs; is = refl; sound = a; depth = d; fitted = subst IsFitted e k })
 
@@ -38,27 +38,27 @@ all_push (g ∷ fs) f h k = (h.0, all_push fs f h.1 k)
 some_blame : (f : Fault) (w : Why) (p : List ℕ) → f.why ≡ w → p ≡ path_text f.path → of_fit (Some f) ≡ Some (blame p (fit_word w))
 some_blame f w p h k = rw (h, k) refl
 
-pub twice_is : (p : Bytes) (o : Option Fault) → Refuses o (NameTwice p) → of_fit o ≡ Some (blame p.bytes (fit_word name_twice))
+pub twice_is : (p : Bytes) (o : Option Fault) → RefusesFit o (NameTwice p) → of_fit o ≡ Some (blame p.bytes (fit_word name_twice))
 twice_is p None h = absurd h
 twice_is p (Some f) h = some_blame f name_twice p.bytes h.0 h.1
 
-pub missing_is : (p : Bytes) (o : Option Fault) → Refuses o (NameMissing p) → of_fit o ≡ Some (blame p.bytes (fit_word name_missing))
+pub missing_is : (p : Bytes) (o : Option Fault) → RefusesFit o (NameMissing p) → of_fit o ≡ Some (blame p.bytes (fit_word name_missing))
 missing_is p None h = absurd h
 missing_is p (Some f) h = some_blame f name_missing p.bytes h.0 h.1
 
-pub differs_is : (p : Bytes) (o : Option Fault) → Refuses o (SchemaDiffers p) → of_fit o ≡ Some (blame p.bytes (fit_word schema_differs))
+pub differs_is : (p : Bytes) (o : Option Fault) → RefusesFit o (SchemaDiffers p) → of_fit o ≡ Some (blame p.bytes (fit_word schema_differs))
 differs_is p None h = absurd h
 differs_is p (Some f) h = some_blame f schema_differs p.bytes h.0 h.1
 
-pub unpaired_is : (p : Bytes) (o : Option Fault) → Refuses o (UnpairedDefault p) → of_fit o ≡ Some (blame p.bytes (fit_word unpaired_default))
+pub unpaired_is : (p : Bytes) (o : Option Fault) → RefusesFit o (UnpairedDefault p) → of_fit o ≡ Some (blame p.bytes (fit_word unpaired_default))
 unpaired_is p None h = absurd h
 unpaired_is p (Some f) h = some_blame f unpaired_default p.bytes h.0 h.1
 
-pub required_is : (p : Bytes) (o : Option Fault) → Refuses o (RequiredLost p) → of_fit o ≡ Some (blame p.bytes (fit_word required_lost))
+pub required_is : (p : Bytes) (o : Option Fault) → RefusesFit o (RequiredLost p) → of_fit o ≡ Some (blame p.bytes (fit_word required_lost))
 required_is p None h = absurd h
 required_is p (Some f) h = some_blame f required_lost p.bytes h.0 h.1
 
-pub range_is : (p : Bytes) (o : Option Fault) → Refuses o (RangeLost p) → of_fit o ≡ Some (blame p.bytes (fit_word range_lost))
+pub range_is : (p : Bytes) (o : Option Fault) → RefusesFit o (RangeLost p) → of_fit o ≡ Some (blame p.bytes (fit_word range_lost))
 range_is p None h = absurd h
 range_is p (Some f) h = some_blame f range_lost p.bytes h.0 h.1
 

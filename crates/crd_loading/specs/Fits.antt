@@ -8,7 +8,7 @@ use Rattle.struct_schema.specs.Fault.{or_else}
 use Rattle.hub_cells.specs.Level.{Name}
 use Rattle.hub_cells.specs.Fit.{Fit, IsFitted}
 use Rattle.hub_rules.specs.Rule.{Rule, Rules, no_rules, rules_of, inner_depth}
-use Rattle.hub_rules.specs.Sound.{AreSound}
+use Rattle.hub_rules.specs.Sound.{AreSoundRules}
 use Rattle.hub_rules.specs.declared.rules.TheConstants.{MAX_OBJECTS}
 use Rattle.hub_rules.specs.Refusal.{fit_fault}
 use Rattle.hub_fit.specs.Chosen.{fit_of}
@@ -60,7 +60,7 @@ fits_of h ss (v ∷ vs) = fit_of 0 v.schema h (rules_for v.name ss) ∷ fits_of 
 pub record IsRuled (f : Fit) : Type 0 where
   pub rules : Rules
   pub is : f ≡ fit_of 0 f.spoke f.hub rules
-  pub sound : AreSound rules
+  pub sound : AreSoundRules rules
   pub depth : inner_depth rules ≤ MAX_OBJECTS
   pub fitted : IsFitted f
 

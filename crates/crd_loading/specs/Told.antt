@@ -14,9 +14,9 @@ RefusesIn crd rules Crd b = RefusesDefinition crd b
 RefusesIn crd rules Rules b = RefusesRules crd rules b
 
 -- what is refused; want of memory may come anywhere
-abbrev pub Refuses : List ℕ → List ℕ → LoadFault → Type 0
-Refuses crd rules NoMemory = Unit {0}
-Refuses crd rules (Refused file path word) = RefusesIn crd rules file (blame path.bytes word.bytes)
+abbrev pub RefusesLoading : List ℕ → List ℕ → LoadFault → Type 0
+RefusesLoading crd rules NoMemory = Unit {0}
+RefusesLoading crd rules (Refused file path word) = RefusesIn crd rules file (blame path.bytes word.bytes)
 
 -- ---- for private clauses
 

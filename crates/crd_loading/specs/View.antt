@@ -6,7 +6,7 @@ use Rattle.hub_cells.specs.Fit.{Fit}
 use Rattle.rule_reading.specs.Path.{Path}
 use Rattle.rule_reading.specs.SetRead.{Spoke}
 use Rattle.crd_reading.specs.View.{VersionView, DefinitionView}
-use Rattle.crd_reading.specs.Whole.{IsWhole}
+use Rattle.crd_reading.specs.Whole.{IsWholeDefinition}
 use Rattle.crd_loading.specs.Fits.{IsRuled, Placed, version_from, spokes_of, fits_of, RuleSet, rules_in}
 
 pub record LoadedView : Type 0 where
@@ -29,7 +29,7 @@ FitHub None hub vs fs = ⊥
 FitHub (Some h) hub vs fs = FitVersions h.schema (spokes_of hub vs) fs
 
 pub record IsTogether (l : LoadedView) : Type 0 where
-  pub whole : IsWhole l.definition
+  pub whole : IsWholeDefinition l.definition
   pub fits : FitHub (slice_get l.definition.versions l.hub) l.hub l.definition.versions l.spokes
 
 -- ---- what a document of rules makes of a definition. Where it is refused, it says nothing

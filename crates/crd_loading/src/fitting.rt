@@ -5,7 +5,7 @@ ghost use Rattle.hub_rules.specs.Refusal.{Fault, fit_fault};
 ghost use Rattle.hub_rules.specs.Rule.{rules_of};
 ghost use Rattle.hub_rules.specs.Spots.{why};
 ghost use Rattle.hub_fit.specs.Chosen.{fit_of};
-ghost use Rattle.hub_fit.specs.Refuses.{Refuses};
+ghost use Rattle.hub_fit.specs.Refuses.{RefusesFit};
 ghost use Rattle.rule_reading.specs.Told.{set_of};
 ghost use Rattle.crd_reading.specs.Seen.{version_of};
 ghost use Rattle.crd_reading.specs.Offered.{has_version};
@@ -48,7 +48,7 @@ fn unfit(alloc: Global, path: Txt, reason: Why) -> Result<Blamed, NoMemory>
 
 // Why rules don't fit.
 fn told(alloc: Global, fault: FitFault) -> Result<Blamed, NoMemory>
-    ensures { IfOk result (λ b. (o : Option Fault) → Refuses o fault
+    ensures { IfOk result (λ b. (o : Option Fault) → RefusesFit o fault
         → of_fit o ≡ Some (blame_of b)) }
 {
     match fault {
@@ -67,7 +67,7 @@ fn fit_rules(alloc: Global, rules: &Rules, spoke: &Schema, hub: &Schema) -> Resu
     ensures ok { IfOk result (λ f. f ≡ fit_of 0 (shape_of spoke.now) (shape_of hub.now) (rules_of rules.now)) }
     ensures ruled { IfOk result IsRuled }
     ensures fits { OnOk result (fit_fault (shape_of spoke.now) (shape_of hub.now) (rules_of rules.now) ≡ None) }
-    ensures err { IfErr result (Refuses (fit_fault (shape_of spoke.now) (shape_of hub.now) (rules_of rules.now))) }
+    ensures err { IfErr result (RefusesFit (fit_fault (shape_of spoke.now) (shape_of hub.now) (rules_of rules.now))) }
 {
     let _ = rules.as_slice();
     match fit(alloc, rules, spoke, hub) {
@@ -91,7 +91,7 @@ fn fit_given(
     ensures ruled { IfOk result IsRuled }
     ensures fits { OnOk result (fit_fault (shape_of spoke.now) (shape_of hub.now)
         (rules_or_none (option_map (λ rs. rs.now) rules.entry)) ≡ None) }
-    ensures err { IfErr result (Refuses (fit_fault (shape_of spoke.now) (shape_of hub.now)
+    ensures err { IfErr result (RefusesFit (fit_fault (shape_of spoke.now) (shape_of hub.now)
         (rules_or_none (option_map (λ rs. rs.now) rules.entry)))) }
 {
     match rules {

@@ -8,7 +8,7 @@ ghost use Rattle.crd_loading.specs.Blame.{of_rules};
 ghost use Rattle.crd_loading.specs.Fits.{rules_in, rules_blame};
 ghost use Rattle.crd_loading.specs.View.{loaded_of};
 ghost use Rattle.crd_loading.specs.Load.{IsUnread, Defines, LoadsRules, AreNoRules, Loads, RefusesDefinition};
-ghost use Rattle.crd_loading.specs.Told.{Refuses, blame_of, blamed_in};
+ghost use Rattle.crd_loading.specs.Told.{RefusesLoading, blame_of, blamed_in};
 
 use crate::blamed::{Blamed, blame};
 use crate::bytes::read_bytes;
@@ -133,7 +133,7 @@ fn load_rules(
 /// `NoMemory` may come for any texts.
 pub fn load(alloc: Global, crd: &[u8], rules: &[u8]) -> Result<Loaded, LoadFault>
     ensures loaded { IfOk result (Loads crd.now rules.now) }
-    ensures refused { IfErr result (Refuses crd.now rules.now) }
+    ensures refused { IfErr result (RefusesLoading crd.now rules.now) }
 {
     let definition = match load_definition(alloc, crd)? {
         Err(blamed) => {

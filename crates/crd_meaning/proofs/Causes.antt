@@ -20,7 +20,7 @@ use Rattle.spoke_laws.specs.Over.{IsFirstBad}
 use Rattle.crd_meaning.specs.Definition.{Definition, IsLoaded}
 use Rattle.crd_meaning.specs.Request.{breaks, early, IsTaken}
 use Rattle.crd_meaning.specs.Admission.{schema_of, IsFilling, Passes, IsUnread}
-use Rattle.crd_meaning.specs.Refusal.{IsNoValue, IsBroken, annotation_prefix, IsBadlyKept, object_path, IsTooLarge, Refuses, no_value, is_early, is_broken, badly_kept, too_large}
+use Rattle.crd_meaning.specs.Refusal.{IsNoValue, IsBroken, annotation_prefix, IsBadlyKept, object_path, IsTooLarge, RefusesRequest, no_value, is_early, is_broken, badly_kept, too_large}
 use Rattle.crd_meaning.specs.Meant.{no_settings}
 use Rattle.crd_meaning.specs.Given.{Given}
 use Rattle.crd_meaning.proofs.Verdicts.{some_none, taken_one, passes_one, none_broken}
@@ -63,7 +63,7 @@ module _ (known : Given) (d : Definition) (loaded : IsLoaded d) (r : Request)
   no_value_faulty (bad_request bad_options) n = absurd n
   no_value_faulty (invalid name cause) n = absurd n
 
-  faulty : (f : Fault) → Refuses d r f → IsFaulty r.bytes OBJECT_LEVELS (Told d r) f
+  faulty : (f : Fault) → RefusesRequest d r f → IsFaulty r.bytes OBJECT_LEVELS (Told d r) f
   faulty f (no_value n) = no_value_faulty f n
   faulty f (is_early e) = record { finding = reading.value e.value; finds = e.reads; follows = at_first e.told }
   faulty f (is_broken b) = record { finding = reading.value b.taken.value; finds = b.taken.reads; follows = of_rule b refl }
@@ -126,5 +126,5 @@ module _ (known : Given) (d : Definition) (loaded : IsLoaded d) (r : Request)
   one_told j f g (of_size a p) (of_note b q) = absurd (kept_or_large g f b a)
   one_told j f g (of_size a p) (of_size b q) = one_size f g a b
 
-  pub one_reason : (f g : Fault) → Refuses d r f → Refuses d r g → f ≡ g
+  pub one_reason : (f g : Fault) → RefusesRequest d r f → RefusesRequest d r g → f ≡ g
   one_reason f g a b = one_fault r.bytes OBJECT_LEVELS (Told d r) one_told f g (faulty f a) (faulty g b)

@@ -6,7 +6,7 @@ use Rattle.std.specs.Ordering.{int_eq, match_ordering, ordering_reverse}
 use Rattle.std.specs.Cmp.Lexicographic.{slice_cmp}
 use Rattle.std.proofs.lemmas.Cmp.{nat_list_cmp_total}
 use Rattle.kj_value.specs.Json.{Json, whole, text, list, object, items_of, members_of, depth, items_depth, members_depth}
-use Rattle.kj_value.specs.Sound.{IsSound, AreSound, AreRising, ComesFirst}
+use Rattle.kj_value.specs.Sound.{IsSoundJson, AreSoundItems, AreRising, ComesFirst}
 use Rattle.kj_value.specs.Fields.{Pairs, with_field, NamesRise, AreInOrder}
 use Rattle.kube_meta.specs.View.{Texts, MetaView, ObjectView}
 use Rattle.kube_meta.specs.Document.{optional, some_text, text_fields, some_texts, some_list, some_generation, metadata, document}
@@ -27,7 +27,7 @@ comes_first-with l k v (e ∷ es) p h = by_order (slice_cmp nat_cmp k e.0)
     by_order Equal = h
     by_order Greater = h
 
-rising-with : (k : List ℕ) (v : Json) (es : Pairs) → AreRising (members_of es) → IsSound v → AreRising (members_of (with_field k v es))
+rising-with : (k : List ℕ) (v : Json) (es : Pairs) → AreRising (members_of es) → IsSoundJson v → AreRising (members_of (with_field k v es))
 rising-with k v [] h s = (tt, s, tt)
 rising-with k v (e ∷ es) h s = by_order (rising-with k v es h.2 s) (slice_cmp nat_cmp k e.0) refl
   where
@@ -84,7 +84,7 @@ metadata-given m = eleven
 
 abbrev IsSoundOption : Option Json → Type 0
 IsSoundOption None = Unit {0}
-IsSoundOption (Some j) = IsSound j
+IsSoundOption (Some j) = IsSoundJson j
 
 abbrev AreSoundOptions : Table → Type 0
 AreSoundOptions [] = Unit {0}
@@ -134,11 +134,11 @@ sound-texts : (ts : Texts) → AreInOrder ts → IsSoundOption (some_texts ts)
 sound-texts [] h = tt
 sound-texts (t ∷ ts) h = texts_rise (t ∷ ts) h
 
-text_items_sound : (fs : List (List ℕ)) → AreSound (items_of (map text fs))
+text_items_sound : (fs : List (List ℕ)) → AreSoundItems (items_of (map text fs))
 text_items_sound [] = tt
 text_items_sound (f ∷ fs) = (tt, text_items_sound fs)
 
-sound-list : (js : List Json) → AreSound (items_of js) → IsSoundOption (some_list js)
+sound-list : (js : List Json) → AreSoundItems (items_of js) → IsSoundOption (some_list js)
 sound-list [] h = tt
 sound-list (j ∷ js) h = h
 
@@ -183,7 +183,7 @@ metadata_rising m notes fits is =
     )
     )
 
-pub sound_document : (x : ObjectView) → IsObject x → FitsSigned w64 x.meta.generation → IsMeta x.meta → IsSound (document x)
+pub sound_document : (x : ObjectView) → IsObject x → FitsSigned w64 x.meta.generation → IsMeta x.meta → IsSoundJson (document x)
 unfolding document
 sound_document x o fits is =
     let version = rising-with (codes "apiVersion") (text x.api_version) x.body o.body tt in

@@ -9,7 +9,7 @@ use Rattle.kept_entries.specs.declared.entry.Entry.{Entry}
 use Rattle.kept_entries.specs.Text.{IsKept}
 use Rattle.hub_cells.specs.Side.{spoke, hub}
 use Rattle.hub_cells.specs.Level.{Name}
-use Rattle.keep_laws.specs.Whole.{Held, Ready, IsWhole, IsPair}
+use Rattle.keep_laws.specs.Whole.{Held, Ready, IsWholeOnSide, IsPair}
 use Rattle.keep_laws.specs.Settle.{settled, converted}
 use Rattle.keep_laws.proofs.Dead.{converted_whole}
 use Rattle.keep_laws.proofs.Fields.{bytes_same}
@@ -71,7 +71,7 @@ module _ (laws : Laws) (all : Spokes) (v : ℕ) (s : Spoke) (def : IsDefinition 
       let same : p.spoke_kept ≡ g.spoke_kept = one_note laws.one (noted (spoke_key s.name) h) p.spoke_kept g.spoke_kept (own_pair laws all v s def place z h p).1 (own_over x h g) in
       let hubs : with_entries h.body p.spoke_kept ≡ goes = ap (λ (es : List Entry). with_entries h.body es) same ∙ g.bodies in
       let form : IsPair level (with_entries z.body p.hub_kept) goes = subst (IsPair level (with_entries z.body p.hub_kept)) hubs p.bodies in
-      let whole : IsWhole hub level goes = converted_whole spoke level held fits may in
+      let whole : IsWholeOnSide hub level goes = converted_whole spoke level held fits may in
       one_spoke level (with_entries z.body p.hub_kept) (settled spoke level held) goes fits whole form (spoke_pair level held fits may)
       ∙ settled_is laws all v s def place spoke x.body g.hub_kept rises b
 

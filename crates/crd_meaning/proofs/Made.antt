@@ -6,7 +6,7 @@ use Rattle.std.specs.Cmp.Lexicographic.{slice_cmp}
 use Rattle.std.specs.Map.{keys_of}
 use Rattle.std.proofs.lemmas.Cmp.{nat_list_cmp_total}
 use Rattle.kj_value.specs.Json.{depth}
-use Rattle.kj_value.specs.Sound.{IsSound}
+use Rattle.kj_value.specs.Sound.{IsSoundJson}
 use Rattle.kj_value.specs.Fields.{with_field, without_field, IsBelowFirst, AreInOrder}
 use Rattle.kube_meta.specs.View.{Texts, ObjectView}
 use Rattle.kept_entries.specs.declared.entry.Entry.{Entry}
@@ -15,7 +15,7 @@ use Rattle.kept_entries.specs.Entry.{are_in_order}
 use Rattle.kept_entries.specs.Text.{kept_json}
 use Rattle.hub_cells.specs.Side.{spoke, hub}
 use Rattle.hub_cells.specs.Level.{Name}
-use Rattle.keep_laws.specs.Whole.{Held, IsWhole}
+use Rattle.keep_laws.specs.Whole.{Held, IsWholeOnSide}
 use Rattle.keep_laws.specs.Settle.{converted}
 use Rattle.keep_laws.proofs.Dead.{converted_whole}
 use Rattle.spoke_laws.specs.Spokes.{Spoke, Spokes, IsDefinition, api_version}
@@ -89,7 +89,7 @@ spells_sound : (o : Option Name) (es : List Entry) → Spells o es → SoundEntr
 spells_sound None es e = subst SoundEntries (sym e) tt
 spells_sound (Some t) es k = spelled_sound es k.text.sound
 
-note_of : (es : List Entry) → are_in_order es ≡ true → depth (kept_json es) ≤ KEPT_LEVELS → IsSound (kept_json es) → IsNoteOf es (note es)
+note_of : (es : List Entry) → are_in_order es ≡ true → depth (kept_json es) ≤ KEPT_LEVELS → IsSoundJson (kept_json es) → IsNoteOf es (note es)
 note_of [] o l s = record { spelled = refl; written = refl }
 note_of (e ∷ es) o l s = record { spelled = record { text = record { spelled = refl; levels = l; sound = s }; order = o }; written = refl }
 
@@ -99,7 +99,7 @@ module _ (laws : Laws) (all : Spokes) (v : ℕ) (s : Spoke) (def : IsDefinition 
       let own = whole_own laws all v s def place h w in
       let held : Held = with_entries h.body own.0 in
       let made : Held = converted hub s.fit.level held in
-      let whole : IsWhole spoke s.fit.level made = converted_whole hub s.fit.level held (ready laws all v s def place) (allowed laws all v s def place hub h.body own.0 w.object.body (hub_body_at all.items v s h.body w.body place)) in
+      let whole : IsWholeOnSide spoke s.fit.level made = converted_whole hub s.fit.level held (ready laws all v s def place) (allowed laws all v s def place hub h.body own.0 w.object.body (hub_body_at all.items v s h.body w.body place)) in
       let sound : SoundHeld made = subst SoundHeld (sym (whole_over hub s.fit.level held own.2)) (other_sound s.fit.level held tables (w.object.body, spells_sound _ own.0 own.1.spelled)) in
       let is = note_of made.entries (laws.words spoke s.fit.level made (ready laws all v s def place) whole).order (whole_levels spoke s.fit.level made whole) (kept_json_sound made.entries sound.1) in
       let x : ObjectView = record {

@@ -2,7 +2,7 @@
 use Rattle.std.proofs.Common.{◌≡◌, ◌∙◌, ℕ, suc, ◌+◌, ◌≤◌, ◌<◌, true, Option, None, refl, ap, ap₂, sym, subst, arith}
 use Rattle.std.specs.Prelude.{ℤ, List, codes}
 use Rattle.kj_value.specs.Json.{list, items_of, members_of, depth, members_depth}
-use Rattle.kj_value.specs.Sound.{AreSound}
+use Rattle.kj_value.specs.Sound.{AreSoundItems}
 use Rattle.kj_value.specs.Fields.{AreInOrder}
 use Rattle.kube_meta.specs.View.{MetaView, ObjectView}
 use Rattle.object_reading.specs.Keeping.{KeepsRules}
@@ -83,7 +83,7 @@ module _ (given : Given) (o : Settings) (d : Definition) (loaded : IsLoaded d) w
       (subst (λ (m : MetaView). AreStamps m.created m.deleted m.generation) (sym same) w.stamps)
       (record {
         labels = subst (λ (m : MetaView). AreInOrder m.labels) (sym same) w.meta.labels;
-        owners = subst (λ (m : MetaView). AreSound (items_of m.owners)) (sym same) w.meta.owners;
+        owners = subst (λ (m : MetaView). AreSoundItems (items_of m.owners)) (sym same) w.meta.owners;
         levels = subst (λ (m : MetaView). 2 + depth (list (items_of m.owners)) ≤ OBJECT_LEVELS) (sym same) w.meta.levels;
       })
       p.0

@@ -8,7 +8,7 @@ use Rattle.std.proofs.Math.Nat.{div-le_self}
 use Rattle.std.proofs.lemmas.Cmp.{nat_list_cmp_total}
 use Rattle.kj_value.specs.Json.{Json, null, boolean, whole, text, list, object, Members, no_members, member, items_of, members_of}
 use Rattle.kj_value.specs.Same.{json_same}
-use Rattle.kj_value.specs.Sound.{IsSound, AreSound, AreRising, ComesFirst}
+use Rattle.kj_value.specs.Sound.{IsSoundJson, AreSoundItems, AreRising, ComesFirst}
 use Rattle.kj_value.specs.Fields.{Pairs, field, with_field}
 use Rattle.kept_entries.specs.declared.entry.Entry.{Entry}
 use Rattle.kept_entries.specs.Entry.{is_before}
@@ -38,7 +38,7 @@ comes_first-with l k v (e ∷ es) p h = by_order (slice_cmp nat_cmp k e.0)
     by_order Equal = h
     by_order Greater = h
 
-rising-with : (k : List ℕ) (v : Json) (es : Pairs) → AreRising (members_of es) → IsSound v → AreRising (members_of (with_field k v es))
+rising-with : (k : List ℕ) (v : Json) (es : Pairs) → AreRising (members_of es) → IsSoundJson v → AreRising (members_of (with_field k v es))
 rising-with k v [] h s = (tt, s, tt)
 rising-with k v (e ∷ es) h s = by_order (rising-with k v es h.2 s) (slice_cmp nat_cmp k e.0) refl
   where
@@ -51,7 +51,7 @@ rising-with k v (e ∷ es) h s = by_order (rising-with k v es h.2 s) (slice_cmp 
 
 abbrev SoundValue : Option Json → Type 0
 SoundValue None = Unit {0}
-SoundValue (Some j) = IsSound j
+SoundValue (Some j) = IsSoundJson j
 
 abbrev SoundTuple : Tuple → Type 0
 SoundTuple [] = Unit {0}
@@ -192,7 +192,7 @@ one_sound : (o : Option Json) → SoundValue o → SoundKept (option_map one o)
 one_sound None h = tt
 one_sound (Some j) h = (h, tt)
 
-divided_sound : (k : ℕ) (j : Json) → IsSound j → SoundKept (divided k j)
+divided_sound : (k : ℕ) (j : Json) → IsSoundJson j → SoundKept (divided k j)
 divided_sound k null h = tt
 divided_sound k (boolean b) h = tt
 divided_sound k (text s) h = tt
@@ -232,7 +232,7 @@ to_spoke_sound (scale k) h (None ∷ o ∷ os) p = tt
 to_spoke_sound (scale k) h (Some j ∷ []) p = divided_sound k j p.0
 to_spoke_sound (scale k) h (Some j ∷ o ∷ os) p = tt
 
-blank_sound : (j : Json) → IsSound j → SoundTuple (blank j)
+blank_sound : (j : Json) → IsSoundJson j → SoundTuple (blank j)
 blank_sound null h = (tt, tt)
 blank_sound (boolean b) h = (h, tt)
 blank_sound (whole z) h = (h, tt)
@@ -354,14 +354,14 @@ other_sound l x h p =
 
 -- ---- the text of entries
 
-path_sound : (ns : List Name) → AreSound (items_of (map text ns))
+path_sound : (ns : List Name) → AreSoundItems (items_of (map text ns))
 path_sound [] = tt
 path_sound (n ∷ ns) = (tt, path_sound ns)
 
-pub kept_json_sound : (es : List Entry) → SoundEntries es → AreSound (items_of (map entry_json es))
+pub kept_json_sound : (es : List Entry) → SoundEntries es → AreSoundItems (items_of (map entry_json es))
 kept_json_sound [] h = tt
 kept_json_sound (e ∷ es) h = ((refl, path_sound e.at, (tt, h.0, tt)), kept_json_sound es h.1)
 
-pub spelled_sound : (es : List Entry) → AreSound (items_of (map entry_json es)) → SoundEntries es
+pub spelled_sound : (es : List Entry) → AreSoundItems (items_of (map entry_json es)) → SoundEntries es
 spelled_sound [] h = tt
 spelled_sound (e ∷ es) h = (h.0.2.1, spelled_sound es h.1)

@@ -27,7 +27,7 @@ use Rattle.crd_meaning.specs.Definition.{Definition, Seat, at_hub, at_spoke, now
 use Rattle.crd_meaning.specs.Objects.{PairsAt, IsFormAt}
 use Rattle.crd_meaning.specs.Request.{Judged, first_there, breaks, given_name, meta_fields, metadata_rows, number_rows, number_text, later_rows, is_named_so, version_row, kind_row, namespace_row, name_row, rows, early, placed, expected_of, number_path, IsTaken}
 use Rattle.crd_meaning.specs.Admission.{schema_of, IsFilling, Passes, IsUnread, LeftAt, IsHubOf, Admits}
-use Rattle.crd_meaning.specs.Refusal.{IsNoValue, cause_at, broken_at, annotation_prefix, object_path, Refuses, no_value, is_early, is_broken, badly_kept, too_large}
+use Rattle.crd_meaning.specs.Refusal.{IsNoValue, cause_at, broken_at, annotation_prefix, object_path, RefusesRequest, no_value, is_early, is_broken, badly_kept, too_large}
 use Rattle.crd_meaning.specs.Meant.{Settings, meaning_of}
 use Rattle.crd_meaning.specs.Given.{Given}
 use Rattle.crd_meaning.proofs.Forms.{only_hub, one_left}
@@ -208,7 +208,7 @@ module _ (known : Given) (o : Settings) (d : Definition) (loaded : IsLoaded d) w
   pub none_broken : (s : Shape) (k : Pairs) (c : CauseView) → check.fault s (object (members_of k)) ≡ None → broken_at s k ≡ Some c → ⊥
   none_broken s k c p q = some_none (broken_at s k) c q (ap (option_map cause_at) p)
 
-  excludes : (r : Request) (h : ObjectView) (e : Option ℕ) (f : Fault) → Admits d r h e → Refuses d r f → ⊥
+  excludes : (r : Request) (h : ObjectView) (e : Option ℕ) (f : Fault) → Admits d r h e → RefusesRequest d r f → ⊥
   excludes r h e f a (no_value n) = excludes_value r h e f a n
   excludes r h e f a (is_early t) =
       let is = a.passes.is in
@@ -227,7 +227,7 @@ module _ (known : Given) (o : Settings) (d : Definition) (loaded : IsLoaded d) w
 
   -- ---- one of both
 
-  module _ (r : Request) (never_admitted : (h : ObjectView) (e : Option ℕ) → Admits d r h e → ⊥) (never_refused : (f : Fault) → Refuses d r f → ⊥) where
+  module _ (r : Request) (never_admitted : (h : ObjectView) (e : Option ℕ) → Admits d r h e → ⊥) (never_refused : (f : Fault) → RefusesRequest d r f → ⊥) where
     passed_decided : (x : ObjectView) (e : Option ℕ) → Passes d r x e → ⊥
     passed_decided x e p =
         let read : (k : Name) → IsUnread d r x k → ⊥ =

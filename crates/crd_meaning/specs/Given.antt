@@ -1,7 +1,7 @@
 -- What is taken from the laws of other crates, whose functions' clauses give it.
 use Rattle.std.specs.Prelude.{◌≡◌, ℕ, Some, slice_get}
 use Rattle.kj_value.specs.Json.{Json}
-use Rattle.kj_value.specs.Sound.{IsSound}
+use Rattle.kj_value.specs.Sound.{IsSoundJson}
 use Rattle.kube_meta.specs.View.{ObjectView}
 use Rattle.struct_schema.specs.Shape.{Shape}
 use Rattle.struct_schema.specs.Filled.{Filled}
@@ -24,4 +24,4 @@ pub record Given : Type 0 where
       → (x y z : ObjectView) → SettlesAtSpoke all s x y → SettlesAtSpoke all s x z → y ≡ z
   pub left_at_hub : (all : Spokes) (x y z : ObjectView) → SettlesAtHub all x y → SettlesAtHub all x z → y ≡ z
   -- a value has one filling
-  pub filling : (s : Shape) (j k l : Json) → IsSound k → IsSound l → Filled s j k → Filled s j l → k ≡ l
+  pub filling : (s : Shape) (j k l : Json) → IsSoundJson k → IsSoundJson l → Filled s j k → Filled s j l → k ≡ l

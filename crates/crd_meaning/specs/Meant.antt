@@ -5,7 +5,7 @@ use Rattle.api_calls.specs.declared.flags.Flags.{Flags}
 use Rattle.crd_meaning.specs.Definition.{Definition, count_of, version_at, opening_of}
 use Rattle.crd_meaning.specs.Objects.{IsWholeValue, IsFormAt}
 use Rattle.crd_meaning.specs.Admission.{Admits}
-use Rattle.crd_meaning.specs.Refusal.{Refuses}
+use Rattle.crd_meaning.specs.Refusal.{RefusesRequest}
 
 -- what bodies say of flags and of stored versions, and how the definition is shown
 pub record Settings : Type 1 where
@@ -30,7 +30,7 @@ meaning_of d o = record {
   whole = IsWholeValue d;
   pair = IsFormAt d;
   admits = Admits d;
-  refuses = Refuses d;
+  refuses = RefusesRequest d;
   sets = o.sets;
   refuses_flags = o.refuses_flags;
   keeps = o.keeps;

@@ -1,7 +1,7 @@
 -- Which objects are whole at the hub, and which object of each version is one with them.
 use Rattle.std.specs.Prelude.{◌≡◌, ◌≤◌, ℕ, ◌+◌, None}
 use Rattle.kj_value.specs.Json.{list, items_of, depth}
-use Rattle.kj_value.specs.Sound.{AreSound}
+use Rattle.kj_value.specs.Sound.{AreSoundItems}
 use Rattle.kj_value.specs.Fields.{AreInOrder}
 use Rattle.kube_meta.specs.View.{MetaView, ObjectView}
 use Rattle.object_reading.specs.Keeping.{KeepsRules}
@@ -17,7 +17,7 @@ use Rattle.crd_meaning.specs.Definition.{Definition, Seat, at_hub, at_spoke, now
 -- deep
 pub record IsMeta (m : MetaView) : Type 0 where
   pub labels : AreInOrder m.labels
-  pub owners : AreSound (items_of m.owners)
+  pub owners : AreSoundItems (items_of m.owners)
   pub levels : 2 + depth (list (items_of m.owners)) ≤ OBJECT_LEVELS
 
 -- a hub value: its body is valid and filled, each reserved annotation keeps entries that are all alive, and the metadata

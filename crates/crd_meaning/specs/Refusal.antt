@@ -3,7 +3,7 @@
 use Rattle.std.specs.Prelude.{◌≡◌, ℕ, ◌++◌, List, Option, Some, option_map, codes}
 use Rattle.kj_value.specs.Json.{Json, object, members_of}
 use Rattle.kj_value.specs.Reading.{Reads}
-use Rattle.kj_value.specs.Fault.{IsRefused}
+use Rattle.kj_value.specs.Fault.{IsRefusedJson}
 use Rattle.kj_value.specs.Fields.{Pairs}
 use Rattle.kj_value.specs.declared.reading.JsonFault.TheVariants.{NotJson, TooDeep, NotWhole}
 use Rattle.kj_value.specs.declared.rule.Rule.TheVariants as rule
@@ -22,9 +22,9 @@ use Rattle.crd_meaning.specs.Admission.{schema_of, IsFilling, Passes, IsUnread, 
 -- ---- the bytes are no value of at most 64 levels whose numbers are whole
 
 abbrev pub IsNoValue : Request → Fault → Type 0
-IsNoValue r (bad_request not_json) = IsRefused r.bytes OBJECT_LEVELS NotJson
-IsNoValue r (bad_request too_deep) = IsRefused r.bytes OBJECT_LEVELS TooDeep
-IsNoValue r (bad_request not_whole) = IsRefused r.bytes OBJECT_LEVELS NotWhole
+IsNoValue r (bad_request not_json) = IsRefusedJson r.bytes OBJECT_LEVELS NotJson
+IsNoValue r (bad_request too_deep) = IsRefusedJson r.bytes OBJECT_LEVELS TooDeep
+IsNoValue r (bad_request not_whole) = IsRefusedJson r.bytes OBJECT_LEVELS NotWhole
 IsNoValue r (bad_request not_object) = ⊥
 IsNoValue r (bad_request wrong_version) = ⊥
 IsNoValue r (bad_request wrong_kind) = ⊥
@@ -86,9 +86,9 @@ pub record IsTooLarge (d : Definition) (r : Request) (f : Fault) : Type 0 where
 
 -- ---- one of these
 
-pub data Refuses (d : Definition) (r : Request) (f : Fault) : Type 0 where
-  no_value : IsNoValue r f → Refuses d r f
-  is_early : IsEarly d r f → Refuses d r f
-  is_broken : IsBroken d r f → Refuses d r f
-  badly_kept : IsBadlyKept d r f → Refuses d r f
-  too_large : IsTooLarge d r f → Refuses d r f
+pub data RefusesRequest (d : Definition) (r : Request) (f : Fault) : Type 0 where
+  no_value : IsNoValue r f → RefusesRequest d r f
+  is_early : IsEarly d r f → RefusesRequest d r f
+  is_broken : IsBroken d r f → RefusesRequest d r f
+  badly_kept : IsBadlyKept d r f → RefusesRequest d r f
+  too_large : IsTooLarge d r f → RefusesRequest d r f

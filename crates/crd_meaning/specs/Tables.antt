@@ -1,20 +1,20 @@
 -- The values that tables list are JSON values: their numbers have 64 bits, and the names of their objects rise.
 use Rattle.std.specs.Prelude.{List, [], ◌∷◌}
 use Rattle.kj_value.specs.Json.{Json}
-use Rattle.kj_value.specs.Sound.{IsSound}
+use Rattle.kj_value.specs.Sound.{IsSoundJson}
 use Rattle.hub_cells.specs.Cell.{Kind, same, spoke_only, hub_only, split, table, scale}
 use Rattle.hub_cells.specs.Level.{Cell, Level, level, Inners, no_inner, inner}
 
 abbrev pub AreSoundPairs : List (Json × Json) → Type 0
 AreSoundPairs [] = Unit {0}
-AreSoundPairs (p ∷ ps) = IsSound p.0 × IsSound p.1 × AreSoundPairs ps
+AreSoundPairs (p ∷ ps) = IsSoundJson p.0 × IsSoundJson p.1 × AreSoundPairs ps
 
 abbrev pub IsSoundKind : Kind → Type 0
 IsSoundKind same = Unit {0}
 IsSoundKind spoke_only = Unit {0}
 IsSoundKind hub_only = Unit {0}
 IsSoundKind split = Unit {0}
-IsSoundKind (table ps x y) = AreSoundPairs ps × IsSound x × IsSound y
+IsSoundKind (table ps x y) = AreSoundPairs ps × IsSoundJson x × IsSoundJson y
 IsSoundKind (scale k) = Unit {0}
 
 abbrev pub AreSoundCells : List Cell → Type 0

@@ -16,7 +16,7 @@ ghost use Rattle.crd_meaning.specs.Definition.{Definition, IsLoaded, count_of, s
 ghost use Rattle.crd_meaning.specs.Objects.{IsWholeValue};
 ghost use Rattle.crd_meaning.specs.Request.{IsTaken};
 ghost use Rattle.crd_meaning.specs.Admission.{own_name, schema_of, IsFilling, IsHubOf};
-ghost use Rattle.crd_meaning.specs.Refusal.{Refuses};
+ghost use Rattle.crd_meaning.specs.Refusal.{RefusesRequest};
 ghost use Rattle.crd_meaning.specs.Meant.{meant};
 ghost use Rattle.crd_meaning.specs.Given.{Given};
 
@@ -76,7 +76,7 @@ pub fn admitting()
 pub fn one_cause()
     ensures { (d : Definition) → IsLoaded d → (r : Request)
         → ((x : ObjectView) (e : Option ℕ) → IsTaken d r x e → (k : Pairs) × IsFilling (schema_of d r) x.body k)
-        → (f g : Fault) → Refuses d r f → Refuses d r g → f ≡ g }
+        → (f g : Fault) → RefusesRequest d r f → RefusesRequest d r g → f ≡ g }
 {
     known();
 }

@@ -4,7 +4,7 @@ use Rattle.std.specs.Prelude.{nat_eq}
 use Rattle.std.specs.Str.{bytes_eq}
 use Rattle.std.proofs.lemmas.Slice.Eq.{bytes_eq-Decides}
 use Rattle.kj_value.specs.Json.{Json, Items, no_items, item}
-use Rattle.kj_value.specs.Sound.{IsSound}
+use Rattle.kj_value.specs.Sound.{IsSoundJson}
 use Rattle.struct_schema.specs.Fault.{or_else, unless}
 use Rattle.schema_reading.specs.Visit as schema
 use Rattle.schema_reading.specs.Visits as schemas
@@ -76,7 +76,7 @@ accepted law j h =
       schemas = have law 0 (version_items j) v.1;
     }
 
-pub unrefused : ((j : Json) → IsSchema j → schemas.first_refusal j ≡ None) → (j : Json) → IsSound j → IsDefinition j → first_refusal j ≡ None
+pub unrefused : ((j : Json) → IsSchema j → schemas.first_refusal j ≡ None) → (j : Json) → IsSoundJson j → IsDefinition j → first_refusal j ≡ None
 unfolding first_refusal
 unrefused law j s d =
     none_of (refusal Document j) (or_else (compared_refusal j) (schemas_refusal 0 (version_items j))) (unrefused_value Document j s d.stands)

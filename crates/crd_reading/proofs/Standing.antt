@@ -4,7 +4,7 @@ use Rattle.std.specs.Prelude.{is_some}
 use Rattle.std.specs.Cmp.Lexicographic.{slice_cmp}
 use Rattle.std.proofs.lemmas.Bool.{false≢true}
 use Rattle.kj_value.specs.Json.{Json, null, boolean, whole, text, list, object, Items, no_items, item, Members, no_members, member}
-use Rattle.kj_value.specs.Sound.{IsSound, AreSound, AreRising}
+use Rattle.kj_value.specs.Sound.{IsSoundJson, AreSoundItems, AreRising}
 use Rattle.struct_schema.specs.Names.{value_at}
 use Rattle.struct_schema.specs.Fault.{or_else}
 use Rattle.schema_reading.specs.Visits.{is_below}
@@ -88,7 +88,7 @@ nothing_there : (o : Option Json) → o ≡ None → is_some o ≡ true → ⊥
 nothing_there o e h = false≢true (sym (ap is_some e) ∙ h)
 
 mutual
-  pub unrefused_value : (p : Place) (j : Json) → IsSound j → stands p j ≡ true → refusal p j ≡ None
+  pub unrefused_value : (p : Place) (j : Json) → IsSoundJson j → stands p j ≡ true → refusal p j ≡ None
   unrefused_value p null s h = passed (is_allowed p null) (refused_here (blame p)) None h refl
   unrefused_value p (boolean b) s h = passed (is_allowed p (boolean b)) (refused_here (blame p)) None h refl
   unrefused_value p (whole z) s h = passed (is_allowed p (whole z)) (refused_here (blame p)) None h refl
@@ -100,7 +100,7 @@ mutual
       let u = both (is_allowed p (object ms)) (cond (has_names p) (has_rows (rows p) ms && each_stands p ms) true) h in
       passed (is_allowed p (object ms)) (refused_here (blame p)) (cond (has_names p) (fields_refusal p [] ms) None) u.0 (unguarded (has_names p) (fields_refusal p [] ms) (has_rows (rows p) ms && each_stands p ms) u.1 (λ k. unrefused_fields p [] ms s (empty_leads ms) (λ r i q b. there_rows ms (rows p) (both (has_rows (rows p) ms) (each_stands p ms) k).0 r i q) (both (has_rows (rows p) ms) (each_stands p ms) k).1))
 
-  unrefused_items : (i : ℕ) (js : Items) → AreSound js → all_stand js ≡ true → items_refusal VersionObject i js ≡ None
+  unrefused_items : (i : ℕ) (js : Items) → AreSoundItems js → all_stand js ≡ true → items_refusal VersionObject i js ≡ None
   unrefused_items i no_items s h = refl
   unrefused_items i (item j js) s h =
       let u = both (stands VersionObject j) (all_stand js) h in

@@ -6,10 +6,10 @@ use Rattle.crd_reading.specs.declared.reading.DefinitionFault.{DefinitionFault}
 use Rattle.crd_reading.specs.declared.reading.DefinitionFault.TheVariants.{Refused, NoMemory}
 
 -- the path and the word of a refusal; want of memory may come anywhere
-abbrev pub Names : Option Refusal → DefinitionFault → Type 0
-Names o NoMemory = Unit {0}
-Names None (Refused path word) = ⊥
-Names (Some r) (Refused path word) = (path.bytes ≡ r.path.text) × (word.bytes ≡ r.why)
+abbrev pub NamesDefinitionFault : Option Refusal → DefinitionFault → Type 0
+NamesDefinitionFault o NoMemory = Unit {0}
+NamesDefinitionFault None (Refused path word) = ⊥
+NamesDefinitionFault (Some r) (Refused path word) = (path.bytes ≡ r.path.text) × (word.bytes ≡ r.why)
 
 -- ---- for private clauses
 

@@ -12,7 +12,7 @@ abbrev pub HaveOwnDefaults : List VersionView → Type 0
 HaveOwnDefaults [] = Unit {0}
 HaveOwnDefaults (v ∷ vs) = HasOwnDefaults v.schema × HaveOwnDefaults vs
 
-pub record IsWhole (d : DefinitionView) : Type 0 where
+pub record IsWholeDefinition (d : DefinitionView) : Type 0 where
   pub spelled : (j : Json) × IsDefinition j × (definition_read j ≡ d)
   pub offered : AreOffered d.versions
   pub least : MIN_VERSIONS ≤ length d.versions

@@ -2,7 +2,7 @@
 ghost use Rattle.std.specs.Prelude.{◌≡◌, map};
 ghost use Rattle.kj_value.specs.Seen.{json};
 ghost use Rattle.crd_reading.specs.Seen.{version_of};
-ghost use Rattle.crd_reading.specs.Whole.{IsWhole};
+ghost use Rattle.crd_reading.specs.Whole.{IsWholeDefinition};
 
 use kj_value::{JVal, Txt};
 use std::marker::Model;
@@ -35,7 +35,7 @@ impl Model for Definition {
     ghost use Rattle.crd_reading.specs.View.{DefinitionView};
     ghost use Rattle.crd_reading.specs.ViewCode.{definition_code};
     ghost use Rattle.crd_reading.specs.Seen.{version_of};
-    ghost use Rattle.crd_reading.specs.Whole.{IsWhole};
+    ghost use Rattle.crd_reading.specs.Whole.{IsWholeDefinition};
 
     ghost Value = { DefinitionView };
 
@@ -50,7 +50,7 @@ impl Model for Definition {
       spec = json d.spec;
     } };
 
-    ghost invariant = { λ d. IsWhole (record {
+    ghost invariant = { λ d. IsWholeDefinition (record {
       group = d.group.bytes;
       plural = d.plural.bytes;
       kind = d.kind.bytes;
@@ -69,7 +69,7 @@ impl Definition {
         versions: Vec<Version>,
         spec: JVal,
     ) -> Definition
-        requires { IsWhole (record {
+        requires { IsWholeDefinition (record {
           group = group.bytes;
           plural = plural.bytes;
           kind = kind.bytes;
@@ -127,7 +127,7 @@ impl Definition {
     /// The versions in the order of `spec.versions`.
     pub fn versions(&self) -> &[Version]
         ensures value { map version_of result.now ≡ self.now.versions }
-        ensures whole { IsWhole self.now }
+        ensures whole { IsWholeDefinition self.now }
     {
         self.versions.as_slice()
     }

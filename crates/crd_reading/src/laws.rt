@@ -1,14 +1,14 @@
 //! The law of what is accepted. The function does nothing, and its clauses are the law.
 ghost use Rattle.std.specs.Prelude.{◌≡◌, None};
 ghost use Rattle.kj_value.specs.Json.{Json};
-ghost use Rattle.kj_value.specs.Sound.{IsSound};
+ghost use Rattle.kj_value.specs.Sound.{IsSoundJson};
 ghost use Rattle.crd_reading.specs.Accepted.{IsDefinition};
 ghost use Rattle.crd_reading.specs.First.{first_refusal};
 
 /// Nothing of a document is refused exactly where it is a definition, which is said with no order in it.
 pub fn accepts()
     ensures is_definition { (j : Json) → first_refusal j ≡ None → IsDefinition j }
-    ensures is_read { (j : Json) → IsSound j → IsDefinition j → first_refusal j ≡ None }
+    ensures is_read { (j : Json) → IsSoundJson j → IsDefinition j → first_refusal j ≡ None }
 {
     schema_reading::accepts();
 }

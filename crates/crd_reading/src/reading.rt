@@ -6,9 +6,9 @@ ghost use Rattle.struct_schema.specs.Names.{value_at};
 ghost use Rattle.crd_reading.specs.Words.{spelled};
 ghost use Rattle.crd_reading.specs.Seen.{version_of};
 ghost use Rattle.crd_reading.specs.Spelled.{or_null, spec_in, list_kind_read, definition_read};
-ghost use Rattle.crd_reading.specs.Whole.{HaveOwnDefaults, IsWhole};
+ghost use Rattle.crd_reading.specs.Whole.{HaveOwnDefaults, IsWholeDefinition};
 ghost use Rattle.crd_reading.specs.First.{first_refusal};
-ghost use Rattle.crd_reading.specs.Told.{Names, refused_in};
+ghost use Rattle.crd_reading.specs.Told.{NamesDefinitionFault, refused_in};
 
 use crate::comparing::compare;
 use crate::definition::{Definition, Version};
@@ -115,14 +115,14 @@ fn into_spec(doc: JVal) -> JVal
 fn whole(doc: &JVal)
     requires allowed { first_refusal (json doc.now) ≡ None }
     requires own_defaults { HaveOwnDefaults (definition_read (json doc.now)).versions }
-    ensures { IsWhole (definition_read (json doc.now)) }
+    ensures { IsWholeDefinition (definition_read (json doc.now)) }
 {
     accepts();
 }
 
 fn definition(alloc: Global, doc: JVal, versions: Vec<Version>) -> Result<Definition, NoMemory>
     requires read { map version_of versions.items ≡ (definition_read (json doc)).versions }
-    requires whole { IsWhole (definition_read (json doc)) }
+    requires whole { IsWholeDefinition (definition_read (json doc)) }
     ensures { IfOk result (λ d. d ≡ definition_read (json doc)) }
 {
     let group = Txt::of(alloc, text_in(inside(spec_in(&doc), Word::Group)))?;
@@ -145,7 +145,7 @@ fn definition(alloc: Global, doc: JVal, versions: Vec<Version>) -> Result<Defini
 pub fn read_definition(alloc: Global, doc: JVal) -> Result<Definition, DefinitionFault>
     ensures read { IfOk result (λ d. d ≡ definition_read (json doc)) }
     ensures allowed { OnOk result (first_refusal (json doc) ≡ None) }
-    ensures refused { IfErr result (λ e. Names (first_refusal (json doc)) e) }
+    ensures refused { IfErr result (λ e. NamesDefinitionFault (first_refusal (json doc)) e) }
 {
     match try_document(alloc, &doc)? {
         Err(found) => Err(DefinitionFault::Refused {

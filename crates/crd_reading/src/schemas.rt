@@ -6,7 +6,7 @@ ghost use Rattle.struct_schema.specs.ShapeOf.{shape_of};
 ghost use Rattle.struct_schema.specs.OwnDefaults.{HasOwnDefaults};
 ghost use Rattle.schema_reading.specs.ShapeRead.{shape_read};
 ghost use Rattle.schema_reading.specs.Visits.{first_refusal};
-ghost use Rattle.schema_reading.specs.Told.{Names};
+ghost use Rattle.schema_reading.specs.Told.{NamesSchemaFault};
 ghost use Rattle.crd_reading.specs.Seen.{version_of};
 ghost use Rattle.crd_reading.specs.Spelled.{or_null, schema_in, version_read, versions_read};
 ghost use Rattle.crd_reading.specs.Whole.{HaveOwnDefaults};
@@ -48,7 +48,7 @@ fn read_given(alloc: Global, v: Option<&JVal>) -> Result<Schema, SchemaFault>
     ensures allowed { OnOk result
         (first_refusal (or_null (option_map (λ w. json w.now) v.entry)) ≡ None) }
     ensures refused { IfErr result (λ e.
-        Names (first_refusal (or_null (option_map (λ w. json w.now) v.entry))) e) }
+        NamesSchemaFault (first_refusal (or_null (option_map (λ w. json w.now) v.entry))) e) }
 {
     match v {
         None => read_schema(alloc, &JVal::Null),

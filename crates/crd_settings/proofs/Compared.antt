@@ -18,7 +18,7 @@ use Rattle.api_calls.specs.declared.flags.Flags.{Flags}
 use Rattle.crd_reading.specs.View.{DefinitionView}
 use Rattle.crd_reading.specs.Offered.{storages, some_served}
 use Rattle.crd_reading.specs.Spelled.{items_in, versions_read}
-use Rattle.crd_reading.specs.Whole.{IsWhole}
+use Rattle.crd_reading.specs.Whole.{IsWholeDefinition}
 use Rattle.crd_settings.specs.Flags.{IsOwnSpec, at_name, flags_of, flagged, version_with, list_with, mark_in, spec_fields, spec_value, spec_with, versions_given, versions_name, versions_with}
 use Rattle.crd_settings.specs.declared.parts.Mark.{Mark}
 use Rattle.crd_settings.proofs.Marks.{own_versions}
@@ -100,7 +100,7 @@ length-spec m (object ms) = by (value_at versions_name ms) (value_at versions_na
     by None p is = rw is refl
     by (Some j) p is = length-list m (Some j) p (λ i e. (let same : j ≡ i = cc in is ∙ ap (λ (x : Json). Some (list_with m x)) same)) (λ e. absurd cc)
 
-pub length-own : (d : DefinitionView) (given : Option Json) → IsWhole d → IsOwnSpec d given → length (versions_given given) ≡ length d.versions
+pub length-own : (d : DefinitionView) (given : Option Json) → IsWholeDefinition d → IsOwnSpec d given → length (versions_given given) ≡ length d.versions
 length-own d given w own =
     ap (λ (o : Option Json). length (versions_given o)) own
     ∙ (length-spec (mark_in (versions_given given)) d.spec ∙ ap length (own_versions d w))
@@ -125,16 +125,16 @@ length-items : (js : List JVal) → length (versions_read (items_of (map json js
 length-items [] = refl
 length-items (j ∷ js) = ap suc (length-items js)
 
-count-own : (d : DefinitionView) (given : Option Json) (items : List JVal) → IsWhole d → IsOwnSpec d given
+count-own : (d : DefinitionView) (given : Option Json) (items : List JVal) → IsWholeDefinition d → IsOwnSpec d given
     → items_of (map json items) ≡ items_in (at_name versions_name given) → length (versions_read (items_of (map json items))) ≡ length d.versions
 count-own d given items w own same = ap (λ (is : Items). length (versions_read is)) same ∙ length-own d given w own
 
-pub few-own : (d : DefinitionView) (given : Option Json) (items : List JVal) → IsWhole d → IsOwnSpec d given
+pub few-own : (d : DefinitionView) (given : Option Json) (items : List JVal) → IsWholeDefinition d → IsOwnSpec d given
     → items_of (map json items) ≡ items_in (at_name versions_name given) → length items ≤ 8
 few-own d given items w own same =
     omega (arith, length-items items, count-own d given items w own same, w.most)
 
-pub legal-own : (d : DefinitionView) (given : Option Json) (items : List JVal) (f : Flags) → IsWhole d → IsOwnSpec d given
+pub legal-own : (d : DefinitionView) (given : Option Json) (items : List JVal) (f : Flags) → IsWholeDefinition d → IsOwnSpec d given
     → items_of (map json items) ≡ items_in (at_name versions_name given) → f ≡ flags_of (versions_read (items_of (map json items)))
     → storages (versions_read (items_of (map json items))) ≡ 1 → some_served (versions_read (items_of (map json items))) ≡ true → AreFlags (length d.versions) f
 legal-own d given items f w own same is one some =
@@ -143,16 +143,16 @@ legal-own d given items f w own same is one some =
     let legal = are_flags (versions_read (items_of (map json items))) few one some in
     subst (λ (g : Flags). AreFlags (length d.versions) g) (sym is) (subst (λ (n : ℕ). AreFlags n (flags_of (versions_read (items_of (map json items))))) count legal)
 
-pub few-loaded : (d : DefinitionView) (items : List JVal) → IsWhole d → items_of (map json items) ≡ items_in (at_name versions_name (Some d.spec)) → length items ≤ 8
+pub few-loaded : (d : DefinitionView) (items : List JVal) → IsWholeDefinition d → items_of (map json items) ≡ items_in (at_name versions_name (Some d.spec)) → length items ≤ 8
 few-loaded d items w same =
     let count = ap (λ (is : Items). length (versions_read is)) same ∙ ap length (own_versions d w) in
     omega (arith, length-items items, count, w.most)
 
-pub flags-loaded : (d : DefinitionView) (items : List JVal) → IsWhole d → items_of (map json items) ≡ items_in (at_name versions_name (Some d.spec))
+pub flags-loaded : (d : DefinitionView) (items : List JVal) → IsWholeDefinition d → items_of (map json items) ≡ items_in (at_name versions_name (Some d.spec))
     → flags_of (versions_read (items_of (map json items))) ≡ flags_of d.versions
 flags-loaded d items w same = ap (λ (is : Items). flags_of (versions_read is)) same ∙ ap flags_of (own_versions d w)
 
-pub legal-loaded : (d : DefinitionView) → IsWhole d → AreFlags (length d.versions) (flags_of d.versions)
+pub legal-loaded : (d : DefinitionView) → IsWholeDefinition d → AreFlags (length d.versions) (flags_of d.versions)
 legal-loaded d w = are_flags d.versions w.most w.offered.one_storage w.offered.some_served
 
 -- ---- the loops over two lists

@@ -10,7 +10,7 @@ use Rattle.schema_reading.specs.Kind.{is_yes}
 use Rattle.crd_reading.specs.Words.{spelled}
 use Rattle.crd_reading.specs.View.{VersionView, DefinitionView}
 use Rattle.crd_reading.specs.Spelled.{items_in, or_null, version_read, versions_read, definition_read}
-use Rattle.crd_reading.specs.Whole.{IsWhole}
+use Rattle.crd_reading.specs.Whole.{IsWholeDefinition}
 use Rattle.crd_settings.specs.declared.parts.Mark.{Mark}
 use Rattle.crd_meaning.specs.Definition.{no_version}
 use Rattle.crd_settings.specs.Flags.{at_name, mark_in, served_name, storage_name, versions_name, version_in, versions_given}
@@ -80,6 +80,6 @@ own_read (object ms) = by (value_at (codes "spec") ms)
     by None = refl
     by (Some j) = refl
 
-pub own_versions : (d : DefinitionView) → IsWhole d → versions_given (Some d.spec) ≡ d.versions
+pub own_versions : (d : DefinitionView) → IsWholeDefinition d → versions_given (Some d.spec) ≡ d.versions
 own_versions d w =
     subst (λ (x : DefinitionView). versions_given (Some x.spec) ≡ x.versions) w.spelled.2 (own_read w.spelled.0)

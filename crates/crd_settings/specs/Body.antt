@@ -3,9 +3,9 @@ use Rattle.std.specs.Prelude.{◌≡◌, ◌≢◌, ◌⊎◌, ℕ, List, Bool, 
 use Rattle.kj_value.specs.Json.{Json, object, text, members_of}
 use Rattle.kj_value.specs.Fields.{Pairs, field}
 use Rattle.kj_value.specs.Reading.{Reads}
-use Rattle.kj_value.specs.Fault.{IsRefused}
+use Rattle.kj_value.specs.Fault.{IsRefusedJson}
 use Rattle.kj_value.specs.declared.reading.JsonFault.TheVariants.{NotJson, TooDeep, NotWhole}
-use Rattle.kj_value.specs.declared.reading.TheConstants.{MAX_LEVELS}
+use Rattle.kj_value.specs.declared.reading.TheConstants.{MAX_JSON_LEVELS}
 use Rattle.kj_value.specs.declared.rule.Rule.{Rule}
 use Rattle.schema_reading.specs.Allowed.{is_text}
 use Rattle.api_calls.specs.Cause.{WhyView, cause_of, not_json, too_deep, not_whole, not_object, wrong_version, wrong_kind, wrong_namespace, wrong_name, bad_query, bad_token, bad_options}
@@ -17,15 +17,15 @@ use Rattle.crd_reading.specs.Words.{api_version, document_kind}
 
 -- the body is an object with these fields
 abbrev pub ReadsObject : List ℕ → Pairs → Type 0
-ReadsObject body fields = Reads body MAX_LEVELS (object (members_of fields))
+ReadsObject body fields = Reads body MAX_JSON_LEVELS (object (members_of fields))
 
 -- why the body is no object
 abbrev pub IsNoObject : List ℕ → WhyView → Type 0
-IsNoObject body not_json = IsRefused body MAX_LEVELS NotJson
-IsNoObject body too_deep = IsRefused body MAX_LEVELS TooDeep
-IsNoObject body not_whole = IsRefused body MAX_LEVELS NotWhole
+IsNoObject body not_json = IsRefusedJson body MAX_JSON_LEVELS NotJson
+IsNoObject body too_deep = IsRefusedJson body MAX_JSON_LEVELS TooDeep
+IsNoObject body not_whole = IsRefusedJson body MAX_JSON_LEVELS NotWhole
 IsNoObject body not_object =
-    (j : Json) × Reads body MAX_LEVELS j × ((fields : Pairs) → j ≢ object (members_of fields))
+    (j : Json) × Reads body MAX_JSON_LEVELS j × ((fields : Pairs) → j ≢ object (members_of fields))
 IsNoObject body wrong_version = ⊥
 IsNoObject body wrong_kind = ⊥
 IsNoObject body wrong_namespace = ⊥

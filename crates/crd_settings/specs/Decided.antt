@@ -6,7 +6,7 @@ use Rattle.std.specs.List.{IsDistinct}
 use Rattle.std.specs.Str.{bytes_eq}
 use Rattle.kj_value.specs.Json.{Json, null, boolean, whole, text, list, object, Items, no_items, item, Members, no_members, member, items_of, members_of}
 use Rattle.kj_value.specs.Fields.{Pairs, field}
-use Rattle.kj_value.specs.declared.reading.TheConstants.{MAX_LEVELS}
+use Rattle.kj_value.specs.declared.reading.TheConstants.{MAX_JSON_LEVELS}
 use Rattle.kj_value.specs.declared.rule.Rule.TheVariants.{Immutable, Storage, Served, Kind, Required, Unknown}
 use Rattle.api_calls.specs.Cause.{CauseView, WhyView, not_json, too_deep, not_whole, not_object, wrong_version, wrong_kind, wrong_namespace, wrong_name, bad_query, bad_token, bad_options}
 use Rattle.api_calls.specs.Meaning.{Fault, bad_request, invalid}
@@ -22,7 +22,7 @@ use Rattle.crd_reading.specs.Offered.{storages, some_served}
 use Rattle.crd_settings.specs.Body.{ReadsObject, IsNoObject, IsOtherKind, IsDocument}
 use Rattle.crd_settings.specs.Flags.{flags_of, versions_given, IsOwnSpec}
 use Rattle.crd_settings.specs.Setting.{SetsBySpec, spec_path, versions_path, BreaksSpec, another, not_one_storage, none_served, Sets, RefusesFlags}
-use Rattle.crd_settings.specs.Keeping.{stored_given, AreNames, are_versions, places_named, KeepsNamed, stored_path, BreaksStored, other_shape, none, no_version, Keeps, RefusesKeep}
+use Rattle.crd_settings.specs.Keeping.{stored_given, AreNames, are_versions, places_named, KeepsNamed, stored_path, BreaksStored, other_shape, none, no_version, KeepsVersions, RefusesKeep}
 
 -- ---- fields and names of a value
 
@@ -66,7 +66,7 @@ true_false b p q = let e : true ≡ false = sym p ∙ q in cc
 
 no_object_faulty : (body : List ℕ) (P : Json → Fault → Type 0)
     → ((j : Json) → ((fields : Pairs) → j ≢ object (members_of fields)) → P j (bad_request not_object))
-    → (w : WhyView) → IsNoObject body w → IsFaulty body MAX_LEVELS P (bad_request w)
+    → (w : WhyView) → IsNoObject body w → IsFaulty body MAX_JSON_LEVELS P (bad_request w)
 no_object_faulty body P other not_json r = record { finding = reading.not_json; finds = r; follows = refl }
 no_object_faulty body P other too_deep r = record { finding = reading.too_deep; finds = r; follows = refl }
 no_object_faulty body P other not_whole r = record { finding = reading.not_whole; finds = r; follows = refl }
@@ -81,18 +81,18 @@ no_object_faulty body P other bad_options r = absurd r
 
 -- a body is decided where it is no object, and where it is an object of some fields
 body_decided : (body : List ℕ) → ((w : WhyView) → IsNoObject body w → ⊥) → ((fields : Pairs) → ReadsObject body fields → ⊥) → ⊥
-body_decided body never object_never = some_finding body MAX_LEVELS by_finding
+body_decided body never object_never = some_finding body MAX_JSON_LEVELS by_finding
   where
-    by_value : (j : Json) → Finds body MAX_LEVELS (reading.value j) → ⊥
+    by_value : (j : Json) → Finds body MAX_JSON_LEVELS (reading.value j) → ⊥
     by_value null r = never not_object (null, r, λ fields e. cc)
     by_value (boolean b) r = never not_object (boolean b, r, λ fields e. cc)
     by_value (whole z) r = never not_object (whole z, r, λ fields e. cc)
     by_value (text s) r = never not_object (text s, r, λ fields e. cc)
     by_value (list js) r = never not_object (list js, r, λ fields e. cc)
     by_value (object ms) r =
-        object_never (fields_of ms) (subst (λ (ns : Members). Finds body MAX_LEVELS (reading.value (object ns))) (sym (members_back ms)) r)
+        object_never (fields_of ms) (subst (λ (ns : Members). Finds body MAX_JSON_LEVELS (reading.value (object ns))) (sym (members_back ms)) r)
 
-    by_finding : (v : Finding) → Finds body MAX_LEVELS v → ⊥
+    by_finding : (v : Finding) → Finds body MAX_JSON_LEVELS v → ⊥
     by_finding reading.not_json r = never not_json r
     by_finding reading.too_deep r = never too_deep r
     by_finding reading.not_whole r = never not_whole r
@@ -117,7 +117,7 @@ data KeepFault (d : DefinitionView) (j : Json) (f : Fault) : Type 0 where
 module _ (d : DefinitionView) where
   -- ---- flags
 
-  other_kind_faulty : (body : List ℕ) (w : WhyView) → IsOtherKind body w → IsFaulty body MAX_LEVELS (FlagsFault d) (bad_request w)
+  other_kind_faulty : (body : List ℕ) (w : WhyView) → IsOtherKind body w → IsFaulty body MAX_JSON_LEVELS (FlagsFault d) (bad_request w)
   other_kind_faulty body not_json r = absurd r
   other_kind_faulty body too_deep r = absurd r
   other_kind_faulty body not_whole r = absurd r
@@ -132,7 +132,7 @@ module _ (d : DefinitionView) where
   other_kind_faulty body bad_token r = absurd r
   other_kind_faulty body bad_options r = absurd r
 
-  flags_faulty : (body : List ℕ) (f : Fault) → RefusesFlags d body f → IsFaulty body MAX_LEVELS (FlagsFault d) f
+  flags_faulty : (body : List ℕ) (f : Fault) → RefusesFlags d body f → IsFaulty body MAX_JSON_LEVELS (FlagsFault d) f
   flags_faulty body (bad_request w) (inl r) = no_object_faulty body (FlagsFault d) (λ j other. is_other other refl) w r
   flags_faulty body (bad_request w) (inr r) = other_kind_faulty body w r
   flags_faulty body (invalid name cause) r = record {
@@ -190,11 +190,11 @@ module _ (d : DefinitionView) where
 
   sets_one : (body : List ℕ) (f g : Flags) → Sets d body f → Sets d body g → f ≡ g
   sets_one body f g a b =
-      let same = one_fields a.fields b.fields (one_json body MAX_LEVELS _ _ a.document.reads b.document.reads) in
+      let same = one_fields a.fields b.fields (one_json body MAX_JSON_LEVELS _ _ a.document.reads b.document.reads) in
       a.sets.flags ∙ ap (λ (es : Pairs). flags_of (versions_given (field (codes "spec") es))) same ∙ sym b.sets.flags
 
   sets_excludes : (body : List ℕ) (f : Flags) (g : Fault) → Sets d body f → RefusesFlags d body g → ⊥
-  sets_excludes body f g s r = by (told_of body MAX_LEVELS (FlagsFault d) (object (members_of s.fields)) g s.document.reads (flags_faulty body g r))
+  sets_excludes body f g s r = by (told_of body MAX_JSON_LEVELS (FlagsFault d) (object (members_of s.fields)) g s.document.reads (flags_faulty body g r))
     where
       by : FlagsFault d (object (members_of s.fields)) g → ⊥
       by (is_other n p) = n s.fields refl
@@ -234,14 +234,14 @@ module _ (d : DefinitionView) where
   pub decides_flags : DecidesBodies Flags (Sets d) (RefusesFlags d)
   decides_flags = record {
     one = sets_one;
-    one_fault = λ body f g a b. one_fault body MAX_LEVELS (FlagsFault d) one_flags_fault f g (flags_faulty body f a) (flags_faulty body g b);
+    one_fault = λ body f g a b. one_fault body MAX_JSON_LEVELS (FlagsFault d) one_flags_fault f g (flags_faulty body f a) (flags_faulty body g b);
     excludes = sets_excludes;
     complete = sets_complete;
   }
 
   -- ---- stored versions
 
-  keep_faulty : (body : List ℕ) (f : Fault) → RefusesKeep d body f → IsFaulty body MAX_LEVELS (KeepFault d) f
+  keep_faulty : (body : List ℕ) (f : Fault) → RefusesKeep d body f → IsFaulty body MAX_JSON_LEVELS (KeepFault d) f
   keep_faulty body (bad_request w) r = no_object_faulty body (KeepFault d) (λ j other. keeps_other other refl) w r
   keep_faulty body (invalid name cause) r = record {
     finding = reading.value (object (members_of r.fields));
@@ -286,14 +286,14 @@ module _ (d : DefinitionView) where
       let same : names ≡ k.first ∷ k.rest = one_names given names (k.first ∷ k.rest) a k.names in
       true_false (are_versions d.versions names) (ap (are_versions d.versions) same ∙ k.known) u
 
-  keeps_one : (body vs ws : List ℕ) → Keeps d body vs → Keeps d body ws → vs ≡ ws
+  keeps_one : (body vs ws : List ℕ) → KeepsVersions d body vs → KeepsVersions d body ws → vs ≡ ws
   keeps_one body vs ws a b =
-      let same = one_fields b.fields a.fields (one_json body MAX_LEVELS _ _ b.reads a.reads) in
+      let same = one_fields b.fields a.fields (one_json body MAX_JSON_LEVELS _ _ b.reads a.reads) in
       let here : KeepsNamed d (stored_given a.fields) ws = subst (λ (es : Pairs). KeepsNamed d (stored_given es) ws) same b.keeps in
       a.keeps.places ∙ ap (places_named d.versions) (one_names (stored_given a.fields) (a.keeps.first ∷ a.keeps.rest) (here.first ∷ here.rest) a.keeps.names here.names) ∙ sym here.places
 
-  keeps_excludes : (body vs : List ℕ) (g : Fault) → Keeps d body vs → RefusesKeep d body g → ⊥
-  keeps_excludes body vs g k r = by (told_of body MAX_LEVELS (KeepFault d) (object (members_of k.fields)) g k.reads (keep_faulty body g r))
+  keeps_excludes : (body vs : List ℕ) (g : Fault) → KeepsVersions d body vs → RefusesKeep d body g → ⊥
+  keeps_excludes body vs g k r = by (told_of body MAX_JSON_LEVELS (KeepFault d) (object (members_of k.fields)) g k.reads (keep_faulty body g r))
     where
       by : KeepFault d (object (members_of k.fields)) g → ⊥
       by (keeps_other n p) = n k.fields refl
@@ -301,7 +301,7 @@ module _ (d : DefinitionView) where
           kept_unbroken (stored_given k.fields) vs c k.keeps
           (subst (λ (es : Pairs). BreaksStored d (stored_given es) c) (one_fields fs k.fields (sym e)) b)
 
-  keeps_complete : (body : List ℕ) → ((vs : List ℕ) → Keeps d body vs → ⊥) → ((f : Fault) → RefusesKeep d body f → ⊥) → ⊥
+  keeps_complete : (body : List ℕ) → ((vs : List ℕ) → KeepsVersions d body vs → ⊥) → ((f : Fault) → RefusesKeep d body f → ⊥) → ⊥
   keeps_complete body never_keeps never_refused =
       body_decided body (λ w r. never_refused (bad_request w) r) (λ fields reads.
       bad fields reads (record { field = stored_path; rule = Kind }) (other_shape (λ names a. by_names fields reads names a) refl))
@@ -322,10 +322,10 @@ module _ (d : DefinitionView) where
       by_names fields reads (first ∷ rest) a =
           by_known fields reads first rest a (are_versions d.versions (first ∷ rest)) refl
 
-  pub decides_keep : DecidesBodies (List ℕ) (Keeps d) (RefusesKeep d)
+  pub decides_keep : DecidesBodies (List ℕ) (KeepsVersions d) (RefusesKeep d)
   decides_keep = record {
     one = keeps_one;
-    one_fault = λ body f g a b. one_fault body MAX_LEVELS (KeepFault d) one_keep_fault f g (keep_faulty body f a) (keep_faulty body g b);
+    one_fault = λ body f g a b. one_fault body MAX_JSON_LEVELS (KeepFault d) one_keep_fault f g (keep_faulty body f a) (keep_faulty body g b);
     excludes = keeps_excludes;
     complete = keeps_complete;
   }

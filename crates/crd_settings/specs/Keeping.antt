@@ -56,7 +56,7 @@ pub data BreaksStored (d : DefinitionView) (given : Option Json) (cause : CauseV
       → cause ≡ record { field = stored_path; rule = Unknown } → BreaksStored d given cause
 
 -- the versions that a body keeps in the stored list; its other fields aren't looked at
-pub record Keeps (d : DefinitionView) (body : List ℕ) (versions : List ℕ) : Type 0 where
+pub record KeepsVersions (d : DefinitionView) (body : List ℕ) (versions : List ℕ) : Type 0 where
   pub fields : Pairs
   pub reads : ReadsObject body fields
   pub keeps : KeepsNamed d (stored_given fields) versions

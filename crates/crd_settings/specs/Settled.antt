@@ -6,14 +6,14 @@ use Rattle.crd_meaning.specs.Definition.{Definition, opening_of}
 use Rattle.crd_meaning.specs.Meant.{Settings}
 use Rattle.crd_settings.specs.Flags.{flags_of}
 use Rattle.crd_settings.specs.Setting.{Sets, RefusesFlags}
-use Rattle.crd_settings.specs.Keeping.{Keeps, RefusesKeep}
+use Rattle.crd_settings.specs.Keeping.{KeepsVersions, RefusesKeep}
 use Rattle.crd_settings.specs.Shown.{shown, show_room}
 
 abbrev pub settings_of : DefinitionView → Settings
 settings_of d = record {
   sets = Sets d;
   refuses_flags = RefusesFlags d;
-  keeps = Keeps d;
+  keeps = KeepsVersions d;
   refuses_keep = RefusesKeep d;
   shown = shown d;
   show_room = show_room d;

@@ -11,7 +11,7 @@ ghost use Rattle.crd_settings.specs.Body.{IsDocument, IsFault, NoDocument, NoObj
 
 use api_calls::{AdmitFault, Cause, Why};
 use crd_reading::Definition;
-use kj_value::{JFields, JVal, JsonFault, MAX_LEVELS, NoMemory, Rule, Txt, read};
+use kj_value::{JFields, JVal, JsonFault, MAX_JSON_LEVELS, NoMemory, Rule, Txt, read};
 use std::alloc::Global;
 
 fn into_fields(v: JVal) -> Option<JFields>
@@ -34,7 +34,7 @@ pub(crate) fn read_object(alloc: Global, bytes: &[u8]) -> Result<JFields, AdmitF
     ensures ok { IfOk result (ReadsObject bytes.now) }
     ensures refused { IfErr result (Refused (NoObject bytes.now) ⊥) }
 {
-    let v = match read(alloc, bytes, MAX_LEVELS) {
+    let v = match read(alloc, bytes, MAX_JSON_LEVELS) {
         Ok(v) => v,
         Err(JsonFault::NotJson) => return Err(AdmitFault::BadRequest(Why::NotJson)),
         Err(JsonFault::TooDeep) => return Err(AdmitFault::BadRequest(Why::TooDeep)),

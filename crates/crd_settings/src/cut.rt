@@ -9,7 +9,7 @@ ghost use Rattle.crd_settings.specs.declared.parts.Mark.{Mark};
 ghost use Rattle.crd_settings.specs.Pieces.{GoesOn, comma_before, cut_text, items_from, members_from, named_text, part_text, parts_text};
 
 use crate::parts::{served_name, storage_name, versions_name};
-use kj_value::{Field, JVal, MAX_LEVELS, NoMemory, Txt, write};
+use kj_value::{Field, JVal, MAX_JSON_LEVELS, NoMemory, Txt, write};
 use std::alloc::Global;
 
 // A piece of the text, or the place where a flag of the version at a place stands.
@@ -71,7 +71,7 @@ pub(crate) fn into_parts(cut: Cut) -> Result<Vec<Part>, NoMemory>
 }
 
 fn with_value(alloc: Global, cut: Cut, v: &JVal) -> Result<Cut, NoMemory>
-    requires { depth (json v.now) ≤ MAX_LEVELS }
+    requires { depth (json v.now) ≤ MAX_JSON_LEVELS }
     ensures { IfOk result (λ after. GoesOn cut after (λ m. text_of (json v.now))) }
 {
     let text = write(alloc, v)?;
@@ -97,7 +97,7 @@ fn with_flag_value(
     name: &str,
     value: &JVal,
 ) -> Result<Cut, NoMemory>
-    requires { depth (json value.now) ≤ MAX_LEVELS }
+    requires { depth (json value.now) ≤ MAX_JSON_LEVELS }
     ensures { IfOk result (λ after. GoesOn cut after (λ m. text_of (flag_value (m v) name.now (json value.now)))) }
 {
     if name == served_name() {
@@ -116,7 +116,7 @@ fn with_flagged_field(
     i: usize,
     field: &Field,
 ) -> Result<Cut, NoMemory>
-    requires { depth (json field.now.value) ≤ MAX_LEVELS }
+    requires { depth (json field.now.value) ≤ MAX_JSON_LEVELS }
     ensures { IfOk result (λ after. GoesOn cut after
         (λ m. named_text i field.now.name.bytes (text_of (flag_value (m v) field.now.name.bytes (json field.now.value))))) }
 {
@@ -128,7 +128,7 @@ fn with_flagged_field(
 // The fields of the version at a place.
 #[tactic(auto, using(kj_value::specs::Inside::field_depth))]
 fn with_flagged(alloc: Global, cut: Cut, v: usize, fields: &[Field]) -> Result<Cut, NoMemory>
-    requires { members_depth (members_of (map pair_of fields.now)) ≤ MAX_LEVELS }
+    requires { members_depth (members_of (map pair_of fields.now)) ≤ MAX_JSON_LEVELS }
     ensures { IfOk result (λ after. GoesOn cut after
         (λ m. members_from 0 (flagged (m v) (members_of (map pair_of fields.now))))) }
 {
@@ -140,7 +140,7 @@ fn with_flagged(alloc: Global, cut: Cut, v: usize, fields: &[Field]) -> Result<C
 }
 
 fn with_version_object(alloc: Global, cut: Cut, v: usize, fields: &[Field]) -> Result<Cut, NoMemory>
-    requires { members_depth (members_of (map pair_of fields.now)) ≤ MAX_LEVELS }
+    requires { members_depth (members_of (map pair_of fields.now)) ≤ MAX_JSON_LEVELS }
     ensures { IfOk result (λ after. GoesOn cut after
         (λ m. text_of (object (flagged (m v) (members_of (map pair_of fields.now)))))) }
 {
@@ -151,7 +151,7 @@ fn with_version_object(alloc: Global, cut: Cut, v: usize, fields: &[Field]) -> R
 }
 
 fn with_version(alloc: Global, cut: Cut, v: usize, version: &JVal) -> Result<Cut, NoMemory>
-    requires { depth (json version.now) ≤ MAX_LEVELS }
+    requires { depth (json version.now) ≤ MAX_JSON_LEVELS }
     ensures { IfOk result (λ after. GoesOn cut after (λ m. text_of (version_with (m v) (json version.now)))) }
 {
     match version {
@@ -165,7 +165,7 @@ fn with_version(alloc: Global, cut: Cut, v: usize, version: &JVal) -> Result<Cut
 }
 
 fn with_version_item(alloc: Global, cut: Cut, v: usize, version: &JVal) -> Result<Cut, NoMemory>
-    requires { depth (json version.now) ≤ MAX_LEVELS }
+    requires { depth (json version.now) ≤ MAX_JSON_LEVELS }
     ensures { IfOk result (λ after. GoesOn cut after
         (λ m. comma_before v ++ text_of (version_with (m v) (json version.now)))) }
 {
@@ -175,7 +175,7 @@ fn with_version_item(alloc: Global, cut: Cut, v: usize, version: &JVal) -> Resul
 
 #[tactic(auto, using(kj_value::specs::Inside::item_depth))]
 fn with_versions(alloc: Global, cut: Cut, versions: &[JVal]) -> Result<Cut, NoMemory>
-    requires { items_depth (items_of (map json versions.now)) ≤ MAX_LEVELS }
+    requires { items_depth (items_of (map json versions.now)) ≤ MAX_JSON_LEVELS }
     ensures { IfOk result (λ after. GoesOn cut after
         (λ m. items_from 0 (versions_with m 0 (items_of (map json versions.now))))) }
 {
@@ -187,7 +187,7 @@ fn with_versions(alloc: Global, cut: Cut, versions: &[JVal]) -> Result<Cut, NoMe
 }
 
 fn with_version_list(alloc: Global, cut: Cut, versions: &[JVal]) -> Result<Cut, NoMemory>
-    requires { items_depth (items_of (map json versions.now)) ≤ MAX_LEVELS }
+    requires { items_depth (items_of (map json versions.now)) ≤ MAX_JSON_LEVELS }
     ensures { IfOk result (λ after. GoesOn cut after
         (λ m. text_of (list (versions_with m 0 (items_of (map json versions.now)))))) }
 {
@@ -200,7 +200,7 @@ fn with_version_list(alloc: Global, cut: Cut, versions: &[JVal]) -> Result<Cut, 
 // ---- `spec`
 
 fn with_list(alloc: Global, cut: Cut, v: &JVal) -> Result<Cut, NoMemory>
-    requires { depth (json v.now) ≤ MAX_LEVELS }
+    requires { depth (json v.now) ≤ MAX_JSON_LEVELS }
     ensures { IfOk result (λ after. GoesOn cut after (λ m. text_of (list_with m (json v.now)))) }
 {
     match v {
@@ -214,7 +214,7 @@ fn with_list(alloc: Global, cut: Cut, v: &JVal) -> Result<Cut, NoMemory>
 }
 
 fn with_spec_value(alloc: Global, cut: Cut, name: &str, value: &JVal) -> Result<Cut, NoMemory>
-    requires { depth (json value.now) ≤ MAX_LEVELS }
+    requires { depth (json value.now) ≤ MAX_JSON_LEVELS }
     ensures { IfOk result (λ after. GoesOn cut after (λ m. text_of (spec_value m name.now (json value.now)))) }
 {
     if name == versions_name() {
@@ -224,7 +224,7 @@ fn with_spec_value(alloc: Global, cut: Cut, name: &str, value: &JVal) -> Result<
 }
 
 fn with_spec_field(alloc: Global, cut: Cut, i: usize, field: &Field) -> Result<Cut, NoMemory>
-    requires { depth (json field.now.value) ≤ MAX_LEVELS }
+    requires { depth (json field.now.value) ≤ MAX_JSON_LEVELS }
     ensures { IfOk result (λ after. GoesOn cut after
         (λ m. named_text i field.now.name.bytes (text_of (spec_value m field.now.name.bytes (json field.now.value))))) }
 {
@@ -235,7 +235,7 @@ fn with_spec_field(alloc: Global, cut: Cut, i: usize, field: &Field) -> Result<C
 
 #[tactic(auto, using(kj_value::specs::Inside::field_depth))]
 fn with_spec_fields(alloc: Global, cut: Cut, fields: &[Field]) -> Result<Cut, NoMemory>
-    requires { members_depth (members_of (map pair_of fields.now)) ≤ MAX_LEVELS }
+    requires { members_depth (members_of (map pair_of fields.now)) ≤ MAX_JSON_LEVELS }
     ensures { IfOk result (λ after. GoesOn cut after
         (λ m. members_from 0 (spec_fields m (members_of (map pair_of fields.now))))) }
 {
@@ -247,7 +247,7 @@ fn with_spec_fields(alloc: Global, cut: Cut, fields: &[Field]) -> Result<Cut, No
 }
 
 fn with_spec_object(alloc: Global, cut: Cut, fields: &[Field]) -> Result<Cut, NoMemory>
-    requires { members_depth (members_of (map pair_of fields.now)) ≤ MAX_LEVELS }
+    requires { members_depth (members_of (map pair_of fields.now)) ≤ MAX_JSON_LEVELS }
     ensures { IfOk result (λ after. GoesOn cut after
         (λ m. text_of (object (spec_fields m (members_of (map pair_of fields.now)))))) }
 {
@@ -259,7 +259,7 @@ fn with_spec_object(alloc: Global, cut: Cut, fields: &[Field]) -> Result<Cut, No
 
 // A definition's `spec`, cut where the flags of its versions stand.
 pub(crate) fn with_spec(alloc: Global, cut: Cut, spec: &JVal) -> Result<Cut, NoMemory>
-    requires { depth (json spec.now) ≤ MAX_LEVELS }
+    requires { depth (json spec.now) ≤ MAX_JSON_LEVELS }
     ensures { IfOk result (λ after. GoesOn cut after (λ m. text_of (spec_with m (json spec.now)))) }
 {
     match spec {

@@ -5,7 +5,7 @@ ghost use Rattle.kj_value.specs.Seen.{json};
 ghost use Rattle.api_calls.specs.Versions.{AreFlags};
 ghost use Rattle.crd_reading.specs.Offered.{storages, some_served};
 ghost use Rattle.crd_reading.specs.Spelled.{versions_read};
-ghost use Rattle.crd_reading.specs.Whole.{IsWhole};
+ghost use Rattle.crd_reading.specs.Whole.{IsWholeDefinition};
 ghost use Rattle.crd_settings.specs.Flags.{flags_of, version_in};
 ghost use Rattle.crd_meaning.specs.Definition.{before_storage};
 
@@ -79,7 +79,7 @@ pub(crate) fn flags_in(items: &[JVal]) -> Flags
 
 // What every definition keeps.
 pub(crate) fn kept(definition: &Definition)
-    ensures { IsWhole definition.now }
+    ensures { IsWholeDefinition definition.now }
 {
     let _ = definition.versions();
 }

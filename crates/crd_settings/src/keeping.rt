@@ -7,7 +7,7 @@ ghost use Rattle.api_calls.specs.Versions.{IsStoredList, Refused, versions_of};
 ghost use Rattle.crd_reading.specs.Offered.{has_version};
 ghost use Rattle.crd_reading.specs.Seen.{version_of};
 ghost use Rattle.crd_reading.specs.Spelled.{text_in};
-ghost use Rattle.crd_settings.specs.Keeping.{Keeps, KeepsNamed, RefusesKeep, RefusesStored, are_versions, do_differ, is_among, is_name_text, names_in, places_named, stored_given};
+ghost use Rattle.crd_settings.specs.Keeping.{KeepsVersions, KeepsNamed, RefusesKeep, RefusesStored, are_versions, do_differ, is_among, is_name_text, names_in, places_named, stored_given};
 
 use crate::body::{broken, read_object};
 use api_calls::{AdmitFault, StoredList};
@@ -197,7 +197,7 @@ pub fn read_keep(
     definition: &Definition,
     bytes: &[u8],
 ) -> Result<StoredList, AdmitFault>
-    ensures ok { IfOk result (λ s. Keeps definition.now bytes.now (versions_of s)) }
+    ensures ok { IfOk result (λ s. KeepsVersions definition.now bytes.now (versions_of s)) }
     ensures legal { IfOk result (IsStoredList (length definition.now.versions)) }
     ensures refused { IfErr result (Refused (RefusesKeep definition.now bytes.now) ⊥) }
 {

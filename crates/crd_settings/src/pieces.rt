@@ -15,7 +15,7 @@ use crate::body::full_name;
 use crate::cut::{Cut, Part, comma_before, into_parts, quoted, with_spec, with_text};
 use api_calls::{Flags, StoredList};
 use crd_reading::{Definition, Version};
-use kj_value::{MAX_LEVELS, NoMemory, Txt};
+use kj_value::{MAX_JSON_LEVELS, NoMemory, Txt};
 use std::alloc::Global;
 
 /// The text of a definition's document, cut where the flags and the stored versions stand, so that the definition is shown with
@@ -61,7 +61,7 @@ fn behind_stored() -> &'static str
 
 // The parts of the document up to the stored versions.
 fn parts(alloc: Global, definition: &Definition) -> Result<Vec<Part>, NoMemory>
-    requires { depth definition.now.spec ≤ MAX_LEVELS }
+    requires { depth definition.now.spec ≤ MAX_JSON_LEVELS }
     ensures { IfOk result (λ parts. (m : ℕ → Mark) (stored : List (List ℕ))
         → text_of (document_with definition.now m stored) ≡ joined m parts.items (map quoted stored)) }
 {
@@ -198,7 +198,7 @@ fn add_names(names: &[Txt], stored: &StoredList, out: &mut Txt)
 impl Pieces {
     /// The pieces of a definition's document. `spec` is at most 100 levels deep, as where the definition was read at so many.
     pub fn of(alloc: Global, definition: &Definition) -> Result<Pieces, NoMemory>
-        requires { depth definition.now.spec ≤ MAX_LEVELS }
+        requires { depth definition.now.spec ≤ MAX_JSON_LEVELS }
         ensures { IfOk result (AreItsPieces definition.now) }
     {
         let parts = parts(alloc, definition)?;

@@ -4,7 +4,7 @@ ghost use Rattle.kj_value.specs.Json.{depth};
 use crate::{Pieces, opening, read_flags, read_keep};
 use api_calls::{AdmitFault, Flags};
 use crd_reading::{Definition, read_definition};
-use kj_value::{MAX_LEVELS, Txt, read};
+use kj_value::{MAX_JSON_LEVELS, Txt, read};
 use std::alloc::Global;
 use std::process::Abort;
 use std::test::Fail;
@@ -15,9 +15,9 @@ fn document() -> &'static str {
 
 #[tactic(auto, using(crate::specs::Depth::spec_depth))]
 fn definition(alloc: Global) -> Result<Definition, Fail>
-    ensures { IfOk result (λ d. depth d.spec ≤ MAX_LEVELS) }
+    ensures { IfOk result (λ d. depth d.spec ≤ MAX_JSON_LEVELS) }
 {
-    let Ok(doc) = read(alloc, document().as_bytes(), MAX_LEVELS) else {
+    let Ok(doc) = read(alloc, document().as_bytes(), MAX_JSON_LEVELS) else {
         return Err(Fail::from("no JSON"));
     };
     match read_definition(alloc, doc) {

@@ -8,7 +8,7 @@ use Rattle.api_calls.specs.declared.versions.AdmitFault.{AdmitFault}
 use Rattle.api_calls.specs.declared.versions.AdmitFault.TheVariants as fault
 use Rattle.crd_meaning.specs.Definition.{Definition}
 use Rattle.crd_meaning.specs.Admission.{Passes}
-use Rattle.crd_meaning.specs.Refusal.{Refuses, badly_kept, too_large}
+use Rattle.crd_meaning.specs.Refusal.{RefusesRequest, badly_kept, too_large}
 use Rattle.hub_admission.specs.NoHub.{HasNoHub, unread, heavy}
 
 pub refused_as : (P Q : Fault → Type 0) → ((f : Fault) → P f → Q f) → (e : AdmitFault) → Refused P ⊥ e → Refused Q ⊥ e
@@ -17,7 +17,7 @@ refused_as P Q g (fault.Invalid name cause) h = g (invalid name.bytes (cause_of 
 refused_as P Q g fault.Tool h = h
 refused_as P Q g fault.NoMemory h = h
 
-pub no_hub : (d : Definition) (r : Request) (x : ObjectView) (e : Option ℕ) → Passes d r x e → (f : Fault) → HasNoHub d r.version x f → Refuses d r f
+pub no_hub : (d : Definition) (r : Request) (x : ObjectView) (e : Option ℕ) → Passes d r x e → (f : Fault) → HasNoHub d r.version x f → RefusesRequest d r f
 no_hub d r x e p f (unread b) =
     badly_kept (record { object = x; number = e; passes = p; key = b.key; unread = b.unread; told = b.told })
 no_hub d r x e p f (heavy b) =

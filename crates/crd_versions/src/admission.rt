@@ -9,7 +9,7 @@ ghost use Rattle.api_calls.specs.Versions.{Refused, request_of};
 ghost use Rattle.api_calls.specs.declared.versions.TheConstants.{OBJECT_LEVELS};
 ghost use Rattle.crd_meaning.specs.Definition.{IsLoaded, count_of};
 ghost use Rattle.crd_meaning.specs.Admission.{Admits};
-ghost use Rattle.crd_meaning.specs.Refusal.{Refuses};
+ghost use Rattle.crd_meaning.specs.Refusal.{RefusesRequest};
 ghost use Rattle.crd_meaning.specs.Meant.{meant};
 
 use api_calls::{AdmitFault, Admitted, Incoming};
@@ -32,7 +32,7 @@ pub(crate) fn admitted(
     ensures ok { IfOk result (λ a. Admits set.now (request_of input.now) (object_of a.hub) a.expected) }
     ensures weighs { IfOk result (λ a. Weighs (meant set.now) (object_of a.hub) a.weight) }
     ensures levels { IfOk result (λ a. depth (document (object_of a.hub)) ≤ OBJECT_LEVELS) }
-    ensures refused { IfErr result (Refused (Refuses set.now (request_of input.now)) ⊥) }
+    ensures refused { IfErr result (Refused (RefusesRequest set.now (request_of input.now)) ⊥) }
     ensures loaded { IsLoaded set.now }
 {
     standing();

@@ -2,7 +2,7 @@
 ghost use Rattle.std.specs.Prelude.{◌≡◌, IfOk, IfErr};
 ghost use Rattle.crd_loading.specs.View.{LoadedView};
 ghost use Rattle.crd_loading.specs.Load.{Loads};
-ghost use Rattle.crd_loading.specs.Told.{Refuses};
+ghost use Rattle.crd_loading.specs.Told.{RefusesLoading};
 ghost use Rattle.versions_loading.specs.Set.{set_of};
 ghost use Rattle.crd_versions.specs.Set.{definition_of};
 
@@ -20,7 +20,7 @@ use versions_loading::load_versions;
 pub fn load(alloc: Global, crd: &[u8], rules: &[u8]) -> Result<VersionSet, LoadFault>
     ensures loaded { IfOk result
         (λ s. (l : LoadedView) × Loads crd.now rules.now l × (definition_of s ≡ set_of l)) }
-    ensures refused { IfErr result (Refuses crd.now rules.now) }
+    ensures refused { IfErr result (RefusesLoading crd.now rules.now) }
 {
     let set = load_versions(alloc, crd, rules)?;
     reading_depth();

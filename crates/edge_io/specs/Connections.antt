@@ -27,8 +27,8 @@ abbrev pub HandsOut : Option (List Origin) → Option (List Origin) → Option O
 HandsOut before now origin = MatchOption before (now ≡ None) (λ items. (o : Origin) × (origin ≡ Some o) × (now ≡ Some (items ++ o ∷ [])))
 
 -- all of the origin's bytes are left
-abbrev pub IsWhole : Option Origin → Option (List ℕ) → Type 0
-IsWhole origin left = IfSome origin (λ o. left ≡ Some o.bytes)
+abbrev pub HasAllLeft : Option Origin → Option (List ℕ) → Type 0
+HasAllLeft origin left = IfSome origin (λ o. left ≡ Some o.bytes)
 
 -- the sink has the origin's number
 abbrev pub HasNumberOf : Option Origin → Option ℕ → Type 0

@@ -1,7 +1,7 @@
 //! Where connections come from.
 ghost use Rattle.std.specs.Prelude.{◌≡◌, ℕ, List, [], Some, Option, IfOk, IfSome, MatchResult};
 ghost use Rattle.edge_io.specs.Causes.{HasCause};
-ghost use Rattle.edge_io.specs.Connections.{Origin, Ending, NumbersDiffer, AddsOne, HandsOut, IsWhole, HasNumberOf, NumbersAgree};
+ghost use Rattle.edge_io.specs.Connections.{Origin, Ending, NumbersDiffer, AddsOne, HandsOut, HasAllLeft, HasNumberOf, NumbersAgree};
 
 use crate::{Failed, Sink, Source};
 
@@ -40,7 +40,7 @@ pub trait Ears {
             (λ c. HandsOut (origins self.old) (origins self.new) (Self.In.origin c.0))
             (λ _. origins self.new ≡ origins self.old) }
         ensures returned { returned self.new ≡ returned self.old }
-        ensures whole { IfOk result (λ c. IsWhole (Self.In.origin c.0) (Self.In.left c.0)) }
+        ensures whole { IfOk result (λ c. HasAllLeft (Self.In.origin c.0) (Self.In.left c.0)) }
         ensures number { IfOk result (λ c. HasNumberOf (Self.In.origin c.0) (Self.Out.number c.1)) }
         ensures empty { IfOk result (λ c. IfSome (Self.Out.written c.1) (λ bytes. bytes ≡ [])) }
         ensures unread { IfOk result (λ c. Self.In.faults c.0 ≡ 0) }

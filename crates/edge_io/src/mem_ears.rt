@@ -4,7 +4,7 @@ ghost use Rattle.std.specs.Io.{ReadsAtMost};
 ghost use Rattle.std.specs.Io.KnownBytes.{IsAtEnd};
 ghost use Rattle.edge_io.specs.Calls.{IsListed, answered, failed};
 ghost use Rattle.edge_io.specs.Causes.{HasCause};
-ghost use Rattle.edge_io.specs.Connections.{Origin, Ending, AddsOne, HandsOut, IsWhole, HasNumberOf, NumbersAgree};
+ghost use Rattle.edge_io.specs.Connections.{Origin, Ending, AddsOne, HandsOut, HasAllLeft, HasNumberOf, NumbersAgree};
 ghost use Rattle.edge_io.specs.Content.{TakesFront};
 ghost use Rattle.edge_io.specs.Memory.{left_of, origin_of, read_count, IsAfterRead};
 ghost use Rattle.edge_io.specs.MemoryEars.{ending_of, numbered, IsUnread, IsUnwritten, source_numbered, sink_numbered, HandsOutFirst, NextFails, EndsWritten};
@@ -295,7 +295,7 @@ impl Ears for MemEars {
             (λ c. HandsOut (Some (numbered 0 self.old.heard)) (Some (numbered 0 self.new.heard)) (origin_of c.0))
             (λ _. Some (numbered 0 self.new.heard) ≡ Some (numbered 0 self.old.heard)) }
         ensures returned { Some self.new.returned ≡ Some self.old.returned }
-        ensures whole { IfOk result (λ c. IsWhole (origin_of c.0) (Some (left_of c.0))) }
+        ensures whole { IfOk result (λ c. HasAllLeft (origin_of c.0) (Some (left_of c.0))) }
         ensures number { IfOk result (λ c. HasNumberOf (origin_of c.0) c.1.number) }
         ensures empty { IfOk result (λ c. IfSome (Some c.1.bytes) (λ bytes. bytes ≡ [])) }
         ensures unread { IfOk result (λ c. c.0.calls.faults ≡ 0) }

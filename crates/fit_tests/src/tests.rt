@@ -1,7 +1,7 @@
 use crontab_example::{definition, rules};
 use hub_fit::fit;
 use hub_rules::FitFault;
-use kj_value::{JVal, MAX_LEVELS, Txt, read};
+use kj_value::{JVal, MAX_JSON_LEVELS, Txt, read};
 use rule_reading::{RulesFault, read_rules};
 use schema_reading::{SchemaFault, read_schema};
 use std::alloc::Global;
@@ -41,7 +41,7 @@ fn version(doc: &JVal, i: usize) -> Option<&JVal> {
 
 // The schema of a version of the definition, counted from 0.
 fn schema(alloc: Global, i: usize) -> Result<Schema, Fail> {
-    let doc = read(alloc, definition().as_bytes(), MAX_LEVELS)?;
+    let doc = read(alloc, definition().as_bytes(), MAX_JSON_LEVELS)?;
     match version(&doc, i) {
         None => Err(Fail::from("no such version")),
         Some(v) => match read_schema(alloc, v) {
@@ -61,7 +61,7 @@ fn told(alloc: Global, word: &str, path: &Txt) -> Result<Txt, Fail> {
 fn answer(alloc: Global, document: &str) -> Result<Txt, Fail> {
     let hub = schema(alloc, 0)?;
     let spoke = schema(alloc, 1)?;
-    let doc = read(alloc, document.as_bytes(), MAX_LEVELS)?;
+    let doc = read(alloc, document.as_bytes(), MAX_JSON_LEVELS)?;
     let set = match read_rules(alloc, &doc) {
         Ok(set) => set,
         Err(RulesFault::Refused { .. }) => return Err(Fail::from("refused rules")),

@@ -6,13 +6,13 @@ use Rattle.std.proofs.lemmas.Bool.{leb-true, le-leb}
 use Rattle.std.proofs.lemmas.Int.{ints}
 use Rattle.kj_value.specs.Json.{Json, null, boolean, whole, text, list, object, depth, members_of}
 use Rattle.kj_value.specs.Fields.{Pairs, field}
-use Rattle.kj_value.specs.Sound.{IsSound, AreRising}
+use Rattle.kj_value.specs.Sound.{IsSoundJson, AreRising}
 use Rattle.struct_schema.specs.Shape.{Shape, own, properties, some_shape}
 use Rattle.struct_schema.specs.Names.{property}
 use Rattle.struct_schema.specs.Valid.{valid}
 use Rattle.struct_schema.specs.Stays.{stays}
 use Rattle.struct_schema.specs.Own.{stays_filled, filled_stays}
-use Rattle.hub_cells.specs.declared.allowed.TheConstants.{MAX_LEVELS}
+use Rattle.hub_cells.specs.declared.allowed.TheConstants.{STORED_LEVELS}
 use Rattle.hub_cells.specs.Side.{Side}
 use Rattle.hub_cells.specs.Level.{Name, Place, Cell, places, names, tuple_of, cells_names, is_word, allowed_at, all_allowed}
 use Rattle.hub_cells.specs.Fit.{has_name, is_required, IsPlaceOf, ArePlacesOf, CellsStand}
@@ -26,7 +26,7 @@ use Rattle.fitted_bodies.proofs.Object.{AtName}
 word_fits : (z : ℤ) → FitsSigned w64 z → is_word (whole z) ≡ true
 word_fits z h = grind (arith, ints)
 
-sound_word : (j : Json) → IsSound j → is_word j ≡ true
+sound_word : (j : Json) → IsSoundJson j → is_word j ≡ true
 sound_word null h = refl
 sound_word (boolean b) h = refl
 sound_word (whole z) h = word_fits z h
@@ -36,32 +36,32 @@ sound_word (object ms) h = refl
 
 abbrev pub IfSound : Option Json → Type 0
 IfSound None = Unit {0}
-IfSound (Some j) = IsSound j
+IfSound (Some j) = IsSoundJson j
 
 pub sound_at : (x : Pairs) → AreRising (members_of x) → (k : Name) → IfSound (field k x)
 sound_at x h k = by_value (field k x) refl
   where
     by_value : (o : Option Json) → field k x ≡ o → IfSound o
     by_value None q = tt
-    by_value (Some j) q = at_field (λ l i. IsSound i) x k j (sound_each x h) q
+    by_value (Some j) q = at_field (λ l i. IsSoundJson i) x k j (sound_each x h) q
 
 to_allowed : (n : ℕ) (s : Shape) (p : Place) (o : Option Json) → p.required ≡ is_required p.name s → IfSound o → AtName n s p.name p.shape o → allowed_at n p o ≡ true
 to_allowed n s p None r h g =
     and_true (not p.required) (is_none (own p.shape).default_value) (ap not (r ∙ g.0)) (ap (λ (o : Option Json). is_none o) g.1)
 to_allowed n s p (Some j) r h g =
-    let levels : n + suc (depth j) ≤ MAX_LEVELS = g.2 in
-    let room : n + 1 + depth j ≤ MAX_LEVELS = omega arith in
-    and_true (valid p.shape j && stays p.shape j && leb (n + 1 + depth j) MAX_LEVELS) (is_word j) (and_true (valid p.shape j && stays p.shape j) (leb (n + 1 + depth j) MAX_LEVELS) (and_true (valid p.shape j) (stays p.shape j) g.0 (filled_stays p.shape j h g.1)) (le-leb (n + 1 + depth j) MAX_LEVELS room)) (sound_word j h)
+    let levels : n + suc (depth j) ≤ STORED_LEVELS = g.2 in
+    let room : n + 1 + depth j ≤ STORED_LEVELS = omega arith in
+    and_true (valid p.shape j && stays p.shape j && leb (n + 1 + depth j) STORED_LEVELS) (is_word j) (and_true (valid p.shape j && stays p.shape j) (leb (n + 1 + depth j) STORED_LEVELS) (and_true (valid p.shape j) (stays p.shape j) g.0 (filled_stays p.shape j h g.1)) (le-leb (n + 1 + depth j) STORED_LEVELS room)) (sound_word j h)
 
 from_allowed : (n : ℕ) (s : Shape) (p : Place) (o : Option Json) → p.required ≡ is_required p.name s → allowed_at n p o ≡ true → AtName n s p.name p.shape o
 from_allowed n s p None r h =
     let q = both_true (not p.required) (is_none (own p.shape).default_value) h in
     (sym r ∙ not_true p.required q.0, nothing (own p.shape).default_value q.1)
 from_allowed n s p (Some j) r h =
-    let q3 = both_true (valid p.shape j && stays p.shape j && leb (n + 1 + depth j) MAX_LEVELS) (is_word j) h in
-    let q2 = both_true (valid p.shape j && stays p.shape j) (leb (n + 1 + depth j) MAX_LEVELS) q3.0 in
+    let q3 = both_true (valid p.shape j && stays p.shape j && leb (n + 1 + depth j) STORED_LEVELS) (is_word j) h in
+    let q2 = both_true (valid p.shape j && stays p.shape j) (leb (n + 1 + depth j) STORED_LEVELS) q3.0 in
     let q1 = both_true (valid p.shape j) (stays p.shape j) q2.0 in
-    let room : n + 1 + depth j ≤ MAX_LEVELS = leb-true (n + 1 + depth j) MAX_LEVELS q2.1 in
+    let room : n + 1 + depth j ≤ STORED_LEVELS = leb-true (n + 1 + depth j) STORED_LEVELS q2.1 in
     (q1.0, stays_filled p.shape j q1.1, omega arith)
 
 -- ---- the places of a cell

@@ -4,7 +4,7 @@ use Rattle.std.specs.Cmp.Lexicographic.{slice_cmp}
 use Rattle.std.proofs.lemmas.Cmp.{nat_list_cmp_total}
 use Rattle.kj_value.specs.Json.{Json, depth, members_depth, members_of}
 use Rattle.kj_value.specs.Fields.{Pairs, field}
-use Rattle.kj_value.specs.Sound.{IsSound, ComesFirst, AreRising}
+use Rattle.kj_value.specs.Sound.{IsSoundJson, ComesFirst, AreRising}
 use Rattle.struct_schema.specs.Names.{is_name}
 use Rattle.struct_schema.specs.Named.{one_name, own_name, other_name}
 use Rattle.hub_cells.specs.Level.{Name}
@@ -54,7 +54,7 @@ pub rising_fields : (x : Pairs) → AreRising (members_of x) → IsRising x
 rising_fields [] h = tt
 rising_fields (p ∷ ps) h = (below_first p.0 ps h.0 (rising_fields ps h.2), rising_fields ps h.2)
 
-pub sound_each : (x : Pairs) → AreRising (members_of x) → Each (λ k j. IsSound j) x
+pub sound_each : (x : Pairs) → AreRising (members_of x) → Each (λ k j. IsSoundJson j) x
 sound_each [] h = tt
 sound_each (p ∷ ps) h = (h.1, sound_each ps h.2)
 

@@ -20,7 +20,7 @@ use Rattle.hub_cells.specs.Level.{Name, Place, Cell, Level, level, no_inner, inn
 use Rattle.hub_cells.specs.Fit.{Fit, shape_on, has_name, is_required, IsClosedObject, Stands, IsFitted}
 use Rattle.keep_laws.specs.Known.{IsKnown}
 use Rattle.keep_laws.specs.Settle.{IsAllowed, settled, converted}
-use Rattle.keep_laws.specs.Whole.{Held, IsWhole, marks_of}
+use Rattle.keep_laws.specs.Whole.{Held, IsWholeOnSide, marks_of}
 use Rattle.keep_laws.specs.Words.{IsSettledObject}
 use Rattle.hub_rules.specs.Rule.{within, no_rules, rule}
 use Rattle.hub_fit.specs.Chosen.{fit_of}
@@ -172,7 +172,7 @@ body_again = body_back spoke fit held is_fitted has_room is_known is_allowed
 same_over : converted spoke fit.level held ≡ held
 same_over = refl
 
-whole_over : IsWhole hub fit.level held
+whole_over : IsWholeOnSide hub fit.level held
 whole_over = over_whole spoke fit held is_fitted are_rising is_body
 
 body_over : IsBodyOf hub fit fields
@@ -181,13 +181,13 @@ body_over = over_body spoke fit held is_fitted has_room are_rising is_body
 object_over : IsWholeObject hub fit held
 object_over = whole_object hub fit held is_fitted has_room whole_over
 
-whole_again : IsWhole hub fit.level held
+whole_again : IsWholeOnSide hub fit.level held
 whole_again = object_whole hub fit held is_fitted are_rising object_over
 
 settled_over : IsSettledObject hub fit.level held
 settled_over = whole_settled hub fit.level held (ready fit is_fitted) whole_over
 
-settled_here : IsWhole spoke fit.level (settled spoke fit.level held)
+settled_here : IsWholeOnSide spoke fit.level (settled spoke fit.level held)
 settled_here = settled_is_whole spoke fit held is_fitted are_rising is_body
 
 -- the level is what one rule means, of the object inside, and so it has room

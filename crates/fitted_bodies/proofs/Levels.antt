@@ -2,14 +2,14 @@
 use Rattle.std.proofs.Common.{◌≡◌, ℕ, suc, ◌+◌, ◌≤◌, List, Bool, true, false, ◌&&◌, Option, Some, None, refl, ap, sym, subst, ◌∙◌, arith}
 use Rattle.kj_value.specs.Json.{Json, null, boolean, whole, text, list, object, Members, no_members, member, depth, members_of}
 use Rattle.kj_value.specs.Fields.{Pairs, field}
-use Rattle.kj_value.specs.Sound.{IsSound, AreRising}
+use Rattle.kj_value.specs.Sound.{IsSoundJson, AreRising}
 use Rattle.struct_schema.specs.Shape.{Own, Shape, own, some_shape}
 use Rattle.struct_schema.specs.Keywords.{has_kind, is_chosen, is_within, keeps}
 use Rattle.struct_schema.specs.Valid.{valid, items_valid}
 use Rattle.struct_schema.specs.Filled.{Filled}
 use Rattle.struct_schema.specs.declared.kind.NodeKind.{NodeKind}
 use Rattle.struct_schema.specs.declared.kind.NodeKind.TheVariants.{Object}
-use Rattle.hub_cells.specs.declared.allowed.TheConstants.{MAX_LEVELS}
+use Rattle.hub_cells.specs.declared.allowed.TheConstants.{STORED_LEVELS}
 use Rattle.hub_cells.specs.Side.{Side, other}
 use Rattle.hub_cells.specs.Level.{Name, Level, level, Inners, no_inner, inner, named, cells_names, inner_names}
 use Rattle.hub_cells.specs.LevelDepth.{level_depth, inners_depth}
@@ -45,17 +45,17 @@ wrong_kind o j c q h =
     lies (sym q ∙ ap (λ (d : NodeKind). has_kind d j) (sym c) ∙ h0.0)
 
 module _ (n : ℕ) (t : Shape) (P : Pairs → Type 0) (c : IsClosedObject t) (go : (y : Pairs) → AreRising (members_of y) → IsBody (suc n) t y → P y) where
-  inner_body : (ms : Members) → AreRising ms → (valid t (object ms) ≡ true) → Filled t (object ms) (object ms) → n + suc (depth (object ms)) ≤ MAX_LEVELS → P (pairs_of ms)
+  inner_body : (ms : Members) → AreRising ms → (valid t (object ms) ≡ true) → Filled t (object ms) (object ms) → n + suc (depth (object ms)) ≤ STORED_LEVELS → P (pairs_of ms)
   inner_body ms h v f r =
       let back = sym (members_back ms) in
-      let levels : suc n + depth (object ms) ≤ MAX_LEVELS = omega arith in
+      let levels : suc n + depth (object ms) ≤ STORED_LEVELS = omega arith in
       go (pairs_of ms) (subst AreRising back h) (record {
         valid = subst (λ (ns : Members). valid t (object ns) ≡ true) back v;
         filled = subst (λ (ns : Members). Filled t (object ns) (object ns)) back f;
-        levels = subst (λ (ns : Members). suc n + depth (object ns) ≤ MAX_LEVELS) back levels;
+        levels = subst (λ (ns : Members). suc n + depth (object ns) ≤ STORED_LEVELS) back levels;
       })
 
-  inner_speaks : (j : Json) → IsSound j → (valid t j ≡ true) → Filled t j j → n + suc (depth j) ≤ MAX_LEVELS → IsObject P j
+  inner_speaks : (j : Json) → IsSoundJson j → (valid t j ≡ true) → Filled t j j → n + suc (depth j) ≤ STORED_LEVELS → IsObject P j
   inner_speaks null h v f r = absurd (lies (sym c.nullable ∙ v))
   inner_speaks (boolean b) h v f r = absurd (wrong_kind (own t) (boolean b) c.kind refl v)
   inner_speaks (whole z) h v f r = absurd (wrong_kind (own t) (whole z) c.kind refl v)
@@ -110,7 +110,7 @@ mutual
 
 -- ---- what is known and allowed is a body
 
-object_holds : {M : Type 0} (n : ℕ) (t : Shape) (r : Bool) (K : Pairs → Type 0) (A : M → Type 0) (f : Pairs → M) → ((y : Pairs) → K y → A (f y) → IsBody (suc n) t y) → (j : Json) → IsObject K j → OrAbsent r A (there f (as_object j)) → (valid t j ≡ true) × Filled t j j × (n + suc (depth j) ≤ MAX_LEVELS)
+object_holds : {M : Type 0} (n : ℕ) (t : Shape) (r : Bool) (K : Pairs → Type 0) (A : M → Type 0) (f : Pairs → M) → ((y : Pairs) → K y → A (f y) → IsBody (suc n) t y) → (j : Json) → IsObject K j → OrAbsent r A (there f (as_object j)) → (valid t j ≡ true) × Filled t j j × (n + suc (depth j) ≤ STORED_LEVELS)
 object_holds n t r K A f go null h g = absurd h
 object_holds n t r K A f go (boolean b) h g = absurd h
 object_holds n t r K A f go (whole z) h g = absurd h
@@ -119,7 +119,7 @@ object_holds n t r K A f go (list js) h g = absurd h
 object_holds n t r K A f go (object ms) h g =
     let back = members_back ms in
     let b = go (pairs_of ms) h g in
-    let levels : suc n + depth (object ms) ≤ MAX_LEVELS = subst (λ (ns : Members). suc n + depth (object ns) ≤ MAX_LEVELS) back b.levels in (
+    let levels : suc n + depth (object ms) ≤ STORED_LEVELS = subst (λ (ns : Members). suc n + depth (object ns) ≤ STORED_LEVELS) back b.levels in (
       subst (λ (ns : Members). valid t (object ns) ≡ true) back b.valid,
       subst (λ (ns : Members). Filled t (object ns) (object ns)) back b.filled,
       omega arith,
@@ -130,23 +130,23 @@ inner_holds n s k t r K A f e q go None h g = (sym q ∙ g, e)
 inner_holds n s k t r K A f e q go (Some j) h g = object_holds n t r K A f go j h g
 
 mutual
-  pub level_holds : (d : Side) (n : ℕ) (s : Shape) (l : Level) (x : Pairs) (es : List Entry) → Stands d n s l → IsKnown d l x → IsAllowed d l (read d l x es) → n + level_depth l ≤ MAX_LEVELS → IsBody n s x
+  pub level_holds : (d : Side) (n : ℕ) (s : Shape) (l : Level) (x : Pairs) (es : List Entry) → Stands d n s l → IsKnown d l x → IsAllowed d l (read d l x es) → n + level_depth l ≤ STORED_LEVELS → IsBody n s x
   level_holds d n s (level cs is) x es st known allowed room =
       let ns = cells_names d cs (inner_names d is) in
-      let deep : n + suc (inners_depth is) ≤ MAX_LEVELS = room in
+      let deep : n + suc (inners_depth is) ≤ STORED_LEVELS = room in
       let seen : (k : Name) → has_name k ns ≡ true → Seen n s x k = λ k h. cells_seen d n s cs (inner_names d is) x es k st.2 allowed.0 (λ q. inners_hold d n s is x es k st.3 known.2 allowed.1 deep q) h in
       names_body n s x st.0 known.0 (λ k j q. let r = seen k (at_field (λ l i. has_name l ns ≡ true) x k j (named_each ns x known.1) q) in (r.0, r.1)) (λ k h. let r = seen k (st.1.required k h) in (r.0, r.1)) (
       λ k t e. let r = seen k (st.1.properties k t e) in
       subst (λ (u : Shape). AtName n s k u (field k x)) (same_shape r.0 t (sym r.1 ∙ e)) r.2
       ) (omega arith)
 
-  pub inners_hold : (d : Side) (n : ℕ) (s : Shape) (is : Inners) (x : Pairs) (es : List Entry) (k : Name) → InnersStand d n s is → InnersKnown d is x → InnersAllowed d is (read_inners d is x es) → n + suc (inners_depth is) ≤ MAX_LEVELS → has_name k (inner_names d is) ≡ true → Seen n s x k
+  pub inners_hold : (d : Side) (n : ℕ) (s : Shape) (is : Inners) (x : Pairs) (es : List Entry) (k : Name) → InnersStand d n s is → InnersKnown d is x → InnersAllowed d is (read_inners d is x es) → n + suc (inners_depth is) ≤ STORED_LEVELS → has_name k (inner_names d is) ≡ true → Seen n s x k
   inners_hold d n s no_inner x es k st known allowed room h = absurd (lies h)
   inners_hold d n s (inner a b r l is) x es k st known allowed room h =
       let m = named d a b in
       let g = st.0 in
       let inside_es = inside (named (other d) a b) es in
-      let deep : suc n + level_depth l ≤ MAX_LEVELS = omega arith in
-      let later : n + suc (inners_depth is) ≤ MAX_LEVELS = omega arith in
+      let deep : suc n + level_depth l ≤ STORED_LEVELS = omega arith in
+      let later : n + suc (inners_depth is) ≤ STORED_LEVELS = omega arith in
       let here : AtName n s m g.0 (field m x) = inner_holds n s m g.0 r (IsKnown d l) (IsAllowed d l) (λ y. read d l y inside_es) g.2 g.3 (λ y p q. level_holds d (suc n) g.0 l y inside_es g.4 p q deep) (field m x) known.0 allowed.0 in
       at_name (Seen n s x) k m (inner_names d is) (g.0, g.1, here) (λ q. inners_hold d n s is x es k st.1 known.1 allowed.1 later q) h

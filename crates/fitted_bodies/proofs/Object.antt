@@ -11,7 +11,7 @@ use Rattle.struct_schema.specs.Filled.{is_object, PresentFilled, PropertyFilled,
 use Rattle.struct_schema.specs.Lookups.{value_at-field}
 use Rattle.struct_schema.specs.Own.{to_name, of_name}
 use Rattle.struct_schema.specs.declared.kind.NodeKind.{NodeKind}
-use Rattle.hub_cells.specs.declared.allowed.TheConstants.{MAX_LEVELS}
+use Rattle.hub_cells.specs.declared.allowed.TheConstants.{STORED_LEVELS}
 use Rattle.hub_cells.specs.Level.{Name}
 use Rattle.hub_cells.specs.Fit.{is_required, IsClosedObject}
 use Rattle.keep_laws.specs.Known.{IsRising}
@@ -23,7 +23,7 @@ use Rattle.fitted_bodies.proofs.Each.{Each, at_field, each_field, depth_each, ea
 
 abbrev pub AtName : ℕ → Shape → Name → Shape → Option Json → Type 0
 AtName n s k t None = (is_required k s ≡ false) × ((own t).default_value ≡ None)
-AtName n s k t (Some j) = (valid t j ≡ true) × Filled t j j × (n + suc (depth j) ≤ MAX_LEVELS)
+AtName n s k t (Some j) = (valid t j ≡ true) × Filled t j j × (n + suc (depth j) ≤ STORED_LEVELS)
 
 abbrev pub HasShape : Shape → Name → Type 0
 HasShape s k = (t : Shape) × (property k (properties s) ≡ some_shape t)
@@ -133,7 +133,7 @@ body_names n s x c b k t e = by_value (field k x) refl
         let is_valid : valid t j ≡ true = subst (λ (m : MaybeShape). passes m (λ u. valid u j) ≡ true) (shape_is s k t e) passed in (
           is_valid,
           present_filled t j is_valid (filled_here (Some j) q),
-          at_field (λ l i. n + suc (depth i) ≤ MAX_LEVELS) x k j (depth_each n MAX_LEVELS x b.levels) q,
+          at_field (λ l i. n + suc (depth i) ≤ STORED_LEVELS) x k j (depth_each n STORED_LEVELS x b.levels) q,
         )
 
 -- ---- and back
@@ -154,7 +154,7 @@ module _ (n : ℕ) (s : Shape) (x : Pairs) (c : IsClosedObject s) (rising : IsRi
       let r = known k j q in
       subst (λ (m : MaybeShape). passes m (λ u. valid u j) ≡ true) (sym (shape_is s k r.0 r.1)) (at_value k j r.0 r.1 q).0
 
-  room_at : (k : Name) (j : Json) → field k x ≡ Some j → n + suc (depth j) ≤ MAX_LEVELS
+  room_at : (k : Name) (j : Json) → field k x ≡ Some j → n + suc (depth j) ≤ STORED_LEVELS
   room_at k j q = let r = known k j q in (at_value k j r.0 r.1 q).2
 
   filled_name : (k : Name) → FilledAt (property k (properties s)) (value_at k (members_of x))
@@ -178,9 +178,9 @@ module _ (n : ℕ) (s : Shape) (x : Pairs) (c : IsClosedObject s) (rising : IsRi
       let within : is_within o j ≡ true = all_of (λ l. is_some (value_at l (members_of x))) o.required is_there in
       and_true (keeps o j) (members_valid s (members_of x)) (and_true (has_kind o.kind j && is_chosen o.choices j) (is_within o j) (and_true (has_kind o.kind j) (is_chosen o.choices j) kind chosen) within) (each_valid s x (each_field (λ k i. passes (shape_for s k) (λ t. valid t i) ≡ true) x rising valid_at))
 
-  pub names_body : n + 1 ≤ MAX_LEVELS → IsBody n s x
+  pub names_body : n + 1 ≤ STORED_LEVELS → IsBody n s x
   names_body room = record {
     valid = is_valid;
     filled = filled_from s (members_of x) c filled_name;
-    levels = each_depth n MAX_LEVELS x (each_field (λ k j. n + suc (depth j) ≤ MAX_LEVELS) x rising room_at) room;
+    levels = each_depth n STORED_LEVELS x (each_field (λ k j. n + suc (depth j) ≤ STORED_LEVELS) x rising room_at) room;
   }

@@ -2,7 +2,7 @@
 use Rattle.std.proofs.Common.{ℕ, suc, ◌+◌, ◌<◌, ◌≤◌, arith}
 use Rattle.std.specs.Prelude.{max}
 use Rattle.struct_schema.specs.Shape.{Shape}
-use Rattle.hub_cells.specs.declared.allowed.TheConstants.{MAX_LEVELS}
+use Rattle.hub_cells.specs.declared.allowed.TheConstants.{STORED_LEVELS}
 use Rattle.hub_cells.specs.Level.{Inners}
 use Rattle.hub_cells.specs.LevelDepth.{inners_depth}
 use Rattle.hub_rules.specs.Rule.{Rule, same, within, spoke_only, hub_only, split, table, scale, Rules, no_rules, rule, rule_depth, inner_depth}
@@ -26,7 +26,7 @@ mutual
   rules_room n s h no_rules = omega arith
   rules_room n s h (rule r rs) = rule_room n s h r (inners_of n s h rs) (inner_depth rs) (rules_room n s h rs)
 
-pub room_of : (n : ℕ) (s h : Shape) (rs : Rules) → n + inner_depth rs < MAX_LEVELS → HasRoom (fit_of n s h rs)
+pub room_of : (n : ℕ) (s h : Shape) (rs : Rules) → n + inner_depth rs < STORED_LEVELS → HasRoom (fit_of n s h rs)
 room_of n s h rs p =
     let deep : inners_depth (inners_of n s h rs) ≤ inner_depth rs = rules_room n s h rs in
     omega arith

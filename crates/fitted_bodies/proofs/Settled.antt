@@ -9,7 +9,7 @@ use Rattle.keep_laws.specs.Marked.{Marks, Marked, MarkedInners, AreGood, OrAbsen
 use Rattle.keep_laws.specs.Body.{all_entries}
 use Rattle.keep_laws.specs.Known.{IsKnown}
 use Rattle.keep_laws.specs.Settle.{CellsAllowed, IsAllowed, InnersAllowed}
-use Rattle.keep_laws.specs.Whole.{Held, Ready, IsWhole, marks_of}
+use Rattle.keep_laws.specs.Whole.{Held, Ready, IsWholeOnSide, marks_of}
 use Rattle.keep_laws.specs.Words.{Has, Parts, AllAlive, IsSettledObject}
 use Rattle.keep_laws.proofs.Back.{no_name_twice}
 use Rattle.keep_laws.proofs.Dead.{good_settled}
@@ -35,7 +35,7 @@ mutual
   inners_allowed d (inner a b rq l is) ms g =
       (or_absent rq (IsGood d l) (IsAllowed d l) (λ m h. good_allowed d l m h) ms.0 g.0, inners_allowed d is ms.1 g.1)
 
-module _ (d : Side) (l : Level) (x : Held) (r : Ready l) (w : IsWhole d l x) where
+module _ (d : Side) (l : Level) (x : Held) (r : Ready l) (w : IsWholeOnSide d l x) where
   pub whole_known : IsKnown d l x.fields
   whole_known =
       subst (IsKnown d l) (ap (λ (h : Held). h.fields) w.nothing_else) (body_known d l (marks_of d l x) (no_name_twice d l r) w.good)

@@ -13,7 +13,7 @@ use Rattle.crd_reading.specs.Allowed.{is_text_of, is_few, is_allowed}
 use Rattle.crd_reading.specs.View.{VersionView, DefinitionView}
 use Rattle.crd_reading.specs.Spelled.{inside, text_in, items_in, version_read, versions_read, spec_in, version_items}
 use Rattle.crd_reading.specs.Accepted.{has_rows, stands, all_stand, each_stands, IsDefinition}
-use Rattle.crd_reading.specs.Whole.{IsWhole}
+use Rattle.crd_reading.specs.Whole.{IsWholeDefinition}
 use Rattle.crd_meaning.specs.Definition.{no_version}
 use Rattle.hub_admission.proofs.Tests.{both}
 
@@ -158,7 +158,7 @@ in_document j d =
     let spec : spec_in j ≡ Some s.0 = ap spec_in o.1 ∙ s.1 in
     subst (λ (k : Items). all_stand k ≡ true) (sym (same_spec j (alone_in s.0) spec)) of_spec
 
-pub name_label : (d : DefinitionView) → IsWhole d → (v : ℕ) → v < length d.versions → is_namespace (slice_index_or d.versions v no_version).name ≡ true
+pub name_label : (d : DefinitionView) → IsWholeDefinition d → (v : ℕ) → v < length d.versions → is_namespace (slice_index_or d.versions v no_version).name ≡ true
 name_label d w v p =
     let j = w.spelled.0 in
     let same : versions_read (version_items j) ≡ d.versions = ap (λ (e : DefinitionView). e.versions) w.spelled.2 in

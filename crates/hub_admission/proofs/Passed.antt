@@ -6,7 +6,7 @@ use Rattle.std.specs.List.{list_all}
 use Rattle.std.proofs.lemmas.Bool.Decides.{Decides-eqb}
 use Rattle.std.proofs.lemmas.Option.{slice_get_within}
 use Rattle.kj_value.specs.Json.{list, items_of, depth}
-use Rattle.kj_value.specs.Sound.{AreSound}
+use Rattle.kj_value.specs.Sound.{AreSoundItems}
 use Rattle.kj_value.specs.Fields.{Pairs, AreInOrder}
 use Rattle.kube_meta.specs.Names.{is_name, is_namespace}
 use Rattle.kube_meta.specs.View.{MetaView, ObjectView}
@@ -16,7 +16,7 @@ use Rattle.object_reading.specs.Keeping.{is_empty_or, is_none_or, is_label_pair,
 use Rattle.object_reading.specs.declared.finalizers.TheConstants.{FINALIZERS}
 use Rattle.api_calls.specs.Versions.{IsStamp, AreStamps}
 use Rattle.struct_schema.specs.Shape.{Shape}
-use Rattle.crd_reading.specs.Whole.{IsWhole}
+use Rattle.crd_reading.specs.Whole.{IsWholeDefinition}
 use Rattle.hub_cells.specs.Side.{spoke}
 use Rattle.fitted_bodies.specs.Body.{IsBody, IsBodyOf}
 use Rattle.spoke_laws.specs.Spokes.{Spoke, AreFittedTo, HaveOneHub, api_version}
@@ -93,7 +93,7 @@ module _ (d : Definition) (loaded : IsLoaded d) where
     };
     meta = record {
       labels = subst (λ (m : MetaView). AreInOrder m.labels) (sym same) p.meta.labels;
-      owners = subst (λ (m : MetaView). AreSound (items_of m.owners)) (sym same) p.meta.owners;
+      owners = subst (λ (m : MetaView). AreSoundItems (items_of m.owners)) (sym same) p.meta.owners;
       levels = omega (arith, ap (λ (m : MetaView). depth (list (items_of m.owners))) same, p.meta.levels);
     };
     no_number = ap (λ (m : MetaView). m.resource_version) same ∙ p.no_number;
@@ -139,7 +139,7 @@ module _ (d : Definition) (loaded : IsLoaded d) where
       λ t f. subst (λ (u : Spoke). (x.api_version ≡ api_version d.spokes.group u.name) × IsBodyOf spoke u.fit x.body) (some_one s t (sym place ∙ f)) (spoke_version x q, spoke_body p x place q),
     )
 
-    pub over_whole : (x h : ObjectView) → IsWhole d.view → IsPassed d v x → IsWholeHub d.spokes h → GoesOver d.spokes s x h → IsWholeValue d h
+    pub over_whole : (x h : ObjectView) → IsWholeDefinition d.view → IsPassed d v x → IsWholeHub d.spokes h → GoesOver d.spokes s x h → IsWholeValue d h
     over_whole x h whole p w g =
         let label : is_namespace s.name ≡ true = subst (λ (n : List ℕ). is_namespace n ≡ true) (sym spoke_of.name) (name_label d.view whole v known) in
         whole_value v x h p w g.kind g.meta (over_keys d.spokes s x h (spoke_key_rule s.name label) p.rules.annotations g)

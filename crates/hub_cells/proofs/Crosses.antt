@@ -8,7 +8,7 @@ use Rattle.std.proofs.lemmas.Int.{ints}
 use Rattle.kj_value.specs.Json.{depth}
 use Rattle.struct_schema.specs.Valid.{valid}
 use Rattle.struct_schema.specs.Stays.{stays}
-use Rattle.hub_cells.specs.declared.allowed.TheConstants.{MAX_LEVELS}
+use Rattle.hub_cells.specs.declared.allowed.TheConstants.{STORED_LEVELS}
 use Rattle.hub_cells.specs.Cross.{matched}
 use Rattle.hub_cells.specs.Side.{Side, spoke, hub}
 use Rattle.hub_cells.specs.Cell.{Kind, same, spoke_only, hub_only, split, table, scale, Tuple, one, IsRegular}
@@ -31,7 +31,7 @@ number_fits : (n : ℕ) (ps : List Place) (z : ℤ) → all_allowed n ps (one (w
 number_fits n [] z h = absurd (false≢true h)
 number_fits n (p ∷ ps) z h =
     let here : allowed_at n p (Some (whole z)) ≡ true = and_left (allowed_at n p (Some (whole z))) (all_allowed n ps []) h in
-    word_fits z (and_right (valid p.shape (whole z) && stays p.shape (whole z) && leb (n + 1 + depth (whole z)) MAX_LEVELS) (is_word (whole z)) here)
+    word_fits z (and_right (valid p.shape (whole z) && stays p.shape (whole z) && leb (n + 1 + depth (whole z)) STORED_LEVELS) (is_word (whole z)) here)
 
 product_fits : (c : Cell) (k : ℕ) (t : Tuple) → c.kind ≡ scale k → CellFits c → allows spoke c t ≡ true → ProductFits k t
 product_fits c k (Some (whole z) ∷ []) e f h =

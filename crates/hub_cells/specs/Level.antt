@@ -6,7 +6,7 @@ use Rattle.struct_schema.specs.Shape.{Shape, own}
 use Rattle.struct_schema.specs.Keywords.{at_least, at_most}
 use Rattle.struct_schema.specs.Valid.{valid}
 use Rattle.struct_schema.specs.Stays.{stays}
-use Rattle.hub_cells.specs.declared.allowed.TheConstants.{MAX_LEVELS}
+use Rattle.hub_cells.specs.declared.allowed.TheConstants.{STORED_LEVELS}
 use Rattle.hub_cells.specs.Side.{Side, spoke, hub, other}
 use Rattle.hub_cells.specs.Cell.{Kind, Tuple, IsRegular}
 use Rattle.hub_cells.specs.Cross.{matched, shown}
@@ -72,7 +72,7 @@ is_word (object ms) = true
 -- neither required nor has a default
 abbrev pub allowed_at : ℕ → Place → Option Json → Bool
 allowed_at n p None = not p.required && is_none (own p.shape).default_value
-allowed_at n p (Some j) = valid p.shape j && stays p.shape j && leb (n + 1 + depth j) MAX_LEVELS && is_word j
+allowed_at n p (Some j) = valid p.shape j && stays p.shape j && leb (n + 1 + depth j) STORED_LEVELS && is_word j
 
 abbrev pub all_allowed : ℕ → List Place → Tuple → Bool
 all_allowed n [] [] = true

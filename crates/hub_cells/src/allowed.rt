@@ -15,7 +15,7 @@ use struct_schema::{Schema, check, is_filled};
 
 /// The levels of an object that is stored or sent: lists and objects that nest within it, itself
 /// counted.
-pub const MAX_LEVELS: u32 = 64;
+pub const STORED_LEVELS: u32 = 64;
 
 // A number of a value has 64 bits.
 fn is_word(v: &JVal)
@@ -42,9 +42,9 @@ fn stays(s: &Schema, v: &JVal) -> bool
 
 // Whether an object with the value below so many names, its own not counted, is within its levels.
 fn is_within(names: u32, v: &JVal) -> bool
-    ensures { result ≡ leb (names + 1 + depth (json v.now)) MAX_LEVELS }
+    ensures { result ≡ leb (names + 1 + depth (json v.now)) STORED_LEVELS }
 {
-    u64::from(names) + 1 + u64::from(kj_value::depth(v)) <= u64::from(MAX_LEVELS)
+    u64::from(names) + 1 + u64::from(kj_value::depth(v)) <= u64::from(STORED_LEVELS)
 }
 
 fn is_free(name: &Name) -> bool
@@ -56,7 +56,7 @@ fn is_free(name: &Name) -> bool
 fn allowed_value(alloc: Global, names: u32, name: &Name, v: &JVal) -> bool
     ensures { result ≡ (valid (shape_of name.now.schema) (json v.now)
         && stays (shape_of name.now.schema) (json v.now)
-        && leb (names + 1 + depth (json v.now)) MAX_LEVELS) }
+        && leb (names + 1 + depth (json v.now)) STORED_LEVELS) }
 {
     is_valid(alloc, &name.schema, v) && stays(&name.schema, v) && is_within(names, v)
 }

@@ -18,7 +18,7 @@ mod pairs;
 mod tables;
 mod tuples;
 
-pub use allowed::MAX_LEVELS;
+pub use allowed::STORED_LEVELS;
 pub use cell::{Cell, CellKind, Name, Names, Side, Tuple};
 pub use crossing::{Crossed, cross};
 pub use fitted::{Fitted, Inner};

@@ -11,7 +11,7 @@ use Rattle.kj_value.specs.Json.{Json, null, boolean, whole, text, list, object, 
 use Rattle.struct_schema.specs.Shape.{Shape, own}
 use Rattle.struct_schema.specs.Valid.{valid}
 use Rattle.struct_schema.specs.Stays.{stays}
-use Rattle.hub_cells.specs.declared.allowed.TheConstants.{MAX_LEVELS}
+use Rattle.hub_cells.specs.declared.allowed.TheConstants.{STORED_LEVELS}
 use Rattle.hub_cells.specs.Side.{Side, spoke, hub, other}
 use Rattle.hub_cells.specs.Colon.{at_colon, has_colon}
 use Rattle.hub_cells.specs.Cell.{same, spoke_only, hub_only, split, table, Tuple, one, none, ListsOnce}
@@ -130,22 +130,22 @@ split_cell n a b c = record {
 }
 
 -- a value that is there leaves room for one that isn't deep
-pub room : (n : ℕ) (p : Place) (j : Json) → allowed_at n p (Some j) ≡ true → leb (n + 1) MAX_LEVELS ≡ true
+pub room : (n : ℕ) (p : Place) (j : Json) → allowed_at n p (Some j) ≡ true → leb (n + 1) STORED_LEVELS ≡ true
 room n p j h =
-    let here : leb (n + 1 + depth j) MAX_LEVELS ≡ true = and_right (valid p.shape j && stays p.shape j) (leb (n + 1 + depth j) MAX_LEVELS) (and_left (valid p.shape j && stays p.shape j && leb (n + 1 + depth j) MAX_LEVELS) (is_word j) h) in
+    let here : leb (n + 1 + depth j) STORED_LEVELS ≡ true = and_right (valid p.shape j && stays p.shape j) (leb (n + 1 + depth j) STORED_LEVELS) (and_left (valid p.shape j && stays p.shape j && leb (n + 1 + depth j) STORED_LEVELS) (is_word j) h) in
     grind (arith, nat_tests)
 
-pub shallow : (n : ℕ) → leb (n + 1) MAX_LEVELS ≡ true → leb (n + 1 + 0) MAX_LEVELS ≡ true
+pub shallow : (n : ℕ) → leb (n + 1) STORED_LEVELS ≡ true → leb (n + 1 + 0) STORED_LEVELS ≡ true
 shallow n h = grind (arith, nat_tests)
 
-text_allowed : (n : ℕ) (a : Name) (t : List ℕ) → leb (n + 1) MAX_LEVELS ≡ true → allowed_at n (place a plain_text false) (Some (text t)) ≡ true
+text_allowed : (n : ℕ) (a : Name) (t : List ℕ) → leb (n + 1) STORED_LEVELS ≡ true → allowed_at n (place a plain_text false) (Some (text t)) ≡ true
 text_allowed n a t h = rw (shallow n h) refl
 
-parts_allowed : (n : ℕ) (a b c : Name) (t : List ℕ) (o : Option (List ℕ × List ℕ)) → leb (n + 1) MAX_LEVELS ≡ true → MatchAllowed (split_cell n a b c) spoke (parts o) (one (text t))
+parts_allowed : (n : ℕ) (a b c : Name) (t : List ℕ) (o : Option (List ℕ × List ℕ)) → leb (n + 1) STORED_LEVELS ≡ true → MatchAllowed (split_cell n a b c) spoke (parts o) (one (text t))
 parts_allowed n a b c t None h = refl
 parts_allowed n a b c t (Some p) h = rw (shallow n h) refl
 
-joined_allowed : (n : ℕ) (a b c : Name) (s t : List ℕ) (q : Bool) → leb (n + 1) MAX_LEVELS ≡ true → MatchAllowed (split_cell n a b c) hub (cond q None (Some (one (text (s ++ 58 ∷ t))))) (Some (text s) ∷ Some (text t) ∷ [])
+joined_allowed : (n : ℕ) (a b c : Name) (s t : List ℕ) (q : Bool) → leb (n + 1) STORED_LEVELS ≡ true → MatchAllowed (split_cell n a b c) hub (cond q None (Some (one (text (s ++ 58 ∷ t))))) (Some (text s) ∷ Some (text t) ∷ [])
 joined_allowed n a b c s t true h = refl
 joined_allowed n a b c s t false h = rw (shallow n h) refl
 
@@ -203,10 +203,10 @@ pub word_fits : (z : ℤ) → FitsSigned w64 z → is_word (whole z) ≡ true
 word_fits z h = grind (arith, ints)
 
 -- a scalar that is valid is allowed wherever a value is
-scalar_allowed : (n : ℕ) (q : Place) (j : Json) → IsScalar j → valid q.shape j ≡ true → leb (n + 1) MAX_LEVELS ≡ true → allowed_at n q (Some j) ≡ true
+scalar_allowed : (n : ℕ) (q : Place) (j : Json) → IsScalar j → valid q.shape j ≡ true → leb (n + 1) STORED_LEVELS ≡ true → allowed_at n q (Some j) ≡ true
 scalar_allowed n q null p v h = rw (v, shallow n h) refl
 scalar_allowed n q (boolean b) p v h = rw (v, shallow n h) refl
-scalar_allowed n q (whole z) p v h = and_both (valid q.shape (whole z) && true && leb (n + 1 + 0) MAX_LEVELS) (is_word (whole z)) (rw (v, shallow n h) refl) (word_fits z p)
+scalar_allowed n q (whole z) p v h = and_both (valid q.shape (whole z) && true && leb (n + 1 + 0) STORED_LEVELS) (is_word (whole z)) (rw (v, shallow n h) refl) (word_fits z p)
 scalar_allowed n q (text t) p v h = rw (v, shallow n h) refl
 scalar_allowed n q (list js) p v h = absurd p
 scalar_allowed n q (object ms) p v h = absurd p
@@ -242,7 +242,7 @@ or_false true h = refl
 or_false false h = absurd (false≢true h)
 
 -- a blank is allowed where a value is: a null one by what is asked of an absent name
-blank_allowed : (n : ℕ) (q : Place) (y : Json) → IsScalar y → valid_blank q.shape y ≡ true → (not q.required || not (is_null y)) ≡ true → (is_none (own q.shape).default_value || not (is_null y)) ≡ true → leb (n + 1) MAX_LEVELS ≡ true → all_allowed n (q ∷ []) (blank y) ≡ true
+blank_allowed : (n : ℕ) (q : Place) (y : Json) → IsScalar y → valid_blank q.shape y ≡ true → (not q.required || not (is_null y)) ≡ true → (is_none (own q.shape).default_value || not (is_null y)) ≡ true → leb (n + 1) STORED_LEVELS ≡ true → all_allowed n (q ∷ []) (blank y) ≡ true
 blank_allowed n q null p v r d h = rw (or_false (not q.required) r, or_false (is_none (own q.shape).default_value) d) refl
 blank_allowed n q (boolean b) p v r d h = alone n q (Some (boolean b)) (scalar_allowed n q (boolean b) p v h)
 blank_allowed n q (whole z) p v r d h = alone n q (Some (whole z)) (scalar_allowed n q (whole z) p v h)
@@ -255,12 +255,12 @@ abbrev Answered : ℕ → Place → Tuple → Option Tuple → Type 0
 Answered n q t None = all_allowed n (q ∷ []) t ≡ true
 Answered n q t (Some u) = all_allowed n (q ∷ []) u ≡ true
 
-table_over : (n : ℕ) (p q : Place) (d : Side) (ps : List (Json × Json)) (t u : Tuple) → (all_allowed n (p ∷ []) none ≡ true → all_allowed n (q ∷ []) none ≡ true) → ((i j : Json) → partner d i ps ≡ Some j → IsScalar j × (valid q.shape j ≡ true)) → (leb (n + 1) MAX_LEVELS ≡ true → all_allowed n (q ∷ []) t ≡ true) → all_allowed n (p ∷ []) u ≡ true → Answered n q t (by_table d ps u)
+table_over : (n : ℕ) (p q : Place) (d : Side) (ps : List (Json × Json)) (t u : Tuple) → (all_allowed n (p ∷ []) none ≡ true → all_allowed n (q ∷ []) none ≡ true) → ((i j : Json) → partner d i ps ≡ Some j → IsScalar j × (valid q.shape j ≡ true)) → (leb (n + 1) STORED_LEVELS ≡ true → all_allowed n (q ∷ []) t ≡ true) → all_allowed n (p ∷ []) u ≡ true → Answered n q t (by_table d ps u)
 table_over n p q d ps t [] absent listed shows h = absurd (false≢true h)
 table_over n p q d ps t (None ∷ []) absent listed shows h = absent h
 table_over n p q d ps t (Some i ∷ []) absent listed shows h = by_partner (partner d i ps) refl
   where
-    here : leb (n + 1) MAX_LEVELS ≡ true
+    here : leb (n + 1) STORED_LEVELS ≡ true
     here = room n p i (first_allowed n p (Some i) [] [] h)
 
     by_partner : (o : Option Json) → partner d i ps ≡ o → Answered n q t (option_map one o)

@@ -12,7 +12,7 @@ use Rattle.hub_cells.specs.Side.{Side, spoke, hub}
 use Rattle.hub_cells.specs.Level.{Name, AreDistinct}
 use Rattle.hub_cells.specs.Fit.{has_name}
 use Rattle.hub_rules.specs.Rule.{Rule, Rules, no_rules, rule, rule_names, spoke_names, hub_names, names_on}
-use Rattle.hub_rules.specs.Sound.{IsSound, AreSound}
+use Rattle.hub_rules.specs.Sound.{IsSoundRule, AreSoundRules}
 use Rattle.hub_rules.specs.Refusal.{Why, name_twice, name_missing, schema_differs, unpaired_default, required_lost, range_lost, spot_at, node, node_at, again, twice_in, twice, absent, absent_in, absent_from, first_failing, failing_in, unpaired, missing, schema_passes, default_passes, required_passes, range_passes, head_spot, refused, differing, lost, schema_spot, required_spot, level_spot, is_free, alike_required}
 use Rattle.hub_fit.proofs.Names.{Apart, or_left, or_right, fresh}
 
@@ -54,13 +54,13 @@ pub record RuleHolds (s h : Shape) (r : Rule) : Type 0 where
   pub default : default_passes s h r ≡ true
   pub required : required_passes s h r ≡ true
   pub range : range_passes s h r ≡ true
-  pub sound : IsSound r
+  pub sound : IsSoundRule r
 
 abbrev pub AllHold : Shape → Shape → Rules → Type 0
 AllHold s h no_rules = Unit {0}
 AllHold s h (rule r rs) = RuleHolds s h r × AllHold s h rs
 
-all_hold : (s h : Shape) (rs : Rules) → AreSound rs → absent_from s h rs ≡ None → refused schema_differs s h rs ≡ None → refused unpaired_default s h rs ≡ None → refused required_lost s h rs ≡ None → refused range_lost s h rs ≡ None → AllHold s h rs
+all_hold : (s h : Shape) (rs : Rules) → AreSoundRules rs → absent_from s h rs ≡ None → refused schema_differs s h rs ≡ None → refused unpaired_default s h rs ≡ None → refused required_lost s h rs ≡ None → refused range_lost s h rs ≡ None → AllHold s h rs
 all_hold s h no_rules p a b c d e = tt
 all_hold s h (rule r rs) p a b c d e =
     let there = none_left (absent_in s h r) (absent_from s h rs) a in
@@ -130,7 +130,7 @@ pub record NamesHold (s h : Shape) (rs : Rules) : Type 0 where
   pub spoke_lost : lost s ≡ None
   pub hub_lost : lost h ≡ None
 
-pub rules_hold : (s h : Shape) (rs : Rules) → AreSound rs → level_spot s h rs ≡ None → AllHold s h rs
+pub rules_hold : (s h : Shape) (rs : Rules) → AreSoundRules rs → level_spot s h rs ≡ None → AllHold s h rs
 rules_hold s h rs p e =
     let e1 = none_right (twice rs) _ e in
     let m = none_left (missing s h rs) _ e1 in

@@ -22,7 +22,7 @@ use Rattle.hub_cells.specs.Cross.{partner}
 use Rattle.hub_cells.specs.Level.{Name, Cell, CellFits, CellsFit, Inners, InnersFit, NoneTwice, AreDistinct}
 use Rattle.hub_cells.specs.Fit.{shape_on, has_name, is_required, IsClosedObject, IsPlaceOf, ArePlacesOf, CellsStand, IsCovered, Stands, InnersStand, IsFitted}
 use Rattle.hub_rules.specs.Rule.{Rule, same, within, spoke_only, hub_only, split, table, scale, Rules, no_rules, rule, names_on}
-use Rattle.hub_rules.specs.Sound.{AreSound}
+use Rattle.hub_rules.specs.Sound.{AreSoundRules}
 use Rattle.hub_rules.specs.Refusal.{node, is_there, node_at, or_any, default_at, is_free, absent, is_closed, has_properties, is_whole, is_whole_node, alike_required, lacks_default, defaults_pair, is_pair, is_multiple, is_null, plain_text, all_valid, valid_blank, once, scale_fits, level_spot}
 use Rattle.hub_fit.specs.Chosen.{place_at, places_at, cell_at, with_cell, free_cells, free_in, cells_before, cells_of, with_inner, inners_of, level_of, fit_of}
 use Rattle.hub_fit.proofs.CellFits.{and_left, and_right, and_both, same_fits, spoke_only_fits, hub_only_fits, split_cell, split_fits, table_fits}
@@ -468,7 +468,7 @@ once_each d n s h rs v f =
     let are : cells_names d cs [] ≡ free_names (names_on spoke rs) (properties s) = free_names_are d n s h (names_on spoke rs) (properties s) in
     distinct_all d n s h rs cs (single_on d s h rs f) (subst AreDistinct (sym are) (distinct_names (names_on spoke rs) (properties s) v)) (subst (Apart (names_on d rs)) (sym are) (apart_free d s h rs f))
 
-pub level_fits : (n : ℕ) (s h : Shape) (rs : Rules) → AllDiffer (properties s) → AreSound rs → is_closed s ≡ true → is_closed h ≡ true → level_spot s h rs ≡ None → AllInnerFit n s h rs → IsFitted (fit_of n s h rs)
+pub level_fits : (n : ℕ) (s h : Shape) (rs : Rules) → AllDiffer (properties s) → AreSoundRules rs → is_closed s ≡ true → is_closed h ≡ true → level_spot s h rs ≡ None → AllInnerFit n s h rs → IsFitted (fit_of n s h rs)
 level_fits n s h rs v sound p q e g =
     let a = rules_hold s h rs sound e in
     let f = names_hold s h rs e in

@@ -13,7 +13,7 @@ use Rattle.struct_schema.specs.declared.kind.NodeKind.{NodeKind}
 use Rattle.struct_schema.specs.declared.kind.NodeKind.TheVariants.{Object, Array, Text, Whole, Truth, IntOrText, Any}
 use Rattle.struct_schema.specs.declared.kind.IntFormat.{IntFormat}
 use Rattle.struct_schema.specs.declared.kind.IntFormat.TheVariants.{Int32, Int64}
-use Rattle.hub_cells.specs.declared.allowed.TheConstants.{MAX_LEVELS}
+use Rattle.hub_cells.specs.declared.allowed.TheConstants.{STORED_LEVELS}
 use Rattle.hub_cells.specs.Side.{Side, spoke, hub}
 use Rattle.hub_cells.specs.Cell.{Tuple, scale, one}
 use Rattle.hub_cells.specs.Cross.{quotient, matched}
@@ -143,7 +143,7 @@ valid_between t z v w =
     let form = and_right (a && b) c limits in
     (not_less z (least o) (is_high o.minimum o.format z (and_left a b two) form w), not_less (greatest o) z (is_low o.maximum o.format z (and_right a b two) form w))
 
-between_allowed : (n : ℕ) (q : Place) (z : ℤ) → IsNumbers q.shape → IsBetween (own q.shape) z → leb (n + 1) MAX_LEVELS ≡ true → all_allowed n (q ∷ []) (one (whole z)) ≡ true
+between_allowed : (n : ℕ) (q : Place) (z : ℤ) → IsNumbers q.shape → IsBetween (own q.shape) z → leb (n + 1) STORED_LEVELS ≡ true → all_allowed n (q ∷ []) (one (whole z)) ≡ true
 between_allowed n q z f h r =
     let o = own q.shape in
     let a = at_least o.minimum z in
@@ -156,7 +156,7 @@ between_allowed n q z f h r =
     let third = from_format o.format z (above_second low_bound (format_least o.format) z h.0) (below_second high_bound (format_greatest o.format) z h.1) in
     let limits : (a && b && c) ≡ true = and_both (a && b) c (and_both a b first second) third.0 in
     let kept : valid q.shape (whole z) ≡ true = and_both (has_kind o.kind (whole z) && is_chosen o.choices (whole z)) (a && b && c) (and_both (has_kind o.kind (whole z)) (is_chosen o.choices (whole z)) (whole_kind o.kind z f.kind) (any_chosen o.choices (whole z) f.choices)) limits in
-    let shown : allowed_at n q (Some (whole z)) ≡ true = and_both (valid q.shape (whole z) && true && leb (n + 1 + 0) MAX_LEVELS) (is_word (whole z)) (and_both (valid q.shape (whole z) && true) (leb (n + 1 + 0) MAX_LEVELS) (and_both (valid q.shape (whole z)) true kept refl) (shallow n r)) third.1 in
+    let shown : allowed_at n q (Some (whole z)) ≡ true = and_both (valid q.shape (whole z) && true && leb (n + 1 + 0) STORED_LEVELS) (is_word (whole z)) (and_both (valid q.shape (whole z) && true) (leb (n + 1 + 0) STORED_LEVELS) (and_both (valid q.shape (whole z)) true kept refl) (shallow n r)) third.1 in
     alone n q (Some (whole z)) shown
 
 -- nothing else is valid there
@@ -182,11 +182,11 @@ Number t j = (z : ℤ) × (j ≡ whole z) × IsBetween (own t) z
 
 value_valid : (n : ℕ) (p : Place) (j : Json) → allowed_at n p (Some j) ≡ true → valid p.shape j ≡ true
 value_valid n p j h =
-    and_left (valid p.shape j) (stays p.shape j) (and_left (valid p.shape j && stays p.shape j) (leb (n + 1 + depth j) MAX_LEVELS) (and_left (valid p.shape j && stays p.shape j && leb (n + 1 + depth j) MAX_LEVELS) (is_word j) h))
+    and_left (valid p.shape j) (stays p.shape j) (and_left (valid p.shape j && stays p.shape j) (leb (n + 1 + depth j) STORED_LEVELS) (and_left (valid p.shape j && stays p.shape j && leb (n + 1 + depth j) STORED_LEVELS) (is_word j) h))
 
 value_word : (n : ℕ) (p : Place) (j : Json) → allowed_at n p (Some j) ≡ true → is_word j ≡ true
 value_word n p j h =
-    and_right (valid p.shape j && stays p.shape j && leb (n + 1 + depth j) MAX_LEVELS) (is_word j) h
+    and_right (valid p.shape j && stays p.shape j && leb (n + 1 + depth j) STORED_LEVELS) (is_word j) h
 
 number : (n : ℕ) (p : Place) (j : Json) → IsNumbers p.shape → allowed_at n p (Some j) ≡ true → Number p.shape j
 number n p null f h = absurd (false≢true (sym f.nullable ∙ value_valid n p null h))
@@ -240,11 +240,11 @@ scale_absent : (n : ℕ) (p q : Place) (k : ℕ) (d : Side) → AbsentMatch (sca
 scale_absent n p q k spoke = refl
 scale_absent n p q k hub = refl
 
-value_over : (n : ℕ) (p q : Place) (k : ℕ) (j : Json) → ScaleHolds p q k → leb (n + 1) MAX_LEVELS ≡ true → Number p.shape j → MatchAllowed (scale_cell n p q k) spoke (matched spoke (scale k) (one j)) (one j)
+value_over : (n : ℕ) (p q : Place) (k : ℕ) (j : Json) → ScaleHolds p q k → leb (n + 1) STORED_LEVELS ≡ true → Number p.shape j → MatchAllowed (scale_cell n p q k) spoke (matched spoke (scale k) (one j)) (one j)
 value_over n p q k j f r v =
     subst (λ (i : Json). MatchAllowed (scale_cell n p q k) spoke (matched spoke (scale k) (one i)) (one i)) (sym v.1) (between_allowed n q (pos k *ℤ v.0) f.hub (product_between p q k v.0 f v.2) r)
 
-value_back : (n : ℕ) (p q : Place) (k : ℕ) (j : Json) → ScaleHolds p q k → leb (n + 1) MAX_LEVELS ≡ true → Number q.shape j → MatchAllowed (scale_cell n p q k) hub (matched hub (scale k) (one j)) (one j)
+value_back : (n : ℕ) (p q : Place) (k : ℕ) (j : Json) → ScaleHolds p q k → leb (n + 1) STORED_LEVELS ≡ true → Number q.shape j → MatchAllowed (scale_cell n p q k) hub (matched hub (scale k) (one j)) (one j)
 value_back n p q k j f r v =
     subst (λ (i : Json). MatchAllowed (scale_cell n p q k) hub (matched hub (scale k) (one i)) (one i)) (sym v.1) (by_test (int_eq (pos k *ℤ quotient k v.0) v.0))
   where

@@ -1,15 +1,15 @@
 -- What an answer that gives nothing means: the first refusal, or want of memory.
 use Rattle.std.specs.Prelude.{Option}
 use Rattle.hub_rules.specs.Refusal.{Fault}
-use Rattle.hub_rules.specs.Told.{Names}
+use Rattle.hub_rules.specs.Told.{NamesFitFault}
 use Rattle.hub_rules.specs.declared.refusal.FitFault.{FitFault}
 use Rattle.hub_rules.specs.declared.refusal.FitFault.TheVariants.{NameTwice, NameMissing, SchemaDiffers, UnpairedDefault, RequiredLost, RangeLost, NoMemory}
 
-abbrev pub Refuses : Option Fault → FitFault → Type 0
-Refuses o (NameTwice path) = Names o (NameTwice path)
-Refuses o (NameMissing path) = Names o (NameMissing path)
-Refuses o (SchemaDiffers path) = Names o (SchemaDiffers path)
-Refuses o (UnpairedDefault path) = Names o (UnpairedDefault path)
-Refuses o (RequiredLost path) = Names o (RequiredLost path)
-Refuses o (RangeLost path) = Names o (RangeLost path)
-Refuses o NoMemory = Unit {0}
+abbrev pub RefusesFit : Option Fault → FitFault → Type 0
+RefusesFit o (NameTwice path) = NamesFitFault o (NameTwice path)
+RefusesFit o (NameMissing path) = NamesFitFault o (NameMissing path)
+RefusesFit o (SchemaDiffers path) = NamesFitFault o (SchemaDiffers path)
+RefusesFit o (UnpairedDefault path) = NamesFitFault o (UnpairedDefault path)
+RefusesFit o (RequiredLost path) = NamesFitFault o (RequiredLost path)
+RefusesFit o (RangeLost path) = NamesFitFault o (RangeLost path)
+RefusesFit o NoMemory = Unit {0}

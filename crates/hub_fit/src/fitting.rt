@@ -11,7 +11,7 @@ ghost use Rattle.hub_cells.specs.Level.{Inners};
 ghost use Rattle.hub_fit.specs.InnerFits.{InnerFits, AllInnerFit, joined};
 ghost use Rattle.hub_fit.specs.Differ.{AllDiffer};
 ghost use Rattle.struct_schema.specs.Shape.{properties};
-ghost use Rattle.hub_fit.specs.Refuses.{Refuses};
+ghost use Rattle.hub_fit.specs.Refuses.{RefusesFit};
 
 use crate::cells::cells;
 use hub_cells::{Fitted, Inner};
@@ -153,7 +153,7 @@ fn build_root(
 pub fn fit(alloc: Global, rules: &Rules, spoke: &Schema, hub: &Schema) -> Result<Fitted, FitFault>
     ensures ok { IfOk result (λ f. f ≡ fit_of 0 (shape_of spoke.now) (shape_of hub.now) (rules_of rules.now)) }
     ensures fits { IfOk result (λ f. fit_fault (shape_of spoke.now) (shape_of hub.now) (rules_of rules.now) ≡ None) }
-    ensures err { IfErr result (λ e. Refuses (fit_fault (shape_of spoke.now) (shape_of hub.now) (rules_of rules.now)) e) }
+    ensures err { IfErr result (λ e. RefusesFit (fit_fault (shape_of spoke.now) (shape_of hub.now) (rules_of rules.now)) e) }
 {
     match check_fit(alloc, rules, spoke, hub) {
         Err(refused) => Err(refused),

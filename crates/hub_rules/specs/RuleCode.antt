@@ -11,20 +11,20 @@ use Rattle.hub_rules.specs.Rule.{Rule, same, within, spoke_only, hub_only, split
 
 -- ---- a rule by its number, its names, and what else it holds but for rules
 
-abbrev pub Names : Type 0
-Names = Name × (Name × Name)
+abbrev pub RuleNames : Type 0
+RuleNames = Name × (Name × Name)
 
-abbrev pub Held : Type 0
-Held = List (Json × Json) × (Json × (Json × ℕ))
+abbrev pub RuleContents : Type 0
+RuleContents = List (Json × Json) × (Json × (Json × ℕ))
 
 abbrev pub Flat : Type 0
-Flat = ℕ × (Names × Held)
+Flat = ℕ × (RuleNames × RuleContents)
 
 abbrev pub flat_code : Coded Flat
 flat_code =
     coded× coded_ℕ (coded× (coded× name_code (coded× name_code name_code)) (coded× (coded_list (coded× json_code json_code)) (coded× json_code (coded× json_code coded_ℕ))))
 
-abbrev pub nothing : ℕ → Held
+abbrev pub nothing : ℕ → RuleContents
 nothing k = ([], (null, (null, k)))
 
 abbrev pub flat : Rule → Flat

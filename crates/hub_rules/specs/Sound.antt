@@ -2,7 +2,7 @@
 -- `within` stands inside eight others.
 use Rattle.std.specs.Prelude.{◌≤◌, List, [], ◌∷◌}
 use Rattle.kj_value.specs.Json.{Json, null, boolean, whole, text, list, object}
-use Rattle.kj_value.specs.Sound.{IsSound as IsValue}
+use Rattle.kj_value.specs.Sound.{IsSoundJson as IsValue}
 use Rattle.hub_rules.specs.Rule.{Rule, same, within, spoke_only, hub_only, split, table, scale, Rules, no_rules, rule}
 
 -- null, a truth value, a number of 64 bits or a text
@@ -19,15 +19,15 @@ AreScalars [] = Unit {0}
 AreScalars (p ∷ ps) = IsScalar p.0 × IsScalar p.1 × AreScalars ps
 
 abbrev mutual
-  pub IsSound : Rule → Type 0
-  IsSound (same a b) = Unit {0}
-  IsSound (within a b rs) = AreSound rs
-  IsSound (spoke_only a) = Unit {0}
-  IsSound (hub_only b) = Unit {0}
-  IsSound (split a b c) = Unit {0}
-  IsSound (table a b ps x y) = AreScalars ps × IsScalar x × IsScalar y
-  IsSound (scale a b k) = (2 ≤ k) × (k ≤ 1000000000)
+  pub IsSoundRule : Rule → Type 0
+  IsSoundRule (same a b) = Unit {0}
+  IsSoundRule (within a b rs) = AreSoundRules rs
+  IsSoundRule (spoke_only a) = Unit {0}
+  IsSoundRule (hub_only b) = Unit {0}
+  IsSoundRule (split a b c) = Unit {0}
+  IsSoundRule (table a b ps x y) = AreScalars ps × IsScalar x × IsScalar y
+  IsSoundRule (scale a b k) = (2 ≤ k) × (k ≤ 1000000000)
 
-  pub AreSound : Rules → Type 0
-  AreSound no_rules = Unit {0}
-  AreSound (rule r rs) = IsSound r × AreSound rs
+  pub AreSoundRules : Rules → Type 0
+  AreSoundRules no_rules = Unit {0}
+  AreSoundRules (rule r rs) = IsSoundRule r × AreSoundRules rs

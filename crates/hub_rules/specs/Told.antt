@@ -16,22 +16,22 @@ path_text (n ∷ []) = n
 path_text (n ∷ m ∷ ns) = n ++ codes "." ++ path_text (m ∷ ns)
 
 -- there is a refusal, and it is this one unless memory ran out
-abbrev pub Names : Option Fault → FitFault → Type 0
-Names None e = ⊥
-Names (Some f) (NameTwice path) = (f.why ≡ name_twice) × (path.bytes ≡ path_text f.path)
-Names (Some f) (NameMissing path) = (f.why ≡ name_missing) × (path.bytes ≡ path_text f.path)
-Names (Some f) (SchemaDiffers path) = (f.why ≡ schema_differs) × (path.bytes ≡ path_text f.path)
-Names (Some f) (UnpairedDefault path) = (f.why ≡ unpaired_default) × (path.bytes ≡ path_text f.path)
-Names (Some f) (RequiredLost path) = (f.why ≡ required_lost) × (path.bytes ≡ path_text f.path)
-Names (Some f) (RangeLost path) = (f.why ≡ range_lost) × (path.bytes ≡ path_text f.path)
-Names (Some f) NoMemory = Unit {0}
+abbrev pub NamesFitFault : Option Fault → FitFault → Type 0
+NamesFitFault None e = ⊥
+NamesFitFault (Some f) (NameTwice path) = (f.why ≡ name_twice) × (path.bytes ≡ path_text f.path)
+NamesFitFault (Some f) (NameMissing path) = (f.why ≡ name_missing) × (path.bytes ≡ path_text f.path)
+NamesFitFault (Some f) (SchemaDiffers path) = (f.why ≡ schema_differs) × (path.bytes ≡ path_text f.path)
+NamesFitFault (Some f) (UnpairedDefault path) = (f.why ≡ unpaired_default) × (path.bytes ≡ path_text f.path)
+NamesFitFault (Some f) (RequiredLost path) = (f.why ≡ required_lost) × (path.bytes ≡ path_text f.path)
+NamesFitFault (Some f) (RangeLost path) = (f.why ≡ range_lost) × (path.bytes ≡ path_text f.path)
+NamesFitFault (Some f) NoMemory = Unit {0}
 
 abbrev pub IsNamed : List Name → Type 0
 IsNamed [] = ⊥
 IsNamed (n ∷ ns) = Unit {0}
 
 -- for private clauses: the same on the way out, below the root
-abbrev pub Stops : Option Fault → Stop → Type 0
-Stops None e = ⊥
-Stops (Some f) (Found x) = (x.path.bytes ≡ path_text f.path) × (side x.side ≡ f.side) × (why x.why ≡ f.why) × IsNamed f.path
-Stops (Some f) Starved = Unit {0}
+abbrev pub StopsFit : Option Fault → Stop → Type 0
+StopsFit None e = ⊥
+StopsFit (Some f) (Found x) = (x.path.bytes ≡ path_text f.path) × (side x.side ≡ f.side) × (why x.why ≡ f.why) × IsNamed f.path
+StopsFit (Some f) Starved = Unit {0}

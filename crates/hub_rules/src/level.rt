@@ -3,7 +3,7 @@ ghost use Rattle.std.specs.Prelude.{◌≡◌, map, option_map};
 ghost use Rattle.struct_schema.specs.ShapeOf.{shape_of};
 ghost use Rattle.struct_schema.specs.Fault.{or_else};
 ghost use Rattle.hub_rules.specs.Rule.{rules_of};
-ghost use Rattle.hub_rules.specs.Sound.{AreSound};
+ghost use Rattle.hub_rules.specs.Sound.{AreSoundRules};
 ghost use Rattle.hub_rules.specs.Seen.{rule};
 ghost use Rattle.hub_rules.specs.Spots.{why};
 ghost use Rattle.hub_rules.specs.SeenSpot.{spot};
@@ -41,7 +41,7 @@ fn refused<'a>(
     h: &Schema,
     any: &AnyNode,
 ) -> Option<Spot<'a>>
-    requires { AreSound (rules_of (map rule lines.now)) }
+    requires { AreSoundRules (rules_of (map rule lines.now)) }
     ensures { option_map spot result
         ≡ refused (why reason) (shape_of s.now) (shape_of h.now) (rules_of (map rule lines.now)) }
 {
@@ -60,7 +60,7 @@ fn schema_spot<'a>(
     h: &'a Schema,
     any: &AnyNode,
 ) -> Option<Spot<'a>>
-    requires { AreSound (rules_of (map rule lines.now)) }
+    requires { AreSoundRules (rules_of (map rule lines.now)) }
     ensures { option_map spot result
         ≡ schema_spot (shape_of s.now) (shape_of h.now) (rules_of (map rule lines.now)) }
 {
@@ -77,7 +77,7 @@ fn required_spot<'a>(
     h: &'a Schema,
     any: &AnyNode,
 ) -> Option<Spot<'a>>
-    requires { AreSound (rules_of (map rule lines.now)) }
+    requires { AreSoundRules (rules_of (map rule lines.now)) }
     ensures { option_map spot result
         ≡ required_spot (shape_of s.now) (shape_of h.now) (rules_of (map rule lines.now)) }
 {
@@ -94,7 +94,7 @@ fn late_spot<'a>(
     h: &'a Schema,
     any: &AnyNode,
 ) -> Option<Spot<'a>>
-    requires { AreSound (rules_of (map rule lines.now)) }
+    requires { AreSoundRules (rules_of (map rule lines.now)) }
     ensures { let rs = rules_of (map rule lines.now) in option_map spot result ≡ or_else
         (refused unpaired_default (shape_of s.now) (shape_of h.now) rs)
         (or_else (required_spot (shape_of s.now) (shape_of h.now) rs)
@@ -116,7 +116,7 @@ pub(crate) fn level_spot<'a>(
     h: &'a Schema,
     any: &AnyNode,
 ) -> Option<Spot<'a>>
-    requires { AreSound (rules_of (map rule lines.now)) }
+    requires { AreSoundRules (rules_of (map rule lines.now)) }
     ensures { option_map spot result
         ≡ level_spot (shape_of s.now) (shape_of h.now) (rules_of (map rule lines.now)) }
 {

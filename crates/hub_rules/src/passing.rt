@@ -9,7 +9,7 @@ ghost use Rattle.hub_cells.specs.Side.{spoke, hub};
 ghost use Rattle.hub_cells.specs.Cross.{partner};
 ghost use Rattle.hub_cells.specs.Fit.{is_required};
 ghost use Rattle.hub_cells.specs.Pairs.{values_of};
-ghost use Rattle.hub_rules.specs.Sound.{IsSound};
+ghost use Rattle.hub_rules.specs.Sound.{IsSoundRule};
 ghost use Rattle.hub_rules.specs.Seen.{rule};
 ghost use Rattle.hub_rules.specs.Spots.{why};
 ghost use Rattle.hub_rules.specs.Refusal.{node_at, default_at, schema_passes, default_passes, required_passes, range_passes, rule_passes, is_value, is_pair, is_multiple, defaults_pair, plain_text, all_valid, valid_blank, once, is_null, scale_fits};
@@ -125,7 +125,7 @@ fn are_values(a: &JVal, b: &JVal) -> bool
 }
 
 fn default_passes(line: &Line, spoke: &Schema, hub: &Schema, any: &AnyNode) -> bool
-    requires { IsSound (rule line.now) }
+    requires { IsSoundRule (rule line.now) }
     ensures { result ≡ default_passes (shape_of spoke.now) (shape_of hub.now) (rule line.now) }
 {
     match line {
@@ -272,7 +272,7 @@ fn table_passes(
 }
 
 fn range_passes(alloc: Global, line: &Line, spoke: &Schema, hub: &Schema, any: &AnyNode) -> bool
-    requires { IsSound (rule line.now) }
+    requires { IsSoundRule (rule line.now) }
     ensures { result ≡ range_passes (shape_of spoke.now) (shape_of hub.now) (rule line.now) }
 {
     match line {
@@ -329,7 +329,7 @@ pub(crate) fn passes(
     hub: &Schema,
     any: &AnyNode,
 ) -> bool
-    requires { IsSound (rule line.now) }
+    requires { IsSoundRule (rule line.now) }
     ensures { result ≡ rule_passes (why reason) (shape_of spoke.now) (shape_of hub.now) (rule line.now) }
 {
     match reason {

@@ -4,11 +4,11 @@ ghost use Rattle.struct_schema.specs.ShapeOf.{shape_of, own_of};
 ghost use Rattle.hub_cells.specs.Level.{named};
 ghost use Rattle.hub_cells.specs.Seen.{side};
 ghost use Rattle.hub_rules.specs.Rule.{rules_of};
-ghost use Rattle.hub_rules.specs.Sound.{IsSound, AreSound};
+ghost use Rattle.hub_rules.specs.Sound.{IsSoundRule, AreSoundRules};
 ghost use Rattle.hub_rules.specs.Seen.{rule};
 ghost use Rattle.hub_rules.specs.Spots.{why};
 ghost use Rattle.hub_rules.specs.SeenSpot.{spot};
-ghost use Rattle.hub_rules.specs.Told.{Stops, Names, path_text};
+ghost use Rattle.hub_rules.specs.Told.{StopsFit, NamesFitFault, path_text};
 ghost use Rattle.hub_rules.specs.Refusal.{Fault, told, under, at_root, fault, inner_fault, within_fault, root_fault, fit_fault};
 
 use crate::level::level_spot;
@@ -55,7 +55,7 @@ pub(crate) enum Stop {
 }
 
 fn told(alloc: Global, p: Spot) -> Stop
-    ensures { Stops (Some (told (spot p.entry))) result }
+    ensures { StopsFit (Some (told (spot p.entry))) result }
 {
     match Txt::of(alloc, p.name.as_str()) {
         Ok(path) => Stop::Found(Found {
@@ -87,7 +87,7 @@ fn stepped(alloc: Global, name: &str, path: &str) -> Result<Txt, NoMemory>
 
 // The refusal inside two objects, as one around them.
 fn under(alloc: Global, a: &Txt, b: &Txt, stop: Stop) -> Stop
-    ensures { (o : Option Fault) → Stops o stop → Stops (under a.now.bytes b.now.bytes o) result }
+    ensures { (o : Option Fault) → StopsFit o stop → StopsFit (under a.now.bytes b.now.bytes o) result }
 {
     match stop {
         Stop::Starved => Stop::Starved,
@@ -119,7 +119,7 @@ fn rules_fault(
     any: &AnyNode,
 ) -> Result<(), Stop>
     ensures { let o = fault (shape_of s.now) (shape_of h.now) (rules_of rules.now) in
-        MatchResult result (λ _. o ≡ None) (λ e. Stops o e) }
+        MatchResult result (λ _. o ≡ None) (λ e. StopsFit o e) }
 {
     let lines = rules.as_slice();
     match level_spot(alloc, lines, s, h, any) {
@@ -138,7 +138,7 @@ fn inner_fault(
     any: &AnyNode,
 ) -> Result<(), Stop>
     ensures { let o = inner_fault (shape_of s.now) (shape_of h.now) (rules_of (map rule lines.now)) in
-        MatchResult result (λ _. o ≡ None) (λ e. Stops o e) }
+        MatchResult result (λ _. o ≡ None) (λ e. StopsFit o e) }
 {
     for line in lines {
         if let Err(stop) = within_fault(alloc, line, s, h, any) {
@@ -158,7 +158,7 @@ fn within_fault(
     any: &AnyNode,
 ) -> Result<(), Stop>
     ensures { let o = within_fault (shape_of s.now) (shape_of h.now) (rule line.now) in
-        MatchResult result (λ _. o ≡ None) (λ e. Stops o e) }
+        MatchResult result (λ _. o ≡ None) (λ e. StopsFit o e) }
 {
     match line {
         Line::Object {
@@ -180,7 +180,7 @@ fn within_fault(
 
 fn fault_at(path: Txt, reason: Why) -> FitFault
     ensures { (f : Fault) → path.bytes ≡ path_text f.path → why reason ≡ f.why
-        → Names (Some f) result }
+        → NamesFitFault (Some f) result }
 {
     match reason {
         Why::NameTwice => FitFault::NameTwice { path },
@@ -193,7 +193,7 @@ fn fault_at(path: Txt, reason: Why) -> FitFault
 }
 
 fn fault_of(stop: Stop) -> FitFault
-    ensures { (o : Option Fault) → Stops o stop → Names o result }
+    ensures { (o : Option Fault) → StopsFit o stop → NamesFitFault o result }
 {
     match stop {
         Stop::Starved => FitFault::NoMemory,
@@ -203,14 +203,14 @@ fn fault_of(stop: Stop) -> FitFault
 
 // A refusal of the roots themselves.
 fn at_root(alloc: Global, reason: Why) -> FitFault
-    ensures { Names (Some (at_root (why reason))) result }
+    ensures { NamesFitFault (Some (at_root (why reason))) result }
 {
     fault_at(Txt::of_string(String::new(alloc)), reason)
 }
 
 fn root_fault(alloc: Global, s: &Schema, h: &Schema) -> Result<(), FitFault>
     ensures { let o = root_fault (shape_of s.now) (shape_of h.now) in
-        MatchResult result (λ _. o ≡ None) (λ e. Names o e) }
+        MatchResult result (λ _. o ≡ None) (λ e. NamesFitFault o e) }
 {
     let closed = is_closed(s) && is_closed(h);
     if !closed {
@@ -225,7 +225,7 @@ fn root_fault(alloc: Global, s: &Schema, h: &Schema) -> Result<(), FitFault>
 
 fn below_root(alloc: Global, rules: &Rules, s: &Schema, h: &Schema) -> Result<(), FitFault>
     ensures { let o = fault (shape_of s.now) (shape_of h.now) (rules_of rules.now) in
-        MatchResult result (λ _. o ≡ None) (λ e. Names o e) }
+        MatchResult result (λ _. o ≡ None) (λ e. NamesFitFault o e) }
 {
     let any = AnyNode::new(alloc);
     match rules_fault(alloc, rules, s, h, &any) {
@@ -240,7 +240,7 @@ fn below_root(alloc: Global, rules: &Rules, s: &Schema, h: &Schema) -> Result<()
 /// rule. `NoMemory` comes only where something is refused.
 pub fn check_fit(alloc: Global, rules: &Rules, spoke: &Schema, hub: &Schema) -> Result<(), FitFault>
     ensures { let o = fit_fault (shape_of spoke.now) (shape_of hub.now) (rules_of rules.now) in
-        MatchResult result (λ _. o ≡ None) (λ e. Names o e) }
+        MatchResult result (λ _. o ≡ None) (λ e. NamesFitFault o e) }
 {
     match root_fault(alloc, spoke, hub) {
         Err(refused) => Err(refused),

@@ -1,7 +1,7 @@
 //! The rules of one spoke.
 ghost use Rattle.std.specs.Prelude.{◌≡◌, ◌≤◌, ◌++◌, [], ◌∷◌, length, map, OnOk, OnErr};
 ghost use Rattle.hub_rules.specs.Rule.{rules_of, rule_depth, inner_depth};
-ghost use Rattle.hub_rules.specs.Sound.{IsSound, AreSound};
+ghost use Rattle.hub_rules.specs.Sound.{IsSoundRule, AreSoundRules};
 ghost use Rattle.hub_rules.specs.Seen.{rule};
 
 use hub_cells::PairItems;
@@ -76,12 +76,12 @@ impl Model for Rules {
     ghost coded = { coded_list rule_code };
 
     ghost use Rattle.hub_rules.specs.Seen.{rule};
-    ghost use Rattle.hub_rules.specs.Sound.{AreSound};
+    ghost use Rattle.hub_rules.specs.Sound.{AreSoundRules};
     ghost use Rattle.hub_rules.specs.declared.rules.TheConstants.{MAX_OBJECTS};
 
     ghost view = { λ a. map rule a.lines.items };
 
-    ghost invariant = { λ a. AreSound (rules_of (map rule a.lines.items))
+    ghost invariant = { λ a. AreSoundRules (rules_of (map rule a.lines.items))
         × (inner_depth (rules_of (map rule a.lines.items)) ≤ MAX_OBJECTS) };
 
     ghost size = { λ rs. inner_depth (rules_of rs) };
@@ -94,7 +94,7 @@ impl Model for Rules {
 impl Rules {
     ghost use Rattle.std.specs.Prelude.{◌≡◌, ◌≤◌, ◌++◌, [], ◌∷◌, length, map, OnOk, OnErr};
     ghost use Rattle.hub_rules.specs.Rule.{rules_of, rule_depth, inner_depth};
-    ghost use Rattle.hub_rules.specs.Sound.{IsSound, AreSound};
+    ghost use Rattle.hub_rules.specs.Sound.{IsSoundRule, AreSoundRules};
     ghost use Rattle.hub_rules.specs.Seen.{rule};
 
     /// No rules. It takes no memory.
@@ -116,7 +116,7 @@ impl Rules {
     /// The rules in order.
     pub fn as_slice(&self) -> &[Line]
         ensures value { map rule result.now ≡ self.now }
-        ensures sound { AreSound (rules_of self.now) }
+        ensures sound { AreSoundRules (rules_of self.now) }
         ensures depth { inner_depth (rules_of self.now) ≤ MAX_OBJECTS }
     {
         self.lines.as_slice()
@@ -124,7 +124,7 @@ impl Rules {
 
     /// Adds a rule at the end. After an error the rules are as they were.
     pub fn push(&mut self, line: Line) -> Result<(), NoMemory>
-        requires sound { IsSound (rule line) }
+        requires sound { IsSoundRule (rule line) }
         requires depth { rule_depth (rule line) ≤ MAX_OBJECTS }
         ensures ok { OnOk result (self.new ≡ self.old ++ rule line ∷ []) }
         ensures err { OnErr result (self.new ≡ self.old) }

@@ -12,7 +12,7 @@ use Rattle.hub_cells.specs.Level.{Name, tuple_of}
 use Rattle.kept_entries.specs.declared.entry.Entry.{Entry}
 use Rattle.keep_laws.specs.Entry.{part, kept_of, inside, under}
 use Rattle.keep_laws.specs.Body.{pairs_of, object_in, as_field, read_cells, read, read_inners, cells_values, body, inner_values, all_entries, entries}
-use Rattle.keep_laws.specs.Whole.{Held, Ready, marks_of, object_of, IsWhole, IsPair, other_object, IsTheOne}
+use Rattle.keep_laws.specs.Whole.{Held, Ready, marks_of, object_of, IsWholeOnSide, IsPair, other_object, IsTheOne}
 use Rattle.keep_laws.proofs.Fields.{allowed_length, put_back, distinct_left, distinct_right}
 use Rattle.keep_laws.proofs.Holds.{HoldsCell, HoldsCells, Holds, HoldsInners, same_holds, kept_none, kept_some, kept_part, has_under, has_inside, order_has, has_order}
 use Rattle.keep_laws.proofs.Written.{level_holds}
@@ -110,7 +110,7 @@ marks_back d l m r g =
     same_holds d l m (λ e. Has e (all_entries d l m)) (λ e. Has e (entries d l m)) (λ e i. has_order e (all_entries d l m) i) (λ e i. order_has e (all_entries d l m) i) (level_holds d l m (no_name_twice (other d) l r))
     )
 
-pub other_whole : (d : Side) (l : Level) (x : Held) → Ready l → IsWhole d l x → IsWhole (other d) l (other_object d l x)
+pub other_whole : (d : Side) (l : Level) (x : Held) → Ready l → IsWholeOnSide d l x → IsWholeOnSide (other d) l (other_object d l x)
 other_whole d l x r w =
     let m = crossed d l (marks_of d l x) in
     let good = crossed_good d l (marks_of d l x) r.fits w.good in
@@ -120,7 +120,7 @@ other_whole d l x r w =
     }
 
 -- there and back
-pub object_back_again : (d : Side) (l : Level) (x : Held) → Ready l → IsWhole d l x → other_object (other d) l (other_object d l x) ≡ x
+pub object_back_again : (d : Side) (l : Level) (x : Held) → Ready l → IsWholeOnSide d l x → other_object (other d) l (other_object d l x) ≡ x
 object_back_again d l x r w =
     let m = marks_of d l x in
     let good = crossed_good d l m r.fits w.good in
@@ -128,7 +128,7 @@ object_back_again d l x r w =
     ap (λ (n : Marked l). object_of d l (crossed (other d) l n)) (marks_back (other d) l (crossed d l m) r good) ∙ ap (object_of d l) (crossed_back d l m r.fits w.good) ∙ w.nothing_else
     )
 
-pub spoke_of : (l : Level) (h : Held) → Ready l → IsWhole hub l h → IsTheOne (λ x. IsPair l x h) (other_object hub l h)
+pub spoke_of : (l : Level) (h : Held) → Ready l → IsWholeOnSide hub l h → IsTheOne (λ x. IsPair l x h) (other_object hub l h)
 spoke_of l h r w =
     let n = marks_of hub l h in
     let good = crossed_good hub l n r.fits w.good in
@@ -141,7 +141,7 @@ spoke_of l h r w =
       only = λ y p. sym p.spoke_rest ∙ ap (object_of spoke l) (paired_crossed l (marks_of spoke l y) n r.fits p.cells).1;
     }
 
-pub hub_of : (l : Level) (x : Held) → Ready l → IsWhole spoke l x → IsTheOne (λ h. IsPair l x h) (other_object spoke l x)
+pub hub_of : (l : Level) (x : Held) → Ready l → IsWholeOnSide spoke l x → IsTheOne (λ h. IsPair l x h) (other_object spoke l x)
 hub_of l x r w =
     let m = marks_of spoke l x in
     let good = crossed_good spoke l m r.fits w.good in
@@ -155,7 +155,7 @@ hub_of l x r w =
     }
 
 -- what is paired with a whole object of the hub is whole itself
-pub pair_whole : (l : Level) (x h : Held) → Ready l → IsWhole hub l h → IsPair l x h → IsWhole spoke l x
+pub pair_whole : (l : Level) (x h : Held) → Ready l → IsWholeOnSide hub l h → IsPair l x h → IsWholeOnSide spoke l x
 pair_whole l x h r w p = record {
   good = subst (IsGood spoke l) (sym (paired_crossed l (marks_of spoke l x) (marks_of hub l h) r.fits p.cells).1) (crossed_good hub l (marks_of hub l h) r.fits w.good);
   nothing_else = p.spoke_rest;

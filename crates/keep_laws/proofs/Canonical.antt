@@ -11,7 +11,7 @@ use Rattle.keep_laws.specs.Entry.{with_entry, in_order}
 use Rattle.kept_entries.specs.Entry.{first_name, has_part, is_before, is_before_first, are_in_order}
 use Rattle.hub_cells.specs.Level.{Level, NoNameTwice, Fits}
 use Rattle.keep_laws.specs.Body.{all_entries, read, entries}
-use Rattle.keep_laws.specs.Whole.{Held, Ready, IsWhole, marks_of}
+use Rattle.keep_laws.specs.Whole.{Held, Ready, IsWholeOnSide, marks_of}
 use Rattle.keep_laws.specs.Settle.{settled_marks, IsAllowed}
 use Rattle.keep_laws.proofs.Holds.{order_has, has_order}
 use Rattle.keep_laws.proofs.Apart.{Apart, AreApart, level_apart}
@@ -149,7 +149,7 @@ part_of [] a e i = absurd i
 part_of (x ∷ xs) a e (inl q) = subst (λ (f : Entry). has_part f.was ≡ true) (sym q) a.0
 part_of (x ∷ xs) a e (inr i) = part_of xs a.2 e i
 
-pub whole_in_order : (d : Side) (l : Level) (x : Held) → Ready l → IsWhole d l x → are_in_order x.entries ≡ true
+pub whole_in_order : (d : Side) (l : Level) (x : Held) → Ready l → IsWholeOnSide d l x → are_in_order x.entries ≡ true
 whole_in_order d l x r w =
     let all = all_entries d l (marks_of d l x) in
     let apart = level_apart d l (marks_of d l x) r.fits w.good (no_name_twice (other d) l r) in

@@ -7,7 +7,7 @@ use Rattle.hub_cells.specs.Cell.{Tuple}
 use Rattle.hub_cells.specs.Cross.{matched, shown}
 use Rattle.hub_cells.specs.Level.{allows, Cell, Level, level, Inners, no_inner, inner}
 use Rattle.keep_laws.specs.Marked.{Marks, Marked, MarkedInners, IsAlive, AreGood, OrAbsent, IsGood, InnersGood, there, crossed}
-use Rattle.keep_laws.specs.Whole.{Held, Ready, marks_of, object_of, IsWhole}
+use Rattle.keep_laws.specs.Whole.{Held, Ready, marks_of, object_of, IsWholeOnSide}
 use Rattle.keep_laws.specs.Settle.{value_same, tuple_same, is_unmatched, alive, living, living_marks, settled_marks, settled_inners, CellsAllowed, IsAllowed, InnersAllowed, settled, converted}
 use Rattle.keep_laws.proofs.LawA.{other_other, crossed_good, crossed_back}
 use Rattle.keep_laws.proofs.Back.{marks_back}
@@ -110,7 +110,7 @@ mutual
 
 -- ---- objects
 
-pub whole_settled : (d : Side) (l : Level) (x : Held) → IsWhole d l x → settled d l x ≡ x
+pub whole_settled : (d : Side) (l : Level) (x : Held) → IsWholeOnSide d l x → settled d l x ≡ x
 whole_settled d l x w = ap (object_of d l) (good_settled d l (marks_of d l x) w.good) ∙ w.nothing_else
 
 -- there and back is the object without its dead entries
@@ -124,7 +124,7 @@ back_settled d l x r a =
     ap (λ (n : Marked l). object_of d l (crossed (other d) l (settled_marks (other d) l n))) back ∙ ap (λ (n : Marked l). object_of d l (crossed (other d) l n)) (good_settled (other d) l (crossed d l m) across) ∙ ap (object_of d l) (crossed_back d l m r.fits good)
     )
 
-pub settled_whole : (d : Side) (l : Level) (x : Held) → Ready l → IsAllowed d l (marks_of d l x) → IsWhole d l (settled d l x)
+pub settled_whole : (d : Side) (l : Level) (x : Held) → Ready l → IsAllowed d l (marks_of d l x) → IsWholeOnSide d l (settled d l x)
 settled_whole d l x r a =
     let good = settled_good d l (marks_of d l x) a in
     let back = marks_back d l (settled_marks d l (marks_of d l x)) r good in record {
@@ -132,7 +132,7 @@ settled_whole d l x r a =
       nothing_else = ap (object_of d l) back;
     }
 
-pub converted_whole : (d : Side) (l : Level) (x : Held) → Ready l → IsAllowed d l (marks_of d l x) → IsWhole (other d) l (converted d l x)
+pub converted_whole : (d : Side) (l : Level) (x : Held) → Ready l → IsAllowed d l (marks_of d l x) → IsWholeOnSide (other d) l (converted d l x)
 converted_whole d l x r a =
     let good = crossed_good d l (settled_marks d l (marks_of d l x)) r.fits (settled_good d l (marks_of d l x) a) in
     let back = marks_back (other d) l (crossed d l (settled_marks d l (marks_of d l x))) r good in record {

@@ -9,7 +9,7 @@ use Rattle.keep_laws.specs.Entry.{put}
 use Rattle.hub_cells.specs.Level.{Cell, Level, level, Inners, no_inner, inner, cells_names, inner_names, NoNameTwice}
 use Rattle.keep_laws.specs.Marked.{Marks, Marked, MarkedInners, there}
 use Rattle.keep_laws.specs.Body.{as_field, cells_values, body, inner_values}
-use Rattle.keep_laws.specs.Whole.{Held, Ready, marks_of, IsWhole}
+use Rattle.keep_laws.specs.Whole.{Held, Ready, marks_of, IsWholeOnSide}
 use Rattle.keep_laws.specs.Settle.{living_marks, settled_marks, settled_inners, IsAllowed, settled}
 use Rattle.keep_laws.specs.Known.{IsKnown}
 use Rattle.keep_laws.proofs.Bodies.{body_read, there_there}
@@ -39,7 +39,7 @@ mutual
 pub settled_fields : (d : Side) (l : Level) (x : Held) → NoNameTwice d l → IsKnown d l x.fields → (settled d l x).fields ≡ x.fields
 settled_fields d l x a k = body_settled d l (marks_of d l x) ∙ body_read d l x.fields x.entries a k
 
-pub alive_whole : (d : Side) (l : Level) (x : Held) → Ready l → IsKnown d l x.fields → IsAllowed d l (marks_of d l x) → Parts x.entries → EntriesRise x.entries → AllAlive d l x.fields x.entries → IsWhole d l x
+pub alive_whole : (d : Side) (l : Level) (x : Held) → Ready l → IsKnown d l x.fields → IsAllowed d l (marks_of d l x) → Parts x.entries → EntriesRise x.entries → AllAlive d l x.fields x.entries → IsWholeOnSide d l x
 alive_whole d l x r k v p e h =
     let same : settled d l x ≡ x = ap₂ (λ (fs : Pairs) (es : List Entry). record { fields = fs; entries = es }) (settled_fields d l x (no_name_twice d l r) k) (alive_canonical d l x.fields x.entries r.fits (no_name_twice (other d) l r) v p e h) in
-    subst (IsWhole d l) same (settled_whole d l x r v)
+    subst (IsWholeOnSide d l) same (settled_whole d l x r v)

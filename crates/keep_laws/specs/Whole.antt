@@ -20,7 +20,7 @@ abbrev pub object_of : Side → (l : Level) → Marked l → Held
 object_of d l m = record { fields = body d l m; entries = entries d l m }
 
 -- all fields have a cell or an inner object; each tuple is allowed; the entries are alive, in order, and there are no others
-pub record IsWhole (d : Side) (l : Level) (x : Held) : Type 0 where
+pub record IsWholeOnSide (d : Side) (l : Level) (x : Held) : Type 0 where
   pub good : IsGood d l (marks_of d l x)
   pub nothing_else : object_of d l (marks_of d l x) ≡ x
 

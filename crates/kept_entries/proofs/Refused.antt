@@ -2,14 +2,14 @@
 use Rattle.std.proofs.Common.{◌≡◌, ℕ, List, [], ◌∷◌, ◌++◌, map, ap, sym, ◌∙◌, codes, true, false, arith}
 use Rattle.kj_value.specs.Json.{Json, text, list, object, items_of, members_of}
 use Rattle.kj_value.specs.Fields.{Pairs}
-use Rattle.kj_value.specs.Sound.{IsSound}
+use Rattle.kj_value.specs.Sound.{IsSoundJson}
 use Rattle.kj_value.specs.Text.{text_of}
 use Rattle.kept_entries.specs.declared.entry.Entry.{Entry}
 use Rattle.kept_entries.specs.declared.fault.KeptFault.{KeptFault}
 use Rattle.kept_entries.specs.declared.fault.KeptFault.TheVariants.{BadKept, NoMemory}
 use Rattle.kept_entries.specs.Entry.{Name, are_in_order}
 use Rattle.kept_entries.specs.Text.{IsCanonical, IsKept, path_json, part_json, entry_fields, entry_json, kept_json}
-use Rattle.kept_entries.specs.Refusal.{IsRefused, IsNotCanonical, IsNoList, IsNoEntry, AreNoFields, IsNoPath, IsNoName, IsNoPart}
+use Rattle.kept_entries.specs.Refusal.{IsRefusedKeptText, IsNotCanonical, IsNoList, IsNoEntry, AreNoFields, IsNoPath, IsNoName, IsNoPart}
 use Rattle.kept_entries.proofs.OneList.{items_one, among, kept_one, part_one}
 
 list_is : (is js : List Json) → list (items_of is) ≡ list (items_of js) → is ≡ js
@@ -43,7 +43,7 @@ no_was k l i j BadKept h =
     let last : (codes "was", part_json e.was) ≡ (l, j) = cc in
     h e.was (ap (λ (q : Name × Json). q.1) last)
 
-pub not_kept : (t : List ℕ) (f : KeptFault) → IsNotCanonical t f → IsRefused t f
+pub not_kept : (t : List ℕ) (f : KeptFault) → IsNotCanonical t f → IsRefusedKeptText t f
 not_kept t NoMemory h = tt
 not_kept t BadKept h = λ es k. h (kept_json es) k.text
 
@@ -56,12 +56,12 @@ no_entry j ps BadKept e h = λ x p. h x (object_is (entry_fields x) ps (p ∙ e)
 
 -- canonical texts of values that have one text are of one value
 abbrev pub OneText : Type 0
-OneText = (j k : Json) → IsSound j → IsSound k → text_of j ≡ text_of k → j ≡ k
+OneText = (j k : Json) → IsSoundJson j → IsSoundJson k → text_of j ≡ text_of k → j ≡ k
 
 same_value : (t : List ℕ) (j k : Json) → OneText → IsCanonical t j → IsCanonical t k → j ≡ k
 same_value t j k one p q = one j k p.sound q.sound (sym p.spelled ∙ q.spelled)
 
-pub no_entries : (t : List ℕ) (j : Json) (f : KeptFault) → OneText → IsCanonical t j → IsNoList j f → IsRefused t f
+pub no_entries : (t : List ℕ) (j : Json) (f : KeptFault) → OneText → IsCanonical t j → IsNoList j f → IsRefusedKeptText t f
 no_entries t j NoMemory one p h = tt
 no_entries t j BadKept one p h = λ es k. h es (same_value t (kept_json es) j one k.text p)
 

@@ -10,9 +10,9 @@ use Rattle.kept_entries.specs.declared.fault.KeptFault.TheVariants.{BadKept, NoM
 use Rattle.kept_entries.specs.Entry.{Name}
 use Rattle.kept_entries.specs.Text.{IsCanonical, IsKept, path_json, part_json, entry_fields, entry_json, kept_json}
 
-abbrev pub IsRefused : List ℕ → KeptFault → Type 0
-IsRefused t BadKept = (es : List Entry) → IsKept t es → ⊥
-IsRefused t NoMemory = Unit {0}
+abbrev pub IsRefusedKeptText : List ℕ → KeptFault → Type 0
+IsRefusedKeptText t BadKept = (es : List Entry) → IsKept t es → ⊥
+IsRefusedKeptText t NoMemory = Unit {0}
 
 -- ---- for private clauses
 

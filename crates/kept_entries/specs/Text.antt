@@ -2,7 +2,7 @@
 use Rattle.std.specs.Prelude.{◌≡◌, ◌≤◌, ℕ, List, [], ◌∷◌, map, true, codes}
 use Rattle.kj_value.specs.Json.{Json, text, list, object, items_of, members_of, depth}
 use Rattle.kj_value.specs.Fields.{Pairs}
-use Rattle.kj_value.specs.Sound.{IsSound}
+use Rattle.kj_value.specs.Sound.{IsSoundJson}
 use Rattle.kj_value.specs.Text.{text_of}
 use Rattle.kept_entries.specs.declared.entry.Entry.{Entry}
 use Rattle.kept_entries.specs.declared.reading.TheConstants.{KEPT_LEVELS}
@@ -31,7 +31,7 @@ kept_text es = text_of (kept_json es)
 pub record IsCanonical (t : List ℕ) (j : Json) : Type 0 where
   pub spelled : t ≡ text_of j
   pub levels : depth j ≤ KEPT_LEVELS
-  pub sound : IsSound j
+  pub sound : IsSoundJson j
 
 -- the text spells the entries, which are in order
 pub record IsKept (t : List ℕ) (es : List Entry) : Type 0 where

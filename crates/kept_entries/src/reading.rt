@@ -4,7 +4,7 @@ ghost use Rattle.kj_value.specs.Json.{text, list, items_of};
 ghost use Rattle.kj_value.specs.Seen.{json};
 ghost use Rattle.kj_value.specs.Pair.{pair_of};
 ghost use Rattle.kept_entries.specs.Text.{IsCanonical, IsKept, path_json, part_json, entry_fields, entry_json, kept_json};
-ghost use Rattle.kept_entries.specs.Refusal.{IsRefused, IsNotCanonical, kept_fault, IsNoList, IsNoEntry, AreNoFields, IsNoPath, IsNoName, IsNoPart};
+ghost use Rattle.kept_entries.specs.Refusal.{IsRefusedKeptText, IsNotCanonical, kept_fault, IsNoList, IsNoEntry, AreNoFields, IsNoPath, IsNoName, IsNoPart};
 
 use crate::entry::Entry;
 use crate::fault::KeptFault;
@@ -22,7 +22,7 @@ pub const KEPT_LEVELS: u32 = 66;
 /// The entries that a text spells.
 pub fn read_kept(alloc: Global, text: &str) -> Result<Kept, KeptFault>
     ensures ok { IfOk result (IsKept text.now) }
-    ensures err { IfErr result (IsRefused text.now) }
+    ensures err { IfErr result (IsRefusedKeptText text.now) }
 {
     one_text();
     let value = read_value(alloc, text)?;

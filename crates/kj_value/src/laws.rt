@@ -2,23 +2,23 @@
 ghost use Rattle.std.specs.Prelude.{◌≡◌, ◌≤◌, ℕ, List, IsUtf8};
 ghost use Rattle.kj_value.specs.Json.{Json, depth};
 ghost use Rattle.kj_value.specs.Seen.{json};
-ghost use Rattle.kj_value.specs.Sound.{IsSound};
+ghost use Rattle.kj_value.specs.Sound.{IsSoundJson};
 ghost use Rattle.kj_value.specs.Text.{text_of};
 ghost use Rattle.kj_value.specs.Reading.{Reads};
 
-use crate::reading::MAX_LEVELS;
+use crate::reading::MAX_JSON_LEVELS;
 use crate::value::{JVal, open};
 
 /// What a value is seen as is sound: its numbers have 64 bits and the names of its objects rise.
 pub fn sound(v: &JVal)
-    ensures { IsSound (json v.now) }
+    ensures { IsSoundJson (json v.now) }
 {
     open(v)
 }
 
 /// Sound values that have one text are one value.
 pub fn one_text()
-    ensures { (j k : Json) → IsSound j → IsSound k → text_of j ≡ text_of k → j ≡ k }
+    ensures { (j k : Json) → IsSoundJson j → IsSoundJson k → text_of j ≡ text_of k → j ≡ k }
 {}
 
 /// Bytes read as one value.
@@ -35,6 +35,6 @@ pub fn reading_depth()
 
 /// The text of a sound value reads back as the value.
 pub fn text_reads()
-    ensures { (j : Json) → IsSound j → depth j ≤ MAX_LEVELS → IsUtf8 (text_of j)
+    ensures { (j : Json) → IsSoundJson j → depth j ≤ MAX_JSON_LEVELS → IsUtf8 (text_of j)
         → Reads (text_of j) (depth j) j }
 {}

@@ -9,8 +9,8 @@ use Rattle.object_talk.specs.Conversed.{Blames}
 use Rattle.object_talk.specs.declared.conversation.PipeEnd.{PipeEnd}
 use Rattle.object_talk.specs.declared.conversation.PipeEnd.TheVariants.{Closed, Closing, Torn, Refused, Spent, ReadFault, WriteFault}
 use Rattle.kubeconv_cmd.specs.Lines.{Line}
-use Rattle.kubeconv_cmd.specs.Serving.{Start, Serves, Converses, Held, IsUnheld}
-use Rattle.kubeconv_cmd.specs.Refusal.{Refuses, RefusesSome, IsServed}
+use Rattle.kubeconv_cmd.specs.Serving.{Start, ServesTexts, Converses, Held, IsUnheld}
+use Rattle.kubeconv_cmd.specs.Refusal.{RefusesCommandLine, RefusesSome, IsServed}
 use Rattle.kubeconv_cmd.specs.Status.{status_of, pipe_status, error_line, refusal_line}
 use Rattle.kubeconv_cmd.specs.Ends.{OnRefused, OnUnread, status_at, line_at, why_text}
 use Rattle.kubeconv_cmd.specs.declared.stop.Stop.{Stop}
@@ -39,13 +39,13 @@ same_status b rs d e (inr free) = free_status free.0 d free.2.1 ∙ sym (free_st
 pub record Came (line : Line) (crd rules : List ℕ) (start : Start) (b : List ℕ) (before written : Option (List ℕ)) (files reads writes : Type 0) (came : Result PipeEnd Stop) : Type 0 where
   pub talk : IfOk came (Converses crd rules start b before written)
   pub blames : IfOk came (λ end. Blames end reads writes)
-  pub refused : IfErr came (λ stop. OnRefused stop (Refuses line crd rules))
+  pub refused : IfErr came (λ stop. OnRefused stop (RefusesCommandLine line crd rules))
   pub unread : IfErr came (λ stop. OnUnread stop files)
 
 -- it served the line, was refused, or wanted memory
 pub talks : (line : Line) (crd rules : List ℕ) (start : Start) (b : List ℕ) (before written : Option (List ℕ)) (files reads writes : Type 0) (came : Result PipeEnd Stop) (s : ℕ)
     → Came line crd rules start b before written files reads writes came → s ≡ status_at came → ¬ files → ¬ reads → ¬ writes
-    → Serves crd rules start b before written s ⊎ (((s ≡ REFUSED) × RefusesSome line crd rules) ⊎ (s ≡ NO_MEMORY))
+    → ServesTexts crd rules start b before written s ⊎ (((s ≡ REFUSED) × RefusesSome line crd rules) ⊎ (s ≡ NO_MEMORY))
 talks line crd rules start b before written files reads writes (Ok Closed) s c is nf nr nw =
     inl (record { loaded = c.talk.loaded; loads = c.talk.loads; answered = record { end = closed; conversation = c.talk.conversed; is_status = is } })
 talks line crd rules start b before written files reads writes (Ok Closing) s c is nf nr nw =
@@ -83,7 +83,7 @@ told_ends T L C (Err stop) each = tt
 -- what is served has the status of the one end of its input
 pub exactly : (line : Line) (crd rules : List ℕ) (start : Start) (b : List ℕ) (before written : Option (List ℕ)) (s : ℕ) (requests : List Request) (end : End)
     → ((budget : ℕ) (b : List ℕ) (rs qs : List Request) (d e : End) → Asks budget b rs d → Asks budget b qs e → (rs ≡ qs) × SameEnd b rs d e)
-    → Serves crd rules start b before written s ⊎ (((s ≡ REFUSED) × RefusesSome line crd rules) ⊎ (s ≡ NO_MEMORY))
+    → ServesTexts crd rules start b before written s ⊎ (((s ≡ REFUSED) × RefusesSome line crd rules) ⊎ (s ≡ NO_MEMORY))
     → IsServed line crd rules → Asks MOST_REQUESTS b requests end → (s ≡ status_of end) ⊎ (s ≡ NO_MEMORY)
 exactly line crd rules start b before written s requests end one (inl serves) served asks =
     let talk = serves.answered.conversation in
@@ -95,7 +95,7 @@ exactly line crd rules start b before written s requests end one (inr (inr memor
 
 -- a line that is refused isn't served
 pub refuses : (line : Line) (crd rules name why : List ℕ) (files : Type 0) (came : Result PipeEnd Stop) (s : ℕ)
-    → OnOk came (IsServed line crd rules) → IfErr came (λ stop. OnUnread stop files) → s ≡ status_at came → ¬ files → Refuses line crd rules name why
+    → OnOk came (IsServed line crd rules) → IfErr came (λ stop. OnUnread stop files) → s ≡ status_at came → ¬ files → RefusesCommandLine line crd rules name why
     → (s ≡ REFUSED) ⊎ (s ≡ NO_MEMORY)
 refuses line crd rules name why files (Ok end) s served unread is nf bad = absurd (not_both line crd rules name why served bad)
 refuses line crd rules name why files (Err stops.ReadFailed) s served unread is nf bad = absurd (nf unread)
@@ -141,9 +141,9 @@ stopped P (Err stop) s n p is e m = p
 
 -- a file that is refused has its line
 pub refusal : (line : Line) (Q : Type 0) (written : List ℕ → Type 0) (told : List ℕ → List ℕ → Type 0) (came : Result PipeEnd Stop) (s : ℕ)
-    → ((crd rules : List ℕ) → told crd rules → IfErr came (λ stop. OnRefused stop (Refuses line crd rules)))
+    → ((crd rules : List ℕ) → told crd rules → IfErr came (λ stop. OnRefused stop (RefusesCommandLine line crd rules)))
     → (Q → written (line_at came)) → s ≡ status_at came → s ≡ REFUSED
-    → (name : List ℕ) × (why : List ℕ) × ((crd rules : List ℕ) → told crd rules → Refuses line crd rules name why) × (Q → written (refusal_line name why))
+    → (name : List ℕ) × (why : List ℕ) × ((crd rules : List ℕ) → told crd rules → RefusesCommandLine line crd rules name why) × (Q → written (refusal_line name why))
 refusal line Q written told (Ok end) s bad says is e = absurd (not_ended end s REFUSED is e (inl refl))
 refusal line Q written told (Err stops.ReadFailed) s bad says is e = absurd (omega (arith, is, e))
 refusal line Q written told (Err (stops.Refused file why)) s bad says is e =

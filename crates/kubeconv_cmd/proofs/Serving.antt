@@ -14,7 +14,7 @@ use Rattle.versions_loading.specs.Set.{set_of}
 use Rattle.http_wire.specs.Inboxes.{Held}
 use Rattle.http_wire.specs.declared.limits.TheConstants.{MOST_REQUESTS}
 use Rattle.object_server.specs.View.{base_of as server_base}
-use Rattle.object_talk.specs.Answering.{Base}
+use Rattle.object_talk.specs.Answering.{ConversationBase}
 use Rattle.object_talk.specs.Conversed.{Conversed}
 use Rattle.object_talk.specs.declared.conversation.PipeEnd.{PipeEnd}
 use Rattle.kubeconv_cmd.specs.Serving.{Start, Converses, base_of, meaning_of}

@@ -4,7 +4,7 @@ use Rattle.std.specs.Prelude.{IfOk, IfErr, OnOk}
 use Rattle.kj_value.specs.declared.txt.Txt.{Txt}
 use Rattle.crd_loading.specs.Blame.{Blame, blame}
 use Rattle.crd_loading.specs.Load.{Loads, RefusesDefinition, RefusesRules}
-use Rattle.crd_loading.specs.Told.{Refuses as RefusesTexts}
+use Rattle.crd_loading.specs.Told.{RefusesLoading as RefusesTexts}
 use Rattle.crd_loading.specs.View.{LoadedView}
 use Rattle.crd_loading.specs.declared.loading.LoadFault.{LoadFault}
 use Rattle.crd_loading.specs.declared.loading.LoadFault.TheVariants as faults
@@ -14,7 +14,7 @@ use Rattle.versions_loading.specs.Set.{set_of}
 use Rattle.crd_versions.specs.Set.{definition_of}
 use Rattle.crd_versions.specs.declared.set.VersionSet.{VersionSet}
 use Rattle.kubeconv_cmd.specs.Lines.{from_files}
-use Rattle.kubeconv_cmd.specs.Refusal.{IsText, IsUnfit, IsRefused, IsServed, DontLoad, file_of}
+use Rattle.kubeconv_cmd.specs.Refusal.{IsText, IsUnfit, IsFirstRefused, IsServed, DontLoad, file_of}
 use Rattle.kubeconv_cmd.specs.Ends.{OnRefused}
 use Rattle.kubeconv_cmd.specs.declared.stop.Stop.{Stop}
 use Rattle.kubeconv_cmd.specs.declared.stop.Stop.TheVariants as stops
@@ -35,14 +35,14 @@ faultless a b k r faults.NoMemory which path word ea eb d s bad is = cc
 
 -- the definition's file isn't taken
 pub crd_unfit : (stop : Stop) (crd rules k r : List ℕ) → OnRefused stop (λ name why. (name ≡ crd) × IsUnfit k why)
-    → OnRefused stop (λ name why. (which : Which) × (name ≡ file_of which crd rules) × IsRefused k r which why)
+    → OnRefused stop (λ name why. (which : Which) × (name ≡ file_of which crd rules) × IsFirstRefused k r which why)
 crd_unfit stops.ReadFailed crd rules k r bad = tt
 crd_unfit (stops.Refused file why) crd rules k r bad = (Crd, bad.0, inl bad.1)
 crd_unfit stops.NoMemory crd rules k r bad = tt
 
 -- that of the rules isn't
 pub rules_unfit : (stop : Stop) (crd rules k r : List ℕ) → IsText k → OnRefused stop (λ name why. (name ≡ rules) × IsUnfit r why)
-    → OnRefused stop (λ name why. (which : Which) × (name ≡ file_of which crd rules) × IsRefused k r which why)
+    → OnRefused stop (λ name why. (which : Which) × (name ≡ file_of which crd rules) × IsFirstRefused k r which why)
 rules_unfit stops.ReadFailed crd rules k r text bad = tt
 rules_unfit (stops.Refused file why) crd rules k r text bad = (Rules, bad.0, inl (text, bad.1))
 rules_unfit stops.NoMemory crd rules k r text bad = tt
@@ -50,7 +50,7 @@ rules_unfit stops.NoMemory crd rules k r text bad = tt
 -- both are, and don't load
 pub unloaded : (result : Result VersionSet Stop) (crd rules k r : List ℕ) → IsText k → IsText r
     → IfErr result (λ stop. OnRefused stop (λ name why. IsText k → IsText r → (which : Which) × (name ≡ file_of which crd rules) × DontLoad k r which why))
-    → IfErr result (λ stop. OnRefused stop (λ name why. (which : Which) × (name ≡ file_of which crd rules) × IsRefused k r which why))
+    → IfErr result (λ stop. OnRefused stop (λ name why. (which : Which) × (name ≡ file_of which crd rules) × IsFirstRefused k r which why))
 unloaded (Ok s) crd rules k r tk tr bad = tt
 unloaded (Err stops.ReadFailed) crd rules k r tk tr bad = tt
 unloaded (Err (stops.Refused file why)) crd rules k r tk tr bad =

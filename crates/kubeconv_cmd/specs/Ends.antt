@@ -10,7 +10,7 @@ use Rattle.kubeconv_cmd.specs.declared.stop.Stop.TheVariants as stops
 use Rattle.kubeconv_cmd.specs.declared.status.TheConstants.{REFUSED, READ_FAILED, NO_MEMORY}
 use Rattle.kubeconv_cmd.specs.Lines.{Line, built_in, from_files}
 use Rattle.kubeconv_cmd.specs.Status.{pipe_status, error_line, refusal_line}
-use Rattle.kubeconv_cmd.specs.Refusal.{blame_text, IsUnfit, Refuses}
+use Rattle.kubeconv_cmd.specs.Refusal.{blame_text, IsUnfit, RefusesCommandLine}
 
 abbrev pub line_of : Command → Line
 line_of BuiltIn = built_in

@@ -50,8 +50,8 @@ ArentTaken crd rules Crd why = IsUnfit crd why
 ArentTaken crd rules Rules why = IsText crd × IsUnfit rules why
 
 -- the first thing that is refused: the document, and why
-abbrev pub IsRefused : List ℕ → List ℕ → Which → List ℕ → Type 0
-IsRefused crd rules which why = ArentTaken crd rules which why ⊎ DontLoad crd rules which why
+abbrev pub IsFirstRefused : List ℕ → List ℕ → Which → List ℕ → Type 0
+IsFirstRefused crd rules which why = ArentTaken crd rules which why ⊎ DontLoad crd rules which why
 
 -- ---- a line
 
@@ -61,13 +61,13 @@ file_of Crd c r = c
 file_of Rules c r = r
 
 -- A line with these texts is refused: the name of the file as it stands there, and why. What is built in never is.
-abbrev pub Refuses : Line → List ℕ → List ℕ → List ℕ → List ℕ → Type 0
-Refuses built_in crd rules name why = ⊥
-Refuses (from_files c r) crd rules name why = (which : Which) × (name ≡ file_of which c r) × IsRefused crd rules which why
+abbrev pub RefusesCommandLine : Line → List ℕ → List ℕ → List ℕ → List ℕ → Type 0
+RefusesCommandLine built_in crd rules name why = ⊥
+RefusesCommandLine (from_files c r) crd rules name why = (which : Which) × (name ≡ file_of which c r) × IsFirstRefused crd rules which why
 
 -- something of a line with these texts is refused
 abbrev pub RefusesSome : Line → List ℕ → List ℕ → Type 0
-RefusesSome line crd rules = (name : List ℕ) × (why : List ℕ) × Refuses line crd rules name why
+RefusesSome line crd rules = (name : List ℕ) × (why : List ℕ) × RefusesCommandLine line crd rules name why
 
 -- A line with these texts is served: the files aren't too long, and load. What is built in always is.
 abbrev pub IsServed : Line → List ℕ → List ℕ → Type 0

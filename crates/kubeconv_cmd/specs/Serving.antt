@@ -10,7 +10,7 @@ use Rattle.crd_loading.specs.View.{LoadedView}
 use Rattle.versions_loading.specs.Set.{set_of}
 use Rattle.http_wire.specs.Stream.{End}
 use Rattle.http_wire.specs.declared.limits.TheConstants.{MOST_REQUESTS}
-use Rattle.object_talk.specs.Answering.{Base}
+use Rattle.object_talk.specs.Answering.{ConversationBase}
 use Rattle.object_talk.specs.Talk.{Conversation}
 use Rattle.object_talk.specs.Conversed.{Blames, Conversed}
 use Rattle.object_talk.specs.declared.conversation.PipeEnd.{PipeEnd}
@@ -23,7 +23,7 @@ pub record Start : Type 0 where
   pub told : Option (List ℕ)
 
 -- what no request changes, where definitions mean this
-abbrev pub base_of : Meaning → Start → Base
+abbrev pub base_of : Meaning → Start → ConversationBase
 base_of m start = record { server = record { meaning = m; limits = STANDING; boot = start.boot }; told = start.told }
 
 -- what a definition means to requests
@@ -34,13 +34,13 @@ abbrev pub served_meaning : LoadedView → Meaning
 served_meaning l = meaning_of (set_of l)
 
 -- The input was answered whole, beginning with nothing entered, and the status is that of its end.
-pub record Answered (base : Base) (input : List ℕ) (before written : Option (List ℕ)) (status : ℕ) : Type 0 where
+pub record Answered (base : ConversationBase) (input : List ℕ) (before written : Option (List ℕ)) (status : ℕ) : Type 0 where
   pub end : End
   pub conversation : Conversation base MOST_REQUESTS [] input before written end
   pub is_status : status ≡ status_of end
 
 -- the same by the definition and the rules that two texts are
-pub record Serves (crd rules : List ℕ) (start : Start) (input : List ℕ) (before written : Option (List ℕ)) (status : ℕ) : Type 0 where
+pub record ServesTexts (crd rules : List ℕ) (start : Start) (input : List ℕ) (before written : Option (List ℕ)) (status : ℕ) : Type 0 where
   pub loaded : LoadedView
   pub loads : Loads crd rules loaded
   pub answered : Answered (base_of (served_meaning loaded) start) input before written status

@@ -1,12 +1,12 @@
 //! The statuses by their numbers, and the numbers of what the program promises, which no edit of a constant can turn. Those of
 //! keys and a server's limits, of heads and bodies, of files and of chunks stand with the crates that have them.
 ghost use Rattle.std.specs.Prelude.{◌≡◌};
-ghost use Rattle.kj_value.specs.declared.reading.TheConstants.{MAX_LEVELS as most_document_levels};
+ghost use Rattle.kj_value.specs.declared.reading.TheConstants.{MAX_JSON_LEVELS as most_document_levels};
 ghost use Rattle.object_reading.specs.declared.finalizers.TheConstants.{FINALIZERS as most_finalizers, FINALIZER_BYTES as most_finalizer_bytes};
 ghost use Rattle.object_reading.specs.declared.labels.TheConstants.{KEY_NAME_BYTES as most_label_bytes};
 ghost use Rattle.schema_reading.specs.declared.walk.TheConstants.{MAX_NESTING as most_nesting, MAX_NODES as most_nodes, MAX_DEFAULT_DEPTH as most_default_levels};
 ghost use Rattle.crd_reading.specs.declared.places.TheConstants.{MIN_VERSIONS as least_versions, MAX_VERSIONS as most_versions, KIND_BYTES as most_kind_bytes};
-ghost use Rattle.hub_cells.specs.declared.allowed.TheConstants.{MAX_LEVELS as most_object_levels};
+ghost use Rattle.hub_cells.specs.declared.allowed.TheConstants.{STORED_LEVELS as most_object_levels};
 ghost use Rattle.hub_rules.specs.declared.rules.TheConstants.{MAX_OBJECTS as most_object_rules};
 ghost use Rattle.rule_reading.specs.declared.rules.TheConstants.{MAX_RULES as most_rules};
 ghost use Rattle.kept_entries.specs.declared.reading.TheConstants.{KEPT_LEVELS as most_kept_levels};

@@ -7,7 +7,7 @@ ghost use Rattle.versions_loading.specs.Set.{set_of};
 ghost use Rattle.crd_versions.specs.Set.{definition_of};
 ghost use Rattle.built_in.specs.Texts.{definition_text, rules_text};
 ghost use Rattle.kubeconv_cmd.specs.Lines.{Texts};
-ghost use Rattle.kubeconv_cmd.specs.Refusal.{IsText, IsUnfit, IsRefused, IsServed, DontLoad, Refuses, file_of};
+ghost use Rattle.kubeconv_cmd.specs.Refusal.{IsText, IsUnfit, IsFirstRefused, IsServed, DontLoad, RefusesCommandLine, file_of};
 ghost use Rattle.kubeconv_cmd.specs.Ends.{line_of, OnRefused, OnUnread};
 
 use crate::stop::{Stop, Why};
@@ -122,7 +122,7 @@ fn load_files<'a, F: Files>(
     ensures taken { (c r : List ℕ) → F.file files.old crd.now ≡ Some c → F.file files.old rules.now ≡ Some r
         → OnOk result (IsText c × IsText r) }
     ensures refused { (c r : List ℕ) → F.file files.old crd.now ≡ Some c → F.file files.old rules.now ≡ Some r
-        → IfErr result (λ stop. OnRefused stop (λ name why. (which : Which) × (name ≡ file_of which crd.now rules.now) × IsRefused c r which why)) }
+        → IfErr result (λ stop. OnRefused stop (λ name why. (which : Which) × (name ≡ file_of which crd.now rules.now) × IsFirstRefused c r which why)) }
     ensures kept { (name : List ℕ) → F.file files.new name ≡ F.file files.old name }
     ensures cause { IfErr result (λ stop. OnUnread stop (Rose (F.faults files.old) (F.faults files.new))) }
 {
@@ -142,7 +142,7 @@ pub(crate) fn load_line<'a, F: Files>(
     ensures served { (crd rules : List ℕ) → Texts (F.file files.old) (line_of command.entry) crd rules
         → OnOk result (IsServed (line_of command.entry) crd rules) }
     ensures refused { (crd rules : List ℕ) → Texts (F.file files.old) (line_of command.entry) crd rules
-        → IfErr result (λ stop. OnRefused stop (Refuses (line_of command.entry) crd rules)) }
+        → IfErr result (λ stop. OnRefused stop (RefusesCommandLine (line_of command.entry) crd rules)) }
     ensures kept { (name : List ℕ) → F.file files.new name ≡ F.file files.old name }
     ensures cause { IfErr result (λ stop. OnUnread stop (Rose (F.faults files.old) (F.faults files.new))) }
 {

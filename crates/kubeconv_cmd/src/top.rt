@@ -12,8 +12,8 @@ ghost use Rattle.crd_loading.specs.View.{LoadedView};
 ghost use Rattle.versions_loading.specs.Set.{set_of};
 ghost use Rattle.crd_versions.specs.Set.{definition_of};
 ghost use Rattle.kubeconv_cmd.specs.Lines.{Line, IsLine, Texts};
-ghost use Rattle.kubeconv_cmd.specs.Serving.{Serves, Converses, Held, IsUnheld};
-ghost use Rattle.kubeconv_cmd.specs.Refusal.{Refuses, RefusesSome, IsServed};
+ghost use Rattle.kubeconv_cmd.specs.Serving.{ServesTexts, Converses, Held, IsUnheld};
+ghost use Rattle.kubeconv_cmd.specs.Refusal.{RefusesCommandLine, RefusesSome, IsServed};
 ghost use Rattle.kubeconv_cmd.specs.Status.{status_of, error_line, refusal_line};
 ghost use Rattle.kubeconv_cmd.specs.Ends.{line_of, OnRefused, OnUnread};
 
@@ -64,7 +64,7 @@ fn serve_line<'a, F: Files, S: Source, K: Sink, C: Clock>(
     ensures served { (crd rules : List ℕ) → Texts (F.file files.old) (line_of command.entry) crd rules
         → OnOk result (IsServed (line_of command.entry) crd rules) }
     ensures refused { (crd rules : List ℕ) → Texts (F.file files.old) (line_of command.entry) crd rules
-        → IfErr result (λ stop. OnRefused stop (Refuses (line_of command.entry) crd rules)) }
+        → IfErr result (λ stop. OnRefused stop (RefusesCommandLine (line_of command.entry) crd rules)) }
     ensures unread { IfErr result (λ stop. OnUnread stop (Rose (F.faults files.old) (F.faults files.new))) }
     ensures untouched { OnErr result ((input.new ≡ input.old) × (output.new ≡ output.old)) }
     ensures kept { (name : List ℕ) → F.file files.new name ≡ F.file files.old name }
@@ -122,7 +122,7 @@ pub fn run<
     // that of their end; or something of the texts is refused.
     ensures talk { (line : Line) (crd rules b : List ℕ) → IsLine words.now line → Texts (F.file files.old) line crd rules → S.left input.old ≡ Some b
         → ¬ (Rose (F.faults files.old) (F.faults files.new)) → ¬ (Rose (S.faults input.old) (S.faults input.new)) → ¬ (Rose (K.faults output.old) (K.faults output.new))
-        → Serves crd rules (record { boot = boot; told = C.told clock.now }) b (K.written output.old) (K.written output.new) result
+        → ServesTexts crd rules (record { boot = boot; told = C.told clock.now }) b (K.written output.old) (K.written output.new) result
         ⊎ (((result ≡ REFUSED) × RefusesSome line crd rules) ⊎ (result ≡ NO_MEMORY)) }
     // Whatever the outside did, a conversation was held to some end, and the status is that of the end; or none was held, and
     // nothing was read of the input or written.
@@ -137,10 +137,10 @@ pub fn run<
         → IsServed line crd rules → Asks MOST_REQUESTS b requests end → (result ≡ status_of end) ⊎ (result ≡ NO_MEMORY) }
     // Where something of the texts is refused, nothing is served.
     ensures refused { (line : Line) (crd rules name why : List ℕ) → IsLine words.now line → Texts (F.file files.old) line crd rules
-        → ¬ (Rose (F.faults files.old) (F.faults files.new)) → Refuses line crd rules name why → (result ≡ REFUSED) ⊎ (result ≡ NO_MEMORY) }
+        → ¬ (Rose (F.faults files.old) (F.faults files.new)) → RefusesCommandLine line crd rules name why → (result ≡ REFUSED) ⊎ (result ≡ NO_MEMORY) }
     // A status of 3 has the error line of something that is refused.
     ensures refusal { (line : Line) → IsLine words.now line → result ≡ REFUSED
-        → (name : List ℕ) × (why : List ℕ) × ((crd rules : List ℕ) → Texts (F.file files.old) line crd rules → Refuses line crd rules name why)
+        → (name : List ℕ) × (why : List ℕ) × ((crd rules : List ℕ) → Texts (F.file files.old) line crd rules → RefusesCommandLine line crd rules name why)
         × (¬ (Rose (E.faults errors.old) (E.faults errors.new)) → E.written errors.new ≡ append_known (E.written errors.old) (refusal_line name why)) }
     // A fault of reading is one of the files, with nothing read or written, or comes behind the answers to the first requests;
     // one of writing comes behind those and a front of one more response.

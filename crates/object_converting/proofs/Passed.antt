@@ -2,7 +2,7 @@
 use Rattle.std.proofs.Common.{◌≡◌, ◌∙◌, ℕ, ◌≤◌, true, Option, Some, None, refl, ap, sym, subst, arith}
 use Rattle.std.specs.Prelude.{is_none}
 use Rattle.kj_value.specs.Json.{Json, object, members_of, depth}
-use Rattle.kj_value.specs.Sound.{IsSound}
+use Rattle.kj_value.specs.Sound.{IsSoundJson}
 use Rattle.kj_value.specs.Fields.{Pairs}
 use Rattle.kube_meta.specs.View.{ObjectView}
 use Rattle.object_reading.specs.Parts.{body_in}
@@ -35,7 +35,7 @@ StaysFilled = (s : Shape) (j k : Json) → HasOwnDefaults s → Filled s j k →
 
 abbrev pub StaysWithin : Type 0
 StaysWithin =
-    (s : Shape) (n : ℕ) (j k : Json) → IsSound k → HasLowDefaults n s → IsWithin n j → Filled s j k → IsWithin n k
+    (s : Shape) (n : ℕ) (j k : Json) → IsSoundJson k → HasLowDefaults n s → IsWithin n j → Filled s j k → IsWithin n k
 
 -- ---- x with its body filled is y
 

@@ -8,7 +8,7 @@ use Rattle.kj_value.specs.declared.error.NoMemory.{NoMemory}
 use Rattle.kube_meta.specs.View.{ObjectView, object_of}
 use Rattle.kube_meta.specs.Document.{document}
 use Rattle.kube_meta.specs.declared.object.Object.{Object}
-use Rattle.object_reading.specs.Written.{IsMoment, IsWhole}
+use Rattle.object_reading.specs.Written.{IsMoment, IsWritable}
 use Rattle.api_calls.specs.Meaning.{Meaning, unnumbered}
 use Rattle.api_calls.specs.Versions.{IsStamp, StandsAt, Stand, IsStored}
 use Rattle.api_calls.specs.declared.versions.TheConstants.{OBJECT_LEVELS}
@@ -30,7 +30,7 @@ moment : (o : Option (List ℕ)) → IfSome o IsStamp → IfSome o IsMoment
 moment None h = tt
 moment (Some s) h = record { bytes = h.bytes; ascii = h.ascii }
 
-pub whole_of : (m : Meaning) (v : ℕ) (x : ObjectView) → StandsAt m v x → IsWhole x
+pub whole_of : (m : Meaning) (v : ℕ) (x : ObjectView) → StandsAt m v x → IsWritable x
 whole_of m v x s = record {
   body = record { api_version = s.body.api_version; kind = s.body.kind; metadata = s.body.metadata };
   created = moment x.meta.created s.stamps.created;

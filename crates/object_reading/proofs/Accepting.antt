@@ -10,7 +10,7 @@ use Rattle.object_reading.specs.Fields.{pairs_of, given}
 use Rattle.object_reading.specs.Rules.{any_text}
 use Rattle.object_reading.specs.Refusal.{first_holding, judged, judged_metadata, judged_fields, is_given_text, refusal}
 use Rattle.object_reading.specs.Parts.{parts_in, whole_in}
-use Rattle.object_reading.specs.Written.{IsWhole}
+use Rattle.object_reading.specs.Written.{IsWritable}
 use Rattle.object_reading.specs.Keeping.{KeepsRules}
 use Rattle.object_reading.proofs.Lists.{pairs_members}
 use Rattle.object_reading.proofs.Holding.{NoneHolds, none_first}
@@ -41,7 +41,7 @@ accepted x h =
     ∙ ap (λ (es : Pairs). first_holding (judged x.kind es)) (pairs_members (fields x))
     ∙ none_first (judged x.kind (fields x)) (none_judged x h)
 
-pub read_back : (x : ObjectView) → IsWhole x → whole_in (document x) ≡ x
+pub read_back : (x : ObjectView) → IsWritable x → whole_in (document x) ≡ x
 read_back x w =
     ap whole_in (document-fields x)
     ∙ ap parts_in (pairs_members (fields x))

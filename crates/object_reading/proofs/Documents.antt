@@ -6,7 +6,7 @@ use Rattle.kube_meta.specs.View.{ObjectView}
 use Rattle.kube_meta.specs.Document.{metadata, document}
 use Rattle.object_reading.specs.Fields.{object_at}
 use Rattle.object_reading.specs.Parts.{text_or_empty, meta_in, body_in, parts_in}
-use Rattle.object_reading.specs.Written.{IsWhole, IsWritten}
+use Rattle.object_reading.specs.Written.{IsWritable, IsWritten}
 use Rattle.object_reading.proofs.Lists.{pairs_members}
 use Rattle.object_reading.proofs.Put.{field-with, field-with_other, without-with}
 use Rattle.object_reading.proofs.Metadata.{metadata_back}
@@ -76,14 +76,14 @@ no_metadata x none =
 no_kind : (x : ObjectView) → field (codes "kind") x.body ≡ None → field (codes "kind") (with_version x) ≡ None
 no_kind x none = field-with_other (codes "kind") (codes "apiVersion") (text x.api_version) x.body refl ∙ none
 
-body_left : (x : ObjectView) → IsWhole x → body_in (fields x) ≡ x.body
+body_left : (x : ObjectView) → IsWritable x → body_in (fields x) ≡ x.body
 body_left x w =
     ap (λ (es : Pairs). without_field (codes "apiVersion") (without_field (codes "kind") es))
     (without-with (codes "metadata") (meta_object x) (with_kind x) (no_metadata x w.body.metadata))
     ∙ ap (without_field (codes "apiVersion")) (without-with (codes "kind") (text x.kind) (with_version x) (no_kind x w.body.kind))
     ∙ without-with (codes "apiVersion") (text x.api_version) x.body w.body.api_version
 
-fields_back : (x : ObjectView) → IsWhole x → parts_in (fields x) ≡ x
+fields_back : (x : ObjectView) → IsWritable x → parts_in (fields x) ≡ x
 fields_back x w =
     let api_version : text_or_empty (field (codes "apiVersion") (fields x)) ≡ x.api_version = ap text_or_empty (found_version x) in
     let kind : text_or_empty (field (codes "kind") (fields x)) ≡ x.kind = ap text_or_empty (found_kind x) in
@@ -92,7 +92,7 @@ fields_back x w =
     let body = body_left x w in
     λ i. record { api_version = api_version i; kind = kind i; meta = meta i; body = body i }
 
-pub document_back : (x : ObjectView) (es : Pairs) → IsWhole x → object (members_of es) ≡ document x → parts_in es ≡ x
+pub document_back : (x : ObjectView) (es : Pairs) → IsWritable x → object (members_of es) ≡ document x → parts_in es ≡ x
 document_back x es w e = ap parts_in (fields_one x es e) ∙ fields_back x w
 
 -- ---- a document is an object

@@ -18,11 +18,11 @@ pub record IsBody (body : Pairs) : Type 0 where
   pub metadata : field (codes "metadata") body ≡ None
 
 -- and each stamp is a moment
-pub record IsWhole (x : ObjectView) : Type 0 where
+pub record IsWritable (x : ObjectView) : Type 0 where
   pub body : IsBody x.body
   pub created : IfSome x.meta.created IsMoment
   pub deleted : IfSome x.meta.deleted IsMoment
 
 -- the document of an object
 abbrev pub IsWritten : Json → Type 0
-IsWritten j = (x : ObjectView) × IsWhole x × (j ≡ document x)
+IsWritten j = (x : ObjectView) × IsWritable x × (j ≡ document x)

@@ -7,7 +7,7 @@ ghost use Rattle.object_reading.specs.Keeping.{KeepsRules};
 ghost use Rattle.object_reading.specs.Numbers.{is_number, HasNumber};
 ghost use Rattle.object_reading.specs.Parts.{whole_in};
 ghost use Rattle.object_reading.specs.Refusal.{refusal};
-ghost use Rattle.object_reading.specs.Written.{IsWhole};
+ghost use Rattle.object_reading.specs.Written.{IsWritable};
 
 /// A text passes for a number exactly where it is the decimal text of a number below 2^64.
 pub fn numbers()
@@ -21,5 +21,5 @@ pub fn accepted()
 
 /// The document of an object is read back as the object.
 pub fn read_back()
-    ensures { (x : ObjectView) → IsWhole x → whole_in (document x) ≡ x }
+    ensures { (x : ObjectView) → IsWritable x → whole_in (document x) ≡ x }
 {}

@@ -6,7 +6,7 @@ ghost use Rattle.kube_meta.specs.View.{ObjectView, meta_of, object_of};
 ghost use Rattle.kube_meta.specs.Document.{document};
 ghost use Rattle.object_reading.specs.Refusal.{refusal, first_holding, judged, Tells};
 ghost use Rattle.object_reading.specs.Parts.{object_in, parts_in, submitted};
-ghost use Rattle.object_reading.specs.Written.{IsWhole, IsWritten};
+ghost use Rattle.object_reading.specs.Written.{IsWritable, IsWritten};
 ghost use Rattle.object_reading.specs.Keeping.{KeepsRules};
 
 use crate::fault::ObjectFault;
@@ -24,7 +24,7 @@ pub fn read_object(alloc: Global, doc: JVal, kind: &str) -> Result<Object, Objec
     ensures accepted { IfOk result (λ _. refusal kind.now (json doc) ≡ None) }
     ensures object { IfOk result (λ o. object_of o ≡ object_in (json doc)) }
     ensures rules { IfOk result (λ o. KeepsRules (meta_of o.meta)) }
-    ensures whole { IfOk result (λ o. IsWhole (object_of o)) }
+    ensures whole { IfOk result (λ o. IsWritable (object_of o)) }
     ensures refused { IfErr result (λ e. Tells e (refusal kind.now (json doc))) }
 {
     match doc {
@@ -41,7 +41,7 @@ fn read_fields(alloc: Global, fields: JFields, kind: &str) -> Result<Object, Obj
     ensures accepted { IfOk result (λ _. first_holding (judged kind.now fields) ≡ None) }
     ensures object { IfOk result (λ o. object_of o ≡ submitted (parts_in fields)) }
     ensures rules { IfOk result (λ o. KeepsRules (meta_of o.meta)) }
-    ensures whole { IfOk result (λ o. IsWhole (object_of o)) }
+    ensures whole { IfOk result (λ o. IsWritable (object_of o)) }
     ensures refused { IfErr result (λ e. Tells e (first_holding (judged kind.now fields))) }
 {
     judge(alloc, &fields, kind)?;
@@ -53,7 +53,7 @@ fn read_fields(alloc: Global, fields: JFields, kind: &str) -> Result<Object, Obj
 /// document.
 pub fn read_written(alloc: Global, doc: JVal) -> Result<Object, NoMemory>
     requires written { IsWritten (json doc) }
-    ensures { (x : ObjectView) → IsWhole x → json doc ≡ document x → IfOk result (λ o. object_of o ≡ x) }
+    ensures { (x : ObjectView) → IsWritable x → json doc ≡ document x → IfOk result (λ o. object_of o ≡ x) }
 {
     match doc {
         JVal::Obj(fields) => written_fields(alloc, fields),
@@ -66,7 +66,7 @@ pub fn read_written(alloc: Global, doc: JVal) -> Result<Object, NoMemory>
 }
 
 fn written_fields(alloc: Global, fields: JFields) -> Result<Object, NoMemory>
-    ensures { (x : ObjectView) → IsWhole x → object (members_of fields) ≡ document x
+    ensures { (x : ObjectView) → IsWritable x → object (members_of fields) ≡ document x
         → IfOk result (λ o. object_of o ≡ x) }
 {
     object_of(alloc, fields)

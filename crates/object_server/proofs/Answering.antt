@@ -13,7 +13,7 @@ use Rattle.object_server.specs.Answered.{Tells, no_memory_text, wants_memory}
 use Rattle.object_server.specs.Calls.{Call, create, get, IsOf}
 use Rattle.object_server.specs.Outcomes.{CreateOutcome, GetOutcome}
 use Rattle.object_server.specs.Paths.{segments, collection_path, object_path}
-use Rattle.object_server.specs.Replies.{Answers, Base, Ends, Serves, not_built, refused, refusal_text}
+use Rattle.object_server.specs.Replies.{AnswersRequest, ServerBase, EndsCall, ServesCall, not_built, refused, refusal_text}
 use Rattle.object_server.specs.Routes.{LeadsNowhere}
 
 -- ---- how a call's answer is told
@@ -23,8 +23,8 @@ told_alike : (m : Meaning) → wants_memory ≡ refused m no_memory
 unfolding no_memory_text refusal_text message_of
 told_alike m = refl
 
-pub serves : (b : Base) (rose : Type 0) (stamp : List ℕ) (log : List Item) (c : Call) (d : replies.Answer) (a : ReplyView) (after : List Item)
-    → Ends b rose stamp log c d after → ((e : RefusalView) → d ≡ Err e → after ≡ log) → Tells b.meaning d a → Serves b rose stamp log c a after
+pub serves : (b : ServerBase) (rose : Type 0) (stamp : List ℕ) (log : List Item) (c : Call) (d : replies.Answer) (a : ReplyView) (after : List Item)
+    → EndsCall b rose stamp log c d after → ((e : RefusalView) → d ≡ Err e → after ≡ log) → Tells b.meaning d a → ServesCall b rose stamp log c a after
 serves b rose stamp log c (Ok r) a after ends quiet told = (Ok r, told, ends)
 serves b rose stamp log c (Err e) a after ends quiet (inl told) = (Err e, told, ends)
 serves b rose stamp log c (Err e) a after ends quiet (inr told) = (Err no_memory, told ∙ told_alike b.meaning, (tt, sym (quiet e refl)))
@@ -48,14 +48,14 @@ collection_namespace m v w ns ms e = cc
 abbrev NotServed : Meaning → Request → Type 0
 NotServed m r = (c : Call) → IsOf m r c → ⊥
 
-pub unbuilt : (b : Base) (rose : Type 0) (stamp : List ℕ) (log : List Item) (r : Request) → NotServed b.meaning r → Answers b rose stamp log r not_built log
-unfolding Answers
+pub unbuilt : (b : ServerBase) (rose : Type 0) (stamp : List ℕ) (log : List Item) (r : Request) → NotServed b.meaning r → AnswersRequest b rose stamp log r not_built log
+unfolding AnswersRequest
 unbuilt b rose stamp log r never = inr (never, refl, refl)
 
-pub get_answers : (b : Base) (rose : Type 0) (stamp : List ℕ) (log : List Item) (r : Request) (v : ℕ) (key : KeyView) (a : ReplyView)
+pub get_answers : (b : ServerBase) (rose : Type 0) (stamp : List ℕ) (log : List Item) (r : Request) (v : ℕ) (key : KeyView) (a : ReplyView)
     → v < b.meaning.count → r.method ≡ codes "GET" → segments r.target ≡ object_path b.meaning v key.ns key.name
-    → GetOutcome b rose stamp log v key a → Answers b rose stamp log r a log
-unfolding Answers IsOf
+    → GetOutcome b rose stamp log v key a → AnswersRequest b rose stamp log r a log
+unfolding AnswersRequest IsOf
 get_answers b rose stamp log r v key a known method path (inl done) =
     inl (get v key, record { method = method; path = path; known = known; namespace = done.namespace; named = done.named }, done.serves)
 get_answers b rose stamp log r v key a known method path (inr other) = inr (never, other.reply, refl)
@@ -68,10 +68,10 @@ get_answers b rose stamp log r v key a known method path (inr other) = inr (neve
         (subst (λ (n : List ℕ). is_namespace n ≡ true) (object_namespace b.meaning w v k.ns key.ns k.name key.name same) is.namespace)
         (subst (λ (n : List ℕ). is_name n ≡ true) (object_name b.meaning w v k.ns key.ns k.name key.name same) is.named)
 
-pub create_answers : (b : Base) (rose : Type 0) (stamp : List ℕ) (log after : List Item) (r : Request) (v : ℕ) (namespace : List ℕ) (a : ReplyView)
+pub create_answers : (b : ServerBase) (rose : Type 0) (stamp : List ℕ) (log after : List Item) (r : Request) (v : ℕ) (namespace : List ℕ) (a : ReplyView)
     → v < b.meaning.count → r.method ≡ codes "POST" → segments r.target ≡ collection_path b.meaning v namespace
-    → CreateOutcome b rose stamp log v namespace r.body a after → Answers b rose stamp log r a after
-unfolding Answers IsOf
+    → CreateOutcome b rose stamp log v namespace r.body a after → AnswersRequest b rose stamp log r a after
+unfolding AnswersRequest IsOf
 create_answers b rose stamp log after r v namespace a known method path (inl done) =
     inl (
       create (record { version = v; ns = namespace; name = None; bytes = r.body }),

@@ -11,9 +11,9 @@ use Rattle.api_calls.specs.State.{revision, served, state}
 use Rattle.api_calls.specs.Legal.{key_of}
 use Rattle.api_calls.specs.Values.{created_value}
 use Rattle.api_calls.specs.Versions.{Refused}
-use Rattle.api_calls.specs.Ends.{WriteEnd, done, kept, same, unserved, present, gone, newer, forbidden, storage_moved, full, Decision, Ends as EndsAs, bound, grown}
+use Rattle.api_calls.specs.Ends.{WriteEnd, done, kept, same, unserved, present, gone, newer, forbidden, storage_moved, full, Decision, EndsAsDecided as EndsAs, bound, grown}
 use Rattle.api_calls.specs.Writes.{create_commit}
-use Rattle.api_calls.specs.Replies.{Answer, CreateReply, Creates, IsRefused, WeighsIt, Wrote, code_created}
+use Rattle.api_calls.specs.Replies.{Answer, CreateReply, Creates, IsRefusedRequest, WeighsIt, Wrote, code_created}
 use Rattle.api_calls.specs.declared.versions.AdmitFault.{AdmitFault}
 use Rattle.api_calls.specs.declared.versions.AdmitFault.TheVariants as admits
 use Rattle.api_calls.specs.declared.versions.ConvFault.{ConvFault}
@@ -21,15 +21,15 @@ use Rattle.api_calls.specs.declared.versions.ConvFault.TheVariants as converts
 use Rattle.object_server.specs.Calls.{create}
 use Rattle.object_server.specs.Faults.{admission, failed}
 use Rattle.object_server.specs.Known.{Created}
-use Rattle.object_server.specs.Replies.{Base, Ends}
+use Rattle.object_server.specs.Replies.{ServerBase, EndsCall}
 use Rattle.object_server.proofs.Deciding.{numbered-create}
 
 -- what is decided of a create of a value under its key
-abbrev Decided : Base → ℕ → List Item → ObjectView → ℕ → Decision WriteEnd
+abbrev Decided : ServerBase → ℕ → List Item → ObjectView → ℕ → Decision WriteEnd
 Decided b v log h w = create_commit b.limits (revision log + 1) (state b.meaning log) v (state b.meaning log).flags.storage (key_of h) h w
 
 -- an end that is told so
-pub created_by : (P : List Item → Type 0) (b : Base) (v : ℕ) (log : List Item) (h : ObjectView) (w at : ℕ) (key : KeyView) (end : WriteEnd) (a : Answer)
+pub created_by : (P : List Item → Type 0) (b : ServerBase) (v : ℕ) (log : List Item) (h : ObjectView) (w at : ℕ) (key : KeyView) (end : WriteEnd) (a : Answer)
     → EndsAs bound P log (create_commit b.limits (revision log + 1) (state b.meaning log) v at key h w) end
     → at ≡ (state b.meaning log).flags.storage → key ≡ key_of h
     → Wrote b.meaning b.boot code_created v h.meta.name h end a
@@ -51,7 +51,7 @@ created_by P b v log h w at key end a ends stored under wrote refused =
     )
 
 -- the number of what is entered
-pub number_of : (P : List Item → Type 0) (b : Base) (v : ℕ) (log : List Item) (h : ObjectView) (w at : ℕ) (key : KeyView) (rv born : ℕ)
+pub number_of : (P : List Item → Type 0) (b : ServerBase) (v : ℕ) (log : List Item) (h : ObjectView) (w at : ℕ) (key : KeyView) (rv born : ℕ)
     → EndsAs bound P log (create_commit b.limits (revision log + 1) (state b.meaning log) v at key h w) (done rv born)
     → at ≡ (state b.meaning log).flags.storage → rv ≡ revision log + 1
 number_of P b v log h w at key rv born ends stored =
@@ -59,7 +59,7 @@ number_of P b v log h w at key rv born ends stored =
     (sym (subst (λ (x : ℕ). done rv born ≡ (create_commit b.limits (revision log + 1) (state b.meaning log) v x key h w).answer) stored ends.0))).0
 
 -- the storage version is that of the same turn
-pub unmoved : (P : List Item → Type 0) (b : Base) (v : ℕ) (log : List Item) (h : ObjectView) (w at : ℕ) (key : KeyView) (now : ℕ)
+pub unmoved : (P : List Item → Type 0) (b : ServerBase) (v : ℕ) (log : List Item) (h : ObjectView) (w at : ℕ) (key : KeyView) (now : ℕ)
     → EndsAs bound P log (create_commit b.limits (revision log + 1) (state b.meaning log) v at key h w) (storage_moved now)
     → at ≡ (state b.meaning log).flags.storage → ⊥
 unmoved P b v log h w at key now ends stored =
@@ -86,20 +86,20 @@ holds : (b : Bool) (X Y : Type 0) → b ≡ true → X → MatchBool b X Y
 holds b X Y is x = subst (λ (t : Bool). MatchBool t X Y) (sym is) x
 
 -- how a create at a served version is answered, and how one at another
-abbrev Accepts : Base → List ℕ → List Item → Request → Answer → Option Item → Type 0
+abbrev Accepts : ServerBase → List ℕ → List Item → Request → Answer → Option Item → Type 0
 Accepts b stamp log q a i =
-    IsRefused b.meaning q a i
+    IsRefusedRequest b.meaning q a i
     ⊎ ((new : ObjectView) × (e : Option ℕ) × (w : ℕ) × b.meaning.admits q new e × WeighsIt b.meaning new w
     × Creates b.meaning b.limits b.boot (revision log + 1) (state b.meaning log) q.version (created_value stamp new) w a i)
 
 abbrev Lacks : Answer → Option Item → Type 0
 Lacks a i = (a ≡ Err no_resource) × (i ≡ None)
 
-module _ (b : Base) (rose : Type 0) (stamp : List ℕ) (log : List Item) (q : Request) (is_served : served (state b.meaning log).flags q.version ≡ true) where
+module _ (b : ServerBase) (rose : Type 0) (stamp : List ℕ) (log : List Item) (q : Request) (is_served : served (state b.meaning log).flags q.version ≡ true) where
   -- a decided answer is one that the cause binds
   bound_by : (d : Answer) (after : List Item) (i : Option Item)
       → CreateReply b.meaning b.limits b.boot (revision log + 1) (state b.meaning log) q stamp d i → grown log i ≡ after
-      → (d ≡ Err converter → ⊥) → (d ≡ Err no_memory → after ≡ log) → Ends b rose stamp log (create q) d after
+      → (d ≡ Err converter → ⊥) → (d ≡ Err no_memory → after ≡ log) → EndsCall b rose stamp log (create q) d after
   bound_by (Ok r) after i reply grows c n = (i, reply, grows)
   bound_by (Err (not_found name)) after i reply grows c n = (i, reply, grows)
   bound_by (Err no_resource) after i reply grows c n = (i, reply, grows)
@@ -116,7 +116,7 @@ module _ (b : Base) (rose : Type 0) (stamp : List ℕ) (log : List Item) (q : Re
 
   -- of an admitted value
   pub admitted_ends : (new : ObjectView) (e : Option ℕ) (w : ℕ) (d : Answer) (after : List Item) → b.meaning.admits q new e → WeighsIt b.meaning new w
-      → Created b q.version log (created_value stamp new) w d after → Ends b rose stamp log (create q) d after
+      → Created b q.version log (created_value stamp new) w d after → EndsCall b rose stamp log (create q) d after
   admitted_ends new e w d after admits weighs made =
       bound_by d after made.item (holds (served (state b.meaning log).flags q.version) (Accepts b stamp log q d made.item) (Lacks d made.item) is_served (inr (new, e, w, admits, weighs, made.creates))) (sym made.grows)
       (λ is. never_converter b.meaning b.boot code_created q.version (created_value stamp new).meta.name (created_value stamp new)
@@ -124,10 +124,10 @@ module _ (b : Base) (rose : Type 0) (stamp : List ℕ) (log : List Item) (q : Re
       (Decided b q.version log (created_value stamp new) w).answer x) is made.creates.0))
       (λ is. made.refused no_memory is)
 
-  memory_ends : Ends b rose stamp log (create q) (Err no_memory) log
+  memory_ends : EndsCall b rose stamp log (create q) (Err no_memory) log
   memory_ends = (tt, refl)
 
-  admission_ends : (fault : AdmitFault) → Refused (b.meaning.refuses q) rose fault → Ends b rose stamp log (create q) (Err (admission b.meaning fault)) log
+  admission_ends : (fault : AdmitFault) → Refused (b.meaning.refuses q) rose fault → EndsCall b rose stamp log (create q) (Err (admission b.meaning fault)) log
   admission_ends (admits.BadRequest why) r = (None, holds (served (state b.meaning log).flags q.version) (Accepts b stamp log q (Err (admission b.meaning (admits.BadRequest why))) None) (Lacks (Err (admission b.meaning (admits.BadRequest why))) None) is_served (inl (bad_request (why_of why), r, refl, refl)), refl)
   admission_ends (admits.Invalid name cause) r = (None, holds (served (state b.meaning log).flags q.version) (Accepts b stamp log q (Err (admission b.meaning (admits.Invalid name cause))) None) (Lacks (Err (admission b.meaning (admits.Invalid name cause))) None) is_served (inl (invalid name.bytes (cause_of cause), r, refl, refl)), refl)
   admission_ends admits.Tool r = (r, refl)
@@ -135,14 +135,14 @@ module _ (b : Base) (rose : Type 0) (stamp : List ℕ) (log : List Item) (q : Re
 
   -- of a request that isn't admitted
   pub refused_ends : (fault : AdmitFault) (e : RefusalView) → Refused (b.meaning.refuses q) rose fault → (e ≡ no_memory) ⊎ (e ≡ admission b.meaning fault)
-      → Ends b rose stamp log (create q) (Err e) log
-  refused_ends fault e r (inl is) = subst (λ (x : RefusalView). Ends b rose stamp log (create q) (Err x) log) (sym is) memory_ends
-  refused_ends fault e r (inr is) = subst (λ (x : RefusalView). Ends b rose stamp log (create q) (Err x) log) (sym is) (admission_ends fault r)
+      → EndsCall b rose stamp log (create q) (Err e) log
+  refused_ends fault e r (inl is) = subst (λ (x : RefusalView). EndsCall b rose stamp log (create q) (Err x) log) (sym is) memory_ends
+  refused_ends fault e r (inr is) = subst (λ (x : RefusalView). EndsCall b rose stamp log (create q) (Err x) log) (sym is) (admission_ends fault r)
 
-  failed_ends : (fault : ConvFault) → (fault ≡ converts.Tool → rose) → Ends b rose stamp log (create q) (Err (failed fault)) log
+  failed_ends : (fault : ConvFault) → (fault ≡ converts.Tool → rose) → EndsCall b rose stamp log (create q) (Err (failed fault)) log
   failed_ends converts.Tool r = (r refl, refl)
   failed_ends converts.NoMemory r = (tt, refl)
 
   -- of one that couldn't be converted
-  pub fault_ends : (fault : ConvFault) (e : RefusalView) → (fault ≡ converts.Tool → rose) → e ≡ failed fault → Ends b rose stamp log (create q) (Err e) log
-  fault_ends fault e r is = subst (λ (x : RefusalView). Ends b rose stamp log (create q) (Err x) log) (sym is) (failed_ends fault r)
+  pub fault_ends : (fault : ConvFault) (e : RefusalView) → (fault ≡ converts.Tool → rose) → e ≡ failed fault → EndsCall b rose stamp log (create q) (Err e) log
+  fault_ends fault e r is = subst (λ (x : RefusalView). EndsCall b rose stamp log (create q) (Err x) log) (sym is) (failed_ends fault r)

@@ -10,11 +10,11 @@ use Rattle.api_calls.specs.Item.{Item}
 use Rattle.api_calls.specs.Objects.{Stored, find}
 use Rattle.api_calls.specs.State.{served, state}
 use Rattle.api_calls.specs.Versions.{IsStored}
-use Rattle.api_calls.specs.Replies.{GetReply, IsShown, Shows, code_ok}
+use Rattle.api_calls.specs.Replies.{GetReply, IsShown, ShowsObject, code_ok}
 use Rattle.turn_state.specs.declared.seen.Seen.{Seen}
 use Rattle.turn_state.specs.declared.seen.Peeked.{Peeked}
 use Rattle.turn_state.specs.Deciding.{found-some}
-use Rattle.turn_state.specs.Keeps.{Keeps}
+use Rattle.turn_state.specs.Keeps.{KeepsObject}
 use Rattle.turn_state.specs.Prepared.{Sees, seen_item}
 use Rattle.turn_state.specs.Stands.{Stands}
 use Rattle.turn_state.specs.View.{CoreView}
@@ -22,7 +22,7 @@ use Rattle.object_server.proofs.Born.{born-within}
 
 -- the object that is seen
 pub kept : (m : Meaning) (log : List Item) (k : KeyView) (p : Peeked) (seen : Seen) → Sees m log k p → p.found ≡ Some seen
-    → (e : Stored) × (find k (state m log).objects ≡ Some e) × Keeps m (seen_item seen) e
+    → (e : Stored) × (find k (state m log).objects ≡ Some e) × KeepsObject m (seen_item seen) e
 kept m log k p seen sees is =
     found-some m (option_map seen_item p.found) (find k (state m log).objects) (seen_item seen) sees.found (ap (option_map seen_item) is)
 
@@ -53,9 +53,9 @@ seen_reply m boot v log k p seen r sees is may code shows =
     let by_value : IsShown m boot v e.h seen.rv seen.born r.text = shown_other m boot v text.value e.h seen.rv seen.born r.text text.same shown in
     let by_number : IsShown m boot v e.h e.number seen.born r.text = subst (λ (n : ℕ). IsShown m boot v e.h n seen.born r.text) keeps.number by_value in
     let by_birth : IsShown m boot v e.h e.number e.born r.text = subst (λ (n : ℕ). IsShown m boot v e.h e.number n r.text) keeps.born by_number in
-    let told : MatchOption (find k (state m log).objects) (Ok r ≡ Err (not_found k.name)) (λ x. Shows m boot code_ok v x.h x.number x.born (Ok r)) =
-    subst (λ (o : Option Stored). MatchOption o (Ok r ≡ Err (not_found k.name)) (λ x. Shows m boot code_ok v x.h x.number x.born (Ok r))) (sym there) (code, by_birth) in
-    (refl, subst (λ (b : Bool). MatchBool b (MatchOption (find k (state m log).objects) (Ok r ≡ Err (not_found k.name)) (λ x. Shows m boot code_ok v x.h x.number x.born (Ok r))) (Ok r ≡ Err no_resource)) (sym may) told)
+    let told : MatchOption (find k (state m log).objects) (Ok r ≡ Err (not_found k.name)) (λ x. ShowsObject m boot code_ok v x.h x.number x.born (Ok r)) =
+    subst (λ (o : Option Stored). MatchOption o (Ok r ≡ Err (not_found k.name)) (λ x. ShowsObject m boot code_ok v x.h x.number x.born (Ok r))) (sym there) (code, by_birth) in
+    (refl, subst (λ (b : Bool). MatchBool b (MatchOption (find k (state m log).objects) (Ok r ≡ Err (not_found k.name)) (λ x. ShowsObject m boot code_ok v x.h x.number x.born (Ok r))) (Ok r ≡ Err no_resource)) (sym may) told)
 
 -- the same of another definition and boot number that are these
 pub shows_as : {V : Type 0} (meaning : V → Meaning) (it jt : V) (a b v : ℕ) (seen : Seen) (text : List ℕ) → it ≡ jt → a ≡ b

@@ -14,7 +14,7 @@ use Rattle.api_calls.specs.Replies.{Answer, answer_cause, CreateReply, GetReply}
 use Rattle.object_server.specs.Calls.{Call, create, get, IsOf}
 
 -- what no request changes: the definition's meaning, the limits, and the number of the server's start
-pub record Base : Type 1 where
+pub record ServerBase : Type 1 where
   pub meaning : Meaning
   pub limits : Limits
   pub boot : ℕ
@@ -45,20 +45,20 @@ not_built = record { code = code_not_implemented; text = not_built_text }
 -- ---- calls
 
 -- the reply to a call at a list, the clock showing this stamp, and the item that the call enters
-abbrev pub Decides : Base → List ℕ → List Item → Call → Answer → Option Item → Type 0
+abbrev pub Decides : ServerBase → List ℕ → List Item → Call → Answer → Option Item → Type 0
 Decides b stamp log (create q) d i = CreateReply b.meaning b.limits b.boot (revision log + 1) (state b.meaning log) q stamp d i
 Decides b stamp log (get v k) d i = GetReply b.meaning b.boot (state b.meaning log) v k d i
 
 -- The call is answered as it is decided. Want of memory is free, and the converter's failure has its cause: the tool's
 -- count of faults rose. Neither enters anything.
-abbrev pub Ends : Base → Type 0 → List ℕ → List Item → Call → Answer → List Item → Type 0
-Ends b rose stamp log c d after = ends.Answers (answer_cause rose d) (λ l. l ≡ after) log (Decides b stamp log c) d
+abbrev pub EndsCall : ServerBase → Type 0 → List ℕ → List Item → Call → Answer → List Item → Type 0
+EndsCall b rose stamp log c d after = ends.EndsAsAllowed (answer_cause rose d) (λ l. l ≡ after) log (Decides b stamp log c) d
 
-abbrev pub Serves : Base → Type 0 → List ℕ → List Item → Call → ReplyView → List Item → Type 0
-Serves b rose stamp log c a after = (d : Answer) × (a ≡ replied b.meaning d) × Ends b rose stamp log c d after
+abbrev pub ServesCall : ServerBase → Type 0 → List ℕ → List Item → Call → ReplyView → List Item → Type 0
+ServesCall b rose stamp log c a after = (d : Answer) × (a ≡ replied b.meaning d) × EndsCall b rose stamp log c d after
 
 -- A request's reply and the list after it. A request of another form is refused, and enters nothing.
-unfoldable pub Answers : Base → Type 0 → List ℕ → List Item → Request → ReplyView → List Item → Type 0
-Answers b rose stamp log r a after =
-    ((c : Call) × IsOf b.meaning r c × Serves b rose stamp log c a after)
+unfoldable pub AnswersRequest : ServerBase → Type 0 → List ℕ → List Item → Request → ReplyView → List Item → Type 0
+AnswersRequest b rose stamp log r a after =
+    ((c : Call) × IsOf b.meaning r c × ServesCall b rose stamp log c a after)
     ⊎ (((c : Call) → IsOf b.meaning r c → ⊥) × (a ≡ not_built) × (after ≡ log))

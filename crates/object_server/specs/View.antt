@@ -3,10 +3,10 @@ use Rattle.std.specs.Prelude.{◌≡◌}
 use Rattle.http_wire.specs.Head.{Request}
 use Rattle.api_calls.specs.Meaning.{Meaning}
 use Rattle.api_core.specs.View.{CoreOf}
-use Rattle.object_server.specs.Replies.{Base}
+use Rattle.object_server.specs.Replies.{ServerBase}
 use Rattle.object_server.specs.declared.asked.Asked.{Asked}
 
-abbrev pub base_of : {V : Type 0} → (V → Meaning) → CoreOf V → Base
+abbrev pub base_of : {V : Type 0} → (V → Meaning) → CoreOf V → ServerBase
 base_of meaning c = record { meaning = meaning c.versions; limits = c.view.limits; boot = c.view.boot }
 
 -- what is asked is this request

@@ -12,7 +12,7 @@ ghost use Rattle.turn_state.specs.Prepared.{IsSized};
 ghost use Rattle.object_server.specs.Answered.{decided};
 ghost use Rattle.object_server.specs.Calls.{create};
 ghost use Rattle.object_server.specs.Known.{Created, MeansNew};
-ghost use Rattle.object_server.specs.Replies.{Ends};
+ghost use Rattle.object_server.specs.Replies.{EndsCall};
 ghost use Rattle.object_server.specs.View.{base_of};
 
 use crate::given::Given;
@@ -158,7 +158,7 @@ impl<V: Versions> Given<'_, V> {
         requires few { core.old.view.revision ≤ 2 ^ 61 }
         requires stands { (log : List Item) × StandsFor V.meaning core.old log }
         ensures ends { (log : List Item) → StandsFor V.meaning core.old log → (after : List Item) × StandsFor V.meaning core.new after
-            × Ends (base_of V.meaning core.old) (V.Tool.faults tool.old < V.Tool.faults tool.new) stamp.text log (create (request_of input.now)) (decided result) after
+            × EndsCall (base_of V.meaning core.old) (V.Tool.faults tool.old < V.Tool.faults tool.new) stamp.text log (create (request_of input.now)) (decided result) after
             × ((e : RefusalView) → decided result ≡ Err e → after ≡ log) }
         ensures phrase { IfOk result (λ r. HasPhrase r.code) }
         ensures rises { V.Tool.faults tool.old ≤ V.Tool.faults tool.new }

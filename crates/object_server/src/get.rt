@@ -8,7 +8,7 @@ ghost use Rattle.api_calls.specs.Versions.{IsStored};
 ghost use Rattle.api_core.specs.View.{StandsFor};
 ghost use Rattle.object_server.specs.Answered.{decided};
 ghost use Rattle.object_server.specs.Calls.{get};
-ghost use Rattle.object_server.specs.Replies.{Ends};
+ghost use Rattle.object_server.specs.Replies.{EndsCall};
 ghost use Rattle.object_server.specs.View.{base_of};
 
 use crate::given::Given;
@@ -58,7 +58,7 @@ impl<V: Versions> Given<'_, V> {
         requires few { core.now.view.revision ≤ 2 ^ 61 }
         requires stands { (log : List Item) × StandsFor V.meaning core.now log }
         ensures ends { (log : List Item) (stamp : List ℕ) → StandsFor V.meaning core.now log
-            → Ends (base_of V.meaning core.now) (V.Tool.faults tool.old < V.Tool.faults tool.new) stamp log
+            → EndsCall (base_of V.meaning core.now) (V.Tool.faults tool.old < V.Tool.faults tool.new) stamp log
             (get v (record { ns = namespace.now; name = name.now })) (decided result) log }
         ensures phrase { IfOk result (λ r. HasPhrase r.code) }
         ensures rises { V.Tool.faults tool.old ≤ V.Tool.faults tool.new }

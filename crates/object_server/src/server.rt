@@ -7,7 +7,7 @@ ghost use Rattle.api_calls.specs.Item.{Item};
 ghost use Rattle.api_calls.specs.Versions.{IsStamp};
 ghost use Rattle.api_core.specs.View.{SameBase, StandsFor};
 ghost use Rattle.object_server.specs.Answered.{answer_of};
-ghost use Rattle.object_server.specs.Replies.{Answers};
+ghost use Rattle.object_server.specs.Replies.{AnswersRequest};
 ghost use Rattle.object_server.specs.View.{Asks, base_of};
 ghost use Rattle.object_server.specs.Outcomes.{CreateOutcome, GetOutcome};
 
@@ -157,7 +157,7 @@ impl<V: Versions> Server<V> {
         requires stands { (log : List Item) × StandsFor V.meaning self.old log }
         ensures answer { (log : List Item) (r : Request) → Asks asked.now r → StandsFor V.meaning self.old log
             → (after : List Item) × StandsFor V.meaning self.new after
-            × Answers (base_of V.meaning self.old) (V.Tool.faults tool.old < V.Tool.faults tool.new) stamp.text log r (answer_of result) after }
+            × AnswersRequest (base_of V.meaning self.old) (V.Tool.faults tool.old < V.Tool.faults tool.new) stamp.text log r (answer_of result) after }
         ensures stands { (log : List Item) × StandsFor V.meaning self.new log }
         ensures phrase { HasPhrase (answer_of result).code }
         ensures rises { V.Tool.faults tool.old ≤ V.Tool.faults tool.new }

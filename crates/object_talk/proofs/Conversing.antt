@@ -19,9 +19,9 @@ use Rattle.object_server.specs.Calls.{Call}
 use Rattle.object_server.specs.Replies as replies
 use Rattle.object_server.specs.View.{base_of}
 use Rattle.object_talk.specs.Faults.{last_words}
-use Rattle.object_talk.specs.Answering.{Base, Answers}
+use Rattle.object_talk.specs.Answering.{ConversationBase, AnswersInConversation}
 use Rattle.object_talk.specs.Talk.{Talks, Conversation}
-use Rattle.object_talk.specs.Steps.{AnsweredOne, Ends, Did, HandsOn, Refuses, step_of}
+use Rattle.object_talk.specs.Steps.{AnsweredOne, EndsInput, Did, HandsOn, RefusesHead, step_of}
 use Rattle.object_talk.specs.Conversed.{Replied, Served, Conversed}
 use Rattle.object_talk.specs.declared.conversation.OneEnd.{OneEnd}
 use Rattle.object_talk.specs.declared.conversation.OneEnd.TheVariants as steps
@@ -30,7 +30,7 @@ use Rattle.object_talk.specs.declared.conversation.PipeEnd.TheVariants.{ReadFaul
 -- ---- a conversation from its first step
 
 -- an answer, and then a conversation over the rest, are a conversation
-pub answered_one : (base : Base) (budget : ℕ) (log after : List Item) (bytes rest : List ℕ) (before mid written : Option (List ℕ)) (end : End)
+pub answered_one : (base : ConversationBase) (budget : ℕ) (log after : List Item) (bytes rest : List ℕ) (before mid written : Option (List ℕ)) (end : End)
     → 0 < budget → AnsweredOne base false log after bytes rest before mid
     → Conversation base (budget - 1) after rest mid written end
     → Conversation base budget log bytes before written end
@@ -44,7 +44,7 @@ answered_one base budget log after bytes rest before mid written end some one mo
 }
 
 -- an answer to a request that asks for closing is the end
-pub answered_last : (base : Base) (budget : ℕ) (log after : List Item) (bytes rest : List ℕ) (before written : Option (List ℕ))
+pub answered_last : (base : ConversationBase) (budget : ℕ) (log after : List Item) (bytes rest : List ℕ) (before written : Option (List ℕ))
     → 0 < budget → AnsweredOne base true log after bytes rest before written
     → Conversation base budget log bytes before written closing
 unfolding Talks last_words
@@ -57,8 +57,8 @@ answered_last base budget log after bytes rest before written some one = record 
 }
 
 -- the input ends so
-pub ended_now : (base : Base) (budget : ℕ) (log : List Item) (bytes : List ℕ) (before written : Option (List ℕ)) (end : End)
-    → 0 < budget → Ends bytes before written end → Conversation base budget log bytes before written end
+pub ended_now : (base : ConversationBase) (budget : ℕ) (log : List Item) (bytes : List ℕ) (before written : Option (List ℕ)) (end : End)
+    → 0 < budget → EndsInput bytes before written end → Conversation base budget log bytes before written end
 unfolding Talks
 ended_now base budget log bytes before written end some ends = record {
   requests = [];
@@ -69,7 +69,7 @@ ended_now base budget log bytes before written end some ends = record {
 }
 
 -- no more requests are read
-pub spent_now : (base : Base) (budget : ℕ) (log : List Item) (bytes : List ℕ) (before : Option (List ℕ))
+pub spent_now : (base : ConversationBase) (budget : ℕ) (log : List Item) (bytes : List ℕ) (before : Option (List ℕ))
     → budget ≡ 0 → Conversation base budget log bytes before before spent
 unfolding Talks last_words
 spent_now base budget log bytes before none = record {
@@ -87,8 +87,8 @@ unfolding Follows
 follows_more b mid rest [] r so_far reads = (rest, subst (λ (m : List ℕ). Reads m r rest) so_far reads, refl)
 follows_more b mid rest (q ∷ rs) r so_far reads = (so_far.0, so_far.1, follows_more so_far.0 mid rest rs r so_far.2 reads)
 
-replied_more : (base : Base) (log mid later : List Item) (rs : List Request) (r : Request) (a : ReplyView) (out : List ℕ)
-    → Replied base log rs out mid → r.closing ≡ false → Answers base mid r a later
+replied_more : (base : ConversationBase) (log mid later : List Item) (rs : List Request) (r : Request) (a : ReplyView) (out : List ℕ)
+    → Replied base log rs out mid → r.closing ≡ false → AnswersInConversation base mid r a later
     → Replied base log (rs ++ r ∷ []) (out ++ says a.code a.text false) later
 unfolding Replied
 replied_more base log mid later [] r a out so_far stays answers = (
@@ -96,7 +96,7 @@ replied_more base log mid later [] r a out so_far stays answers = (
   later,
   [],
   stays,
-  subst (λ (is : List Item). Answers base is r a later) so_far.1 answers,
+  subst (λ (is : List Item). AnswersInConversation base is r a later) so_far.1 answers,
   ap (λ (xs : List ℕ). xs ++ says a.code a.text false) so_far.0 ∙ sym (append-nil (says a.code a.text false)),
   (refl, refl),
 )
@@ -110,7 +110,7 @@ replied_more base log mid later (q ∷ rs) r a out so_far stays answers = (
   replied_more base so_far.1 mid later rs r a so_far.2 so_far.6 stays answers,
 )
 
-served_more : (base : Base) (log after later : List Item) (bytes rest left : List ℕ) (before mid written : Option (List ℕ))
+served_more : (base : ConversationBase) (log after later : List Item) (bytes rest left : List ℕ) (before mid written : Option (List ℕ))
     → Served base log after bytes rest before mid → AnsweredOne base false after later rest left mid written
     → Served base log later bytes left before written
 served_more base log after later bytes rest left before mid written so_far one = record {
@@ -121,7 +121,7 @@ served_more base log after later bytes rest left before mid written so_far one =
   wrote = added_both before mid written so_far.out (says one.answer.code one.answer.text false) so_far.wrote one.wrote;
 }
 
-served_none : (base : Base) (log : List Item) (bytes : List ℕ) (before : Option (List ℕ)) → Served base log log bytes bytes before before
+served_none : (base : ConversationBase) (log : List Item) (bytes : List ℕ) (before : Option (List ℕ)) → Served base log log bytes bytes before before
 unfolding Follows Replied
 served_none base log bytes before = record {
   requests = [];
@@ -133,7 +133,7 @@ served_none base log bytes before = record {
 
 -- ---- each conversation from here on goes on from a known beginning
 
-pub record GoesOn (base : Base) (budget now : ℕ) (log : List Item) (stood : List Item → Type 0) (bytes : List ℕ) (known before mid : Option (List ℕ)) : Type 0 where
+pub record GoesOn (base : ConversationBase) (budget now : ℕ) (log : List Item) (stood : List Item → Type 0) (bytes : List ℕ) (known before mid : Option (List ℕ)) : Type 0 where
   pub after : List Item
   pub stands : stood after
   pub rest : List ℕ
@@ -142,7 +142,7 @@ pub record GoesOn (base : Base) (budget now : ℕ) (log : List Item) (stood : Li
       → Conversation base (budget - now) after rest mid written end → Conversation base budget log bytes before written end
   pub served : Served base log after bytes rest before mid
 
-pub goes_on_from : (base : Base) (budget : ℕ) (log : List Item) (stood : List Item → Type 0) (bytes : List ℕ) (known before : Option (List ℕ))
+pub goes_on_from : (base : ConversationBase) (budget : ℕ) (log : List Item) (stood : List Item → Type 0) (bytes : List ℕ) (known before : Option (List ℕ))
     → stood log → known ≡ Some bytes → GoesOn base budget 0 log stood bytes known before before
 goes_on_from base budget log stood bytes known before stands is = record {
   after = log;
@@ -155,11 +155,11 @@ goes_on_from base budget log stood bytes known before stands is = record {
 }
 
 -- what a step did, from where the conversation stands
-abbrev pub Steps : Base → OneEnd → (List Item → Type 0) → (List Item → Type 0) → Option (List ℕ) → Option (List ℕ) → Option (List ℕ) → Option (List ℕ) → Type 0
+abbrev pub Steps : ConversationBase → OneEnd → (List Item → Type 0) → (List Item → Type 0) → Option (List ℕ) → Option (List ℕ) → Option (List ℕ) → Option (List ℕ) → Type 0
 Steps base step stood later known left before written =
     (b : List ℕ) (log : List Item) → known ≡ Some b → stood log → Did base step log later b left before written
 
-pub goes_on_more : (base : Base) (budget now : ℕ) (log : List Item) (stood later : List Item → Type 0) (bytes : List ℕ)
+pub goes_on_more : (base : ConversationBase) (budget now : ℕ) (log : List Item) (stood later : List Item → Type 0) (bytes : List ℕ)
     (known left before mid next : Option (List ℕ))
     → now < budget
     → GoesOn base budget now log stood bytes known before mid
@@ -179,17 +179,17 @@ goes_on_more base budget now log stood later bytes known left before mid next so
       served = served_more base log so_far.after one.0 bytes so_far.rest one.2 before mid next so_far.served one.4;
     }
 
-pub goes_on_to : (base : Base) (budget now : ℕ) (log : List Item) (stood : List Item → Type 0) (bytes : List ℕ)
+pub goes_on_to : (base : ConversationBase) (budget now : ℕ) (log : List Item) (stood : List Item → Type 0) (bytes : List ℕ)
     (known before mid written : Option (List ℕ)) (end : End)
     → now < budget
     → GoesOn base budget now log stood bytes known before mid
-    → ((b : List ℕ) (is : List Item) → known ≡ Some b → stood is → Ends b mid written end)
+    → ((b : List ℕ) (is : List Item) → known ≡ Some b → stood is → EndsInput b mid written end)
     → Conversation base budget log bytes before written end
 goes_on_to base budget now log stood bytes known before mid written end some so_far step =
     so_far.whole written end
     (ended_now base (budget - now) so_far.after so_far.rest mid written end (omega arith) (step so_far.rest so_far.after so_far.known_is so_far.stands))
 
-pub goes_on_last : (base : Base) (budget now : ℕ) (log : List Item) (stood later : List Item → Type 0) (bytes : List ℕ)
+pub goes_on_last : (base : ConversationBase) (budget now : ℕ) (log : List Item) (stood later : List Item → Type 0) (bytes : List ℕ)
     (known left before mid written : Option (List ℕ))
     → now < budget
     → GoesOn base budget now log stood bytes known before mid
@@ -199,13 +199,13 @@ goes_on_last base budget now log stood later bytes known left before mid written
     let one = step so_far.rest so_far.after so_far.known_is so_far.stands in
     so_far.whole written closing (answered_last base (budget - now) so_far.after one.0 so_far.rest one.2 mid written (omega arith) one.4)
 
-pub goes_on_spent : (base : Base) (budget now : ℕ) (log : List Item) (stood : List Item → Type 0) (bytes : List ℕ) (known before mid : Option (List ℕ))
+pub goes_on_spent : (base : ConversationBase) (budget now : ℕ) (log : List Item) (stood : List Item → Type 0) (bytes : List ℕ) (known before mid : Option (List ℕ))
     → budget ≤ now
     → GoesOn base budget now log stood bytes known before mid → Conversation base budget log bytes before mid spent
 goes_on_spent base budget now log stood bytes known before mid done so_far =
     so_far.whole mid spent (spent_now base (budget - now) so_far.after so_far.rest mid (omega arith))
 
-pub goes_on_unread : (base : Base) (budget now : ℕ) (log : List Item) (stood later : List Item → Type 0) (bytes : List ℕ) (known left before mid written : Option (List ℕ))
+pub goes_on_unread : (base : ConversationBase) (budget now : ℕ) (log : List Item) (stood later : List Item → Type 0) (bytes : List ℕ) (known left before mid written : Option (List ℕ))
     → GoesOn base budget now log stood bytes known before mid
     → Steps base steps.ReadFault stood later known left mid written
     → Conversed base budget log bytes before written ReadFault
@@ -213,7 +213,7 @@ goes_on_unread base budget now log stood later bytes known left before mid writt
     let same = step so_far.rest so_far.after so_far.known_is so_far.stands in
     (so_far.after, so_far.rest, subst (λ (w : Option (List ℕ)). Served base log so_far.after bytes so_far.rest before w) (sym same) so_far.served)
 
-pub goes_on_unwritten : (base : Base) (budget now : ℕ) (log : List Item) (stood later : List Item → Type 0) (bytes : List ℕ) (known left before mid written : Option (List ℕ))
+pub goes_on_unwritten : (base : ConversationBase) (budget now : ℕ) (log : List Item) (stood later : List Item → Type 0) (bytes : List ℕ) (known left before mid written : Option (List ℕ))
     → GoesOn base budget now log stood bytes known before mid
     → Steps base steps.WriteFault stood later known left mid written
     → Conversed base budget log bytes before written WriteFault
@@ -227,7 +227,7 @@ rose_since a b c later rose = omega arith
 
 -- ---- a step
 
-pub did_either : (base : Base) (closes : Bool) (log after : List Item) (stood : List Item → Type 0) (bytes rest : List ℕ) (known before written : Option (List ℕ))
+pub did_either : (base : ConversationBase) (closes : Bool) (log after : List Item) (stood : List Item → Type 0) (bytes rest : List ℕ) (known before written : Option (List ℕ))
     → stood after → known ≡ Some rest → AnsweredOne base closes log after bytes rest before written
     → Did base (step_of closes) log stood bytes known before written
 did_either base true log after stood bytes rest known before written stands is one = (after, stands, rest, is, one)
@@ -238,13 +238,13 @@ pub handed_on : (closes : Bool) (flushed untouched : Type 0) → flushed → Han
 handed_on true flushed untouched done = done
 handed_on false flushed untouched done = done
 
-pub did_refuse : (base : Base) (f : WireFault) (step : OneEnd) (log : List Item) (stood : List Item → Type 0) (bytes : List ℕ) (known before written : Option (List ℕ))
+pub did_refuse : (base : ConversationBase) (f : WireFault) (step : OneEnd) (log : List Item) (stood : List Item → Type 0) (bytes : List ℕ) (known before written : Option (List ℕ))
     → ((budget : ℕ) → 0 < budget → Stops budget bytes (refused f))
-    → Refuses f before written step
+    → RefusesHead f before written step
     → Did base step log stood bytes known before written
 unfolding last_words
 did_refuse base f (steps.Refused g) log stood bytes known before written stops refuses =
-    subst (λ (h : WireFault). Ends bytes before written (refused h)) refuses.0 (record { stops = stops; wrote = refuses.1 })
+    subst (λ (h : WireFault). EndsInput bytes before written (refused h)) refuses.0 (record { stops = stops; wrote = refuses.1 })
 did_refuse base f steps.WriteFault log stood bytes known before written stops refuses =
     inr (record { fault = f; stops = stops; some = refuses })
 did_refuse base f steps.Answered log stood bytes known before written stops refuses = absurd refuses
@@ -254,17 +254,17 @@ did_refuse base f (steps.Torn held) log stood bytes known before written stops r
 did_refuse base f steps.ReadFault log stood bytes known before written stops refuses = absurd refuses
 
 -- the input ended, and nothing more is written
-pub did_close : (bytes : List ℕ) (before : Option (List ℕ)) → ((budget : ℕ) → 0 < budget → Stops budget bytes closed) → Ends bytes before before closed
+pub did_close : (bytes : List ℕ) (before : Option (List ℕ)) → ((budget : ℕ) → 0 < budget → Stops budget bytes closed) → EndsInput bytes before before closed
 unfolding last_words
 did_close bytes before stops = record { stops = stops; wrote = known_nil before }
 
-pub did_tear : (bytes : List ℕ) (before : Option (List ℕ)) (held : ℕ) → ((budget : ℕ) → 0 < budget → Stops budget bytes (torn held)) → Ends bytes before before (torn held)
+pub did_tear : (bytes : List ℕ) (before : Option (List ℕ)) (held : ℕ) → ((budget : ℕ) → 0 < budget → Stops budget bytes (torn held)) → EndsInput bytes before before (torn held)
 unfolding last_words
 did_tear bytes before held stops = record { stops = stops; wrote = known_nil before }
 
 -- where there is no tool that fails, no answer has that cause
-untooled : (b : replies.Base) (rose : Type 0) (stamp : List ℕ) (log : List Item) (c : Call) (d : decisions.Answer) (after : List Item)
-    → (rose → ⊥) → replies.Ends b rose stamp log c d after → replies.Ends b ⊥ stamp log c d after
+untooled : (b : replies.ServerBase) (rose : Type 0) (stamp : List ℕ) (log : List Item) (c : Call) (d : decisions.Answer) (after : List Item)
+    → (rose → ⊥) → replies.EndsCall b rose stamp log c d after → replies.EndsCall b ⊥ stamp log c d after
 untooled b rose stamp log c (Ok r) after never ends = ends
 untooled b rose stamp log c (Err (not_found name)) after never ends = ends
 untooled b rose stamp log c (Err no_resource) after never ends = ends
@@ -279,9 +279,9 @@ untooled b rose stamp log c (Err (still_stored version key)) after never ends = 
 untooled b rose stamp log c (Err converter) after never ends = absurd (never ends.0)
 untooled b rose stamp log c (Err no_memory) after never ends = ends
 
-pub answered_without : (b : replies.Base) (rose : Type 0) (stamp : List ℕ) (log : List Item) (r : Request) (a : ReplyView) (after : List Item)
-    → (rose → ⊥) → replies.Answers b rose stamp log r a after → replies.Answers b ⊥ stamp log r a after
-unfolding replies.Answers
+pub answered_without : (b : replies.ServerBase) (rose : Type 0) (stamp : List ℕ) (log : List Item) (r : Request) (a : ReplyView) (after : List Item)
+    → (rose → ⊥) → replies.AnswersRequest b rose stamp log r a after → replies.AnswersRequest b ⊥ stamp log r a after
+unfolding replies.AnswersRequest
 answered_without b rose stamp log r a after never (inl (c, is, s)) = inl (c, is, (s.0, s.1, untooled b rose stamp log c s.0 after never s.2))
 answered_without b rose stamp log r a after never (inr other) = inr other
 

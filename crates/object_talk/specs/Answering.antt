@@ -7,8 +7,8 @@ use Rattle.api_calls.specs.Reply.{ReplyView}
 use Rattle.object_server.specs.Replies as replies
 
 -- what no request changes: the server's base, and the clock's one stamp where the clock tells it
-pub record Base : Type 1 where
-  pub server : replies.Base
+pub record ConversationBase : Type 1 where
+  pub server : replies.ServerBase
   pub told : Option (List ℕ)
 
 -- a stamp that the clock may have given: one of a stamp's form, and where the clock tells one, that one
@@ -16,5 +16,5 @@ abbrev pub MayStamp : Option (List ℕ) → List ℕ → Type 0
 MayStamp told stamp = IfSome told (λ text. stamp ≡ text) × HasStampForm stamp
 
 -- A request's reply at a list of the history, and the list after it. There is no tool that could fail.
-unfoldable pub Answers : Base → List Item → Request → ReplyView → List Item → Type 0
-Answers base log r a after = (stamp : List ℕ) × MayStamp base.told stamp × replies.Answers base.server ⊥ stamp log r a after
+unfoldable pub AnswersInConversation : ConversationBase → List Item → Request → ReplyView → List Item → Type 0
+AnswersInConversation base log r a after = (stamp : List ℕ) × MayStamp base.told stamp × replies.AnswersRequest base.server ⊥ stamp log r a after

@@ -10,7 +10,7 @@ use Rattle.http_wire.specs.Stream.{End, Stops, closed, torn, refused}
 use Rattle.http_wire.specs.declared.WireFault.{WireFault}
 use Rattle.http_wire.specs.declared.WireFault.TheVariants as faults
 use Rattle.object_talk.specs.Faults.{fault_words, last_words}
-use Rattle.object_talk.specs.Answering.{Base, Answers}
+use Rattle.object_talk.specs.Answering.{ConversationBase, AnswersInConversation}
 use Rattle.object_talk.specs.declared.conversation.OneEnd.{OneEnd}
 use Rattle.object_talk.specs.declared.conversation.OneEnd.TheVariants.{Answered, Last, Closed, Torn, Refused, ReadFault, WriteFault}
 
@@ -45,12 +45,12 @@ HandsOn ReadFault flushed untouched = untouched
 HandsOn WriteFault flushed untouched = Unit {0}
 
 -- one request is read and has its answer, and `rest` is left
-pub record AnswersOne (base : Base) (log after : List Item) (bytes rest : List ℕ) (request : Request) (answer : ReplyView) : Type 0 where
+pub record AnswersOne (base : ConversationBase) (log after : List Item) (bytes rest : List ℕ) (request : Request) (answer : ReplyView) : Type 0 where
   pub reads : Reads bytes request rest
-  pub answers : Answers base log request answer after
+  pub answers : AnswersInConversation base log request answer after
 
 -- one request was answered, which asked for closing or didn't, and the answer was written
-pub record AnsweredOne (base : Base) (closes : Bool) (log after : List Item) (bytes rest : List ℕ) (before written : Option (List ℕ)) : Type 0 where
+pub record AnsweredOne (base : ConversationBase) (closes : Bool) (log after : List Item) (bytes rest : List ℕ) (before written : Option (List ℕ)) : Type 0 where
   pub request : Request
   pub answer : ReplyView
   pub one : AnswersOne base log after bytes rest request answer
@@ -58,12 +58,12 @@ pub record AnsweredOne (base : Base) (closes : Bool) (log after : List Item) (by
   pub wrote : written ≡ append_known before (says answer.code answer.text closes)
 
 -- the input ends so, and the last words were written
-pub record Ends (bytes : List ℕ) (before written : Option (List ℕ)) (end : End) : Type 0 where
+pub record EndsInput (bytes : List ℕ) (before written : Option (List ℕ)) (end : End) : Type 0 where
   pub stops : (budget : ℕ) → 0 < budget → Stops budget bytes end
   pub wrote : written ≡ append_known before (last_words end)
 
 -- a request is answered, and a front of the answer was written
-pub record BreaksAnswer (base : Base) (log after : List Item) (bytes : List ℕ) (before written : Option (List ℕ)) : Type 0 where
+pub record BreaksAnswer (base : ConversationBase) (log after : List Item) (bytes : List ℕ) (before written : Option (List ℕ)) : Type 0 where
   pub request : Request
   pub answer : ReplyView
   pub rest : List ℕ
@@ -77,14 +77,14 @@ pub record BreaksRefusal (bytes : List ℕ) (before written : Option (List ℕ))
   pub some : AddsSome before written (fault_words fault)
 
 -- What a step did with the bytes that were there, of which `known` are left. `stands` holds of the list after it.
-abbrev pub Did : Base → OneEnd → List Item → (List Item → Type 0) → List ℕ → Option (List ℕ) → Option (List ℕ) → Option (List ℕ) → Type 0
+abbrev pub Did : ConversationBase → OneEnd → List Item → (List Item → Type 0) → List ℕ → Option (List ℕ) → Option (List ℕ) → Option (List ℕ) → Type 0
 Did base Answered log stands bytes known before written =
     (after : List Item) × stands after × (rest : List ℕ) × (known ≡ Some rest) × AnsweredOne base false log after bytes rest before written
 Did base Last log stands bytes known before written =
     (after : List Item) × stands after × (rest : List ℕ) × (known ≡ Some rest) × AnsweredOne base true log after bytes rest before written
-Did base Closed log stands bytes known before written = Ends bytes before written closed
-Did base (Torn held) log stands bytes known before written = Ends bytes before written (torn held)
-Did base (Refused f) log stands bytes known before written = Ends bytes before written (refused f)
+Did base Closed log stands bytes known before written = EndsInput bytes before written closed
+Did base (Torn held) log stands bytes known before written = EndsInput bytes before written (torn held)
+Did base (Refused f) log stands bytes known before written = EndsInput bytes before written (refused f)
 Did base ReadFault log stands bytes known before written = written ≡ before
 Did base WriteFault log stands bytes known before written =
     ((after : List Item) × BreaksAnswer base log after bytes before written) ⊎ BreaksRefusal bytes before written
@@ -95,11 +95,11 @@ step_of true = Last
 step_of false = Answered
 
 -- a head was refused, and its response or a front of it was written
-abbrev pub Refuses : WireFault → Option (List ℕ) → Option (List ℕ) → OneEnd → Type 0
-Refuses f before written (Refused g) = (f ≡ g) × (written ≡ append_known before (fault_words f))
-Refuses f before written WriteFault = AddsSome before written (fault_words f)
-Refuses f before written Answered = ⊥
-Refuses f before written Last = ⊥
-Refuses f before written Closed = ⊥
-Refuses f before written (Torn held) = ⊥
-Refuses f before written ReadFault = ⊥
+abbrev pub RefusesHead : WireFault → Option (List ℕ) → Option (List ℕ) → OneEnd → Type 0
+RefusesHead f before written (Refused g) = (f ≡ g) × (written ≡ append_known before (fault_words f))
+RefusesHead f before written WriteFault = AddsSome before written (fault_words f)
+RefusesHead f before written Answered = ⊥
+RefusesHead f before written Last = ⊥
+RefusesHead f before written Closed = ⊥
+RefusesHead f before written (Torn held) = ⊥
+RefusesHead f before written ReadFault = ⊥

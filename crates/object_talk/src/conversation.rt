@@ -11,9 +11,9 @@ ghost use Rattle.api_calls.specs.Item.{Item};
 ghost use Rattle.api_core.specs.View.{SameBase, StandsFor};
 ghost use Rattle.object_server.specs.Answered.{answer_of};
 ghost use Rattle.object_server.specs.View.{base_of};
-ghost use Rattle.object_talk.specs.Answering.{Answers};
+ghost use Rattle.object_talk.specs.Answering.{AnswersInConversation};
 ghost use Rattle.object_talk.specs.Faults.{fault_words};
-ghost use Rattle.object_talk.specs.Steps.{Did, HandsOn, StepBlames, Refuses, step_of, IsHeadFault};
+ghost use Rattle.object_talk.specs.Steps.{Did, HandsOn, StepBlames, RefusesHead, step_of, IsHeadFault};
 ghost use Rattle.object_talk.specs.Conversed.{Conversed, Blames};
 
 use api_calls::{NoTool, Versions};
@@ -134,7 +134,7 @@ fn answer_request<V: Versions<Tool = NoTool>, C: Clock>(
     requires body { LiesIn (length inbox.now.bytes) parts.body }
     ensures answer { (log : List Item) → StandsFor V.meaning server.old log
         → (after : List Item) × StandsFor V.meaning server.new after
-        × Answers (record { server = base_of V.meaning server.old; told = C.told clock.now }) log (request_at inbox.now.bytes parts) (answer_of result) after }
+        × AnswersInConversation (record { server = base_of V.meaning server.old; told = C.told clock.now }) log (request_at inbox.now.bytes parts) (answer_of result) after }
     ensures stands { (log : List Item) × StandsFor V.meaning server.new log }
     ensures phrase { HasPhrase (answer_of result).code }
     ensures base { SameBase server.old server.new }
@@ -198,7 +198,7 @@ pub fn serve_one<V: Versions<Tool = NoTool>, S: Source, K: Sink, C: Clock>(
 // The end of a head that is refused, once its response is written.
 fn refused<K: Sink>(output: &mut K, fault: WireFault) -> OneEnd
     requires { IsHeadFault fault }
-    ensures wrote { Refuses fault (K.written output.old) (K.written output.new) result }
+    ensures wrote { RefusesHead fault (K.written output.old) (K.written output.new) result }
     ensures flushed { HandsOn result (K.flushed output.new ≡ K.written output.new) (output.new ≡ output.old) }
     ensures blame { StepBlames result ⊥ (Rose (K.faults output.old) (K.faults output.new)) }
     ensures later { K.faults output.old ≤ K.faults output.new }

@@ -9,7 +9,7 @@ use Rattle.api_calls.specs.Item.{Create, Replace, Mark, Release, Touch, Delete, 
 use Rattle.api_calls.specs.Objects.{Stored, find}
 use Rattle.api_calls.specs.State.{State, effect, number_after, number_from, next_number, opening, state}
 use Rattle.api_calls.specs.Legal.{In, legal_from, legal}
-use Rattle.api_calls.specs.Laws.{IsRising, IsSound, Holds}
+use Rattle.api_calls.specs.Laws.{IsRising, IsSoundState, Holds}
 use Rattle.api_calls.specs.Snap.{upto, snap, Past, past, item_past, superseded_from, superseded, by_number, past_weight, floor, window, Supersedes}
 use Rattle.page_laws.proofs.Rising.{find-in, in-find}
 use Rattle.page_laws.proofs.Rebuilt.{Stood, supersedes-above, above-supersedes}
@@ -97,7 +97,7 @@ superseded-below r n e s (i ∷ log) x =
 pub record Laws (limits : Limits) (m : Meaning) : Type 0 where
   pub least : (log : List Item) → IsFloor by_number past_weight limits (superseded m log) (floor limits m log)
   pub above_floor : (log : List Item) → window limits m log ≡ above by_number (floor limits m log) (superseded m log)
-  pub sound : (log : List Item) → legal m limits log → IsSound (state m log)
+  pub sound : (log : List Item) → legal m limits log → IsSoundState (state m log)
   pub rebuilt : (log : List Item) (r : ℕ) (e : Stored) → legal m limits log → 1 ≤ r → r < next_number log
       → Holds (record (state m log) { objects = snap m log r }) e ↔ ((e.number ≤ r) × (Holds (state m log) e ⊎ Supersedes r e (superseded m log)))
 

@@ -25,7 +25,7 @@ pub record IsSamePast (text : Stored → List ℕ → Type 0) (o : Old) (p : Pas
   pub object : IsSame text o.item p.object
 
 -- the records are the objects, the window is that of the history, and so is the floor
-pub record Keeps (text : Stored → List ℕ → Type 0) (limits : Limits) (m : Meaning) (log : List LogItem) (s : StoreView) : Type 0 where
+pub record KeepsHistory (text : Stored → List ℕ → Type 0) (limits : Limits) (m : Meaning) (log : List LogItem) (s : StoreView) : Type 0 where
   pub records : AllPair (IsSame text) s.items (state m log).objects
   pub pasts : AllPair (IsSamePast text) s.window (window limits m log)
   pub known : s.floor ≡ floor limits m log

@@ -9,7 +9,7 @@ ghost use Rattle.api_calls.specs.Legal.{legal};
 ghost use Rattle.api_calls.specs.Objects.{Stored};
 ghost use Rattle.api_calls.specs.Snap.{page_at, snap};
 ghost use Rattle.record_store.specs.View.{StoreView, item_key, items_at};
-ghost use Rattle.page_laws.specs.Keeping.{IsSame, Keeps, ArePagesOfOne};
+ghost use Rattle.page_laws.specs.Keeping.{IsSame, KeepsHistory, ArePagesOfOne};
 
 use api_calls::laws::{Means, floor_is_least, rebuilt, sound};
 
@@ -22,10 +22,10 @@ pub trait Texts: Means {
 /// the objects of that number, one by one, and so is each page of them.
 pub fn page_of_history<V: Texts>()
     ensures records { (it : V) (limits : Limits) (log : List Item) (s : StoreView) (r : ℕ) → legal (V.meaning it) limits log
-        → Keeps (V.text it) limits (V.meaning it) log s → s.floor ≤ r
+        → KeepsHistory (V.text it) limits (V.meaning it) log s → s.floor ≤ r
         → AllPair (IsSame (V.text it)) (items_at r s) (snap (V.meaning it) log r) }
     ensures page { (it : V) (limits : Limits) (log : List Item) (s : StoreView) (r : ℕ) → legal (V.meaning it) limits log
-        → Keeps (V.text it) limits (V.meaning it) log s → s.floor ≤ r
+        → KeepsHistory (V.text it) limits (V.meaning it) log s → s.floor ≤ r
         → (ns : Option (List ℕ)) (after : Option KeyView) (limit : ℕ)
         → ArePagesOfOne (V.text it) (page_of r limit (listed item_key ns after (items_at r s))) (page_at (V.meaning it) log ns after r limit) }
 {

@@ -7,7 +7,7 @@ use Rattle.std.specs.Cmp.Lexicographic.{slice_cmp}
 use Rattle.std.proofs.lemmas.Cmp.{nat_list_cmp_total}
 use Rattle.kj_value.specs.Json.{Json, null, boolean, whole, text, list, object, Items, no_items, item, Members, no_members, member, members_of}
 use Rattle.kj_value.specs.Fields.{Pairs, with_field}
-use Rattle.kj_value.specs.Sound.{IsSound, AreSound, ComesFirst, AreRising}
+use Rattle.kj_value.specs.Sound.{IsSoundJson, AreSoundItems, ComesFirst, AreRising}
 use Rattle.struct_schema.specs.Shape.{Own, Shape, shape, own, Shapes, no_shapes, shape_at, MaybeShapes, no_map, some_map, MaybeShape, no_shape, some_shape}
 use Rattle.struct_schema.specs.Names.{is_name, value_at, shape_named, property, or_shape, shape_for}
 use Rattle.struct_schema.specs.Filled.{is_object, is_array, is_forbidden, PresentFilled, ElementFilled, AtEachName, EachItem, AtEachItem, Filled, NameFilled, RestFilled, ItemFilled}
@@ -57,7 +57,7 @@ past_first : (l k : List ℕ) (ms : Members) → slice_cmp nat_cmp l k ≡ Less 
 past_first l k no_members p h = tt
 past_first l k (member m j ms) p h = nat_list_cmp_total.trans l k m p h
 
-rising_with : (k : List ℕ) (v : Json) (es : Pairs) → IsSound v → AreRising (members_of es) → AreRising (members_of (with_field k v es))
+rising_with : (k : List ℕ) (v : Json) (es : Pairs) → IsSoundJson v → AreRising (members_of es) → AreRising (members_of (with_field k v es))
 rising_with k v [] s h = (tt, s, tt)
 rising_with k v (e ∷ es) s h = by_order (slice_cmp nat_cmp k e.0) refl (rising_with k v es s h.2)
   where
@@ -169,20 +169,20 @@ set_defaults (some_map ss) es s h =
 
 -- a value that the schema makes of another
 abbrev FilledBy : Shape → Json → Type 0
-FilledBy s j = (k : Json) × Filled s j k × IsSound k
+FilledBy s j = (k : Json) × Filled s j k × IsSoundJson k
 
 abbrev Element : MaybeShape → Json → Type 0
-Element m j = (k : Json) × ItemFilled m j k × IsSound k
+Element m j = (k : Json) × ItemFilled m j k × IsSoundJson k
 
-element : (m : MaybeShape) (j : Json) → SoundInMaybe m → IsSound j → ((t : Shape) → HasSoundDefaults t → FilledBy t j) → Element m j
+element : (m : MaybeShape) (j : Json) → SoundInMaybe m → IsSoundJson j → ((t : Shape) → HasSoundDefaults t → FilledBy t j) → Element m j
 element no_shape j h q f = (j, refl, q)
 element (some_shape t) j h q f = by_test (is_forbidden (own t) j)
   where
-    default : (d : Option Json) → SoundAt d → IsSound (unwrap_or d null)
+    default : (d : Option Json) → SoundAt d → IsSoundJson (unwrap_or d null)
     default None s = tt
     default (Some x) s = s
 
-    by_test : (b : Bool) → (k : Json) × MatchBool b (k ≡ unwrap_or (own t).default_value null) (Filled t j k) × IsSound k
+    by_test : (b : Bool) → (k : Json) × MatchBool b (k ≡ unwrap_or (own t).default_value null) (Filled t j k) × IsSoundJson k
     by_test true = (unwrap_or (own t).default_value null, refl, default (own t).default_value (own_sound t h))
     by_test false = f t h
 
@@ -190,7 +190,7 @@ element (some_shape t) j h q f = by_test (is_forbidden (own t) j)
 abbrev Named : MaybeShape → Bool → Json → Type 0
 Named m preserve j = (w : Option Json) × RestFilled m preserve (Some j) w × SoundAt w
 
-named : (m : MaybeShape) (preserve : Bool) (j : Json) → SoundInMaybe m → IsSound j → ((t : Shape) → HasSoundDefaults t → FilledBy t j) → Named m preserve j
+named : (m : MaybeShape) (preserve : Bool) (j : Json) → SoundInMaybe m → IsSoundJson j → ((t : Shape) → HasSoundDefaults t → FilledBy t j) → Named m preserve j
 named no_shape true j h q f = (Some j, refl, q)
 named no_shape false j h q f = (None, refl, tt)
 named (some_shape t) preserve j h q f = by_test (is_forbidden (own t) j)
@@ -239,11 +239,11 @@ keep_one s preserve k j ms c r (w, filled, sound) = by_value w filled sound
 for_sound : (s : Shape) (n : List ℕ) → HasSoundDefaults s → SoundInMaybe (shape_for s n)
 for_sound (shape o ps a i) n h = or_sound (property n ps) a (property_sound n ps h.1) h.2
 
-array_filled : (o : Own) (ps : MaybeShapes) (a i : MaybeShape) (js : Items) → AreSound js → ((ks : Items) × EachItem (λ x y. ItemFilled i x y) js ks × AreSound ks)
+array_filled : (o : Own) (ps : MaybeShapes) (a i : MaybeShape) (js : Items) → AreSoundItems js → ((ks : Items) × EachItem (λ x y. ItemFilled i x y) js ks × AreSoundItems ks)
     → FilledBy (shape o ps a i) (list js)
 array_filled o ps a i js q (ks, each, sound) = by_test (is_array o.kind)
   where
-    by_test : (b : Bool) → (k : Json) × MatchBool b (AtEachItem (λ x y. ItemFilled i x y) js k) (k ≡ list js) × IsSound k
+    by_test : (b : Bool) → (k : Json) × MatchBool b (AtEachItem (λ x y. ItemFilled i x y) js k) (k ≡ list js) × IsSoundJson k
     by_test true = (list ks, each, sound)
     by_test false = (list js, refl, q)
 
@@ -251,7 +251,7 @@ object_filled : (o : Own) (ps : MaybeShapes) (a i : MaybeShape) (ms : Members) �
     → FilledBy (shape o ps a i) (object ms)
 object_filled o ps a i ms h q kept = by_test (is_object o.kind)
   where
-    by_test : (b : Bool) → (k : Json) × MatchBool b (AtEachName (λ n v w. NameFilled ps (λ x y. RestFilled a o.preserve x y) n v w) ms k) (k ≡ object ms) × IsSound k
+    by_test : (b : Bool) → (k : Json) × MatchBool b (AtEachName (λ n v w. NameFilled ps (λ x y. RestFilled a o.preserve x y) n v w) ms k) (k ≡ object ms) × IsSoundJson k
     by_test false = (object ms, refl, q)
     by_test true =
         let all = set_defaults ps kept.fields h.1 kept.rising in (
@@ -261,7 +261,7 @@ object_filled o ps a i ms h q kept = by_test (is_object o.kind)
         )
 
 mutual
-  pub filling : (s : Shape) (j : Json) → HasSoundDefaults s → IsSound j → FilledBy s j
+  pub filling : (s : Shape) (j : Json) → HasSoundDefaults s → IsSoundJson j → FilledBy s j
   filling (shape o ps a i) null h q = (null, refl, tt)
   filling (shape o ps a i) (boolean b) h q = (boolean b, refl, tt)
   filling (shape o ps a i) (whole z) h q = (whole z, refl, q)
@@ -269,7 +269,7 @@ mutual
   filling (shape o ps a i) (list js) h q = array_filled o ps a i js q (items_filling i js h.3 q)
   filling (shape o ps a i) (object ms) h q = object_filled o ps a i ms h q (names_filling (shape o ps a i) o.preserve ms h q)
 
-  items_filling : (m : MaybeShape) (js : Items) → SoundInMaybe m → AreSound js → (ks : Items) × EachItem (λ x y. ItemFilled m x y) js ks × AreSound ks
+  items_filling : (m : MaybeShape) (js : Items) → SoundInMaybe m → AreSoundItems js → (ks : Items) × EachItem (λ x y. ItemFilled m x y) js ks × AreSoundItems ks
   items_filling m no_items h q = (no_items, tt, tt)
   items_filling m (item j js) h q =
       let here = element m j h q.0 (λ t p. filling t j p q.0) in

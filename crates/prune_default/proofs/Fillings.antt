@@ -5,7 +5,7 @@ use Rattle.std.specs.Ordering.{is_eq, ordering_reverse}
 use Rattle.std.specs.Cmp.Lexicographic.{slice_cmp}
 use Rattle.std.proofs.lemmas.Cmp.{nat_list_cmp_total}
 use Rattle.kj_value.specs.Json.{Json, null, boolean, whole, text, list, object, Items, no_items, item, Members, no_members, member}
-use Rattle.kj_value.specs.Sound.{IsSound, AreSound, AreRising}
+use Rattle.kj_value.specs.Sound.{IsSoundJson, AreSoundItems, AreRising}
 use Rattle.struct_schema.specs.Shape.{Own, Shape, shape, own, Shapes, no_shapes, shape_at, MaybeShapes, no_map, some_map, MaybeShape, no_shape, some_shape}
 use Rattle.struct_schema.specs.Names.{is_name, value_at, shape_named, property}
 use Rattle.struct_schema.specs.Filled.{is_object, is_array, is_forbidden, PresentFilled, PropertyFilled, OtherFilled, EachItem, AtEachItem, AtEachName, Filled, NameFilled, RestFilled, ItemFilled}
@@ -64,12 +64,12 @@ one_object (member k j ms) (member l i ns) p q h =
 
 -- that a value becomes one value
 abbrev IsOne : Json → Type 0
-IsOne j = (t : Shape) (x y : Json) → IsSound x → IsSound y → Filled t j x → Filled t j y → x ≡ y
+IsOne j = (t : Shape) (x y : Json) → IsSoundJson x → IsSoundJson y → Filled t j x → Filled t j y → x ≡ y
 
 -- what stands at a name is sound
 abbrev AtSound : Option Json → Type 0
 AtSound None = Unit {0}
-AtSound (Some x) = IsSound x
+AtSound (Some x) = IsSoundJson x
 
 at_sound : (n : List ℕ) (ms : Members) → AreRising ms → AtSound (value_at n ms)
 at_sound n ms p = by_value (value_at n ms) refl
@@ -105,7 +105,7 @@ one_by no_shape a preserve u v w one p q g h = one_rest a preserve u v w one p q
 one_by (some_shape t) a preserve None v w one p q g h = g ∙ sym h
 one_by (some_shape t) a preserve (Some j) v w one p q g h = one_present t j v w one p q g h
 
-one_element : (m : MaybeShape) (j x y : Json) → IsOne j → IsSound x → IsSound y → ItemFilled m j x → ItemFilled m j y → x ≡ y
+one_element : (m : MaybeShape) (j x y : Json) → IsOne j → IsSoundJson x → IsSoundJson y → ItemFilled m j x → ItemFilled m j y → x ≡ y
 one_element no_shape j x y one p q g h = g ∙ sym h
 one_element (some_shape t) j x y one p q g h = by_test (is_forbidden (own t) j) g h
   where
@@ -115,9 +115,9 @@ one_element (some_shape t) j x y one p q g h = by_test (is_forbidden (own t) j) 
 
 -- the same of each item, whatever the schema of the items
 abbrev AreOne : Items → Type 0
-AreOne js = (m : MaybeShape) (xs ys : Items) → AreSound xs → AreSound ys → EachItem (λ x y. ItemFilled m x y) js xs → EachItem (λ x y. ItemFilled m x y) js ys → xs ≡ ys
+AreOne js = (m : MaybeShape) (xs ys : Items) → AreSoundItems xs → AreSoundItems ys → EachItem (λ x y. ItemFilled m x y) js xs → EachItem (λ x y. ItemFilled m x y) js ys → xs ≡ ys
 
-one_list : (d : Bool) (m : MaybeShape) (js : Items) (k l : Json) → AreOne js → IsSound k → IsSound l → MatchBool d (AtEachItem (λ x y. ItemFilled m x y) js k) (k ≡ list js) → MatchBool d (AtEachItem (λ x y. ItemFilled m x y) js l) (l ≡ list js) → k ≡ l
+one_list : (d : Bool) (m : MaybeShape) (js : Items) (k l : Json) → AreOne js → IsSoundJson k → IsSoundJson l → MatchBool d (AtEachItem (λ x y. ItemFilled m x y) js k) (k ≡ list js) → MatchBool d (AtEachItem (λ x y. ItemFilled m x y) js l) (l ≡ list js) → k ≡ l
 one_list false m js k l one p q g h = g ∙ sym h
 one_list true m js (list xs) (list ys) one p q g h = ap list (one m xs ys p q g h)
 one_list true m js (list xs) null one p q g h = absurd h
@@ -135,7 +135,7 @@ one_list true m js (object ns) l one p q g h = absurd g
 abbrev AllOne : Members → Type 0
 AllOne ms = (n : List ℕ) → IsOneAt (value_at n ms)
 
-one_fields : (d : Bool) (ps : MaybeShapes) (a : MaybeShape) (preserve : Bool) (ms : Members) (k l : Json) → AllOne ms → IsSound k → IsSound l → MatchBool d (AtEachName (NameFilled ps (λ x y. RestFilled a preserve x y)) ms k) (k ≡ object ms) → MatchBool d (AtEachName (NameFilled ps (λ x y. RestFilled a preserve x y)) ms l) (l ≡ object ms) → k ≡ l
+one_fields : (d : Bool) (ps : MaybeShapes) (a : MaybeShape) (preserve : Bool) (ms : Members) (k l : Json) → AllOne ms → IsSoundJson k → IsSoundJson l → MatchBool d (AtEachName (NameFilled ps (λ x y. RestFilled a preserve x y)) ms k) (k ≡ object ms) → MatchBool d (AtEachName (NameFilled ps (λ x y. RestFilled a preserve x y)) ms l) (l ≡ object ms) → k ≡ l
 one_fields false ps a preserve ms k l one p q g h = g ∙ sym h
 one_fields true ps a preserve ms (object xs) (object ys) one p q g h =
     ap object (one_object xs ys p q (λ n. one_by (property n ps) a preserve (value_at n ms) (value_at n xs) (value_at n ys) (one n) (at_sound n xs p) (at_sound n ys q) (of_name ps (λ x y. RestFilled a preserve x y) n (value_at n ms) (value_at n xs) (g n)) (of_name ps (λ x y. RestFilled a preserve x y) n (value_at n ms) (value_at n ys) (h n))))

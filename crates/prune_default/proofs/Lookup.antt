@@ -7,7 +7,7 @@ use Rattle.std.proofs.lemmas.Slice.Eq.{bytes_eq-Decides}
 use Rattle.std.proofs.lemmas.Map.Text.{is_eq-slice_cmp}
 use Rattle.kj_value.specs.Json.{Json, Members, no_members, member, members_of}
 use Rattle.kj_value.specs.Fields.{Pairs, field, with_field}
-use Rattle.kj_value.specs.Sound.{IsSound, ComesFirst, AreRising}
+use Rattle.kj_value.specs.Sound.{IsSoundJson, ComesFirst, AreRising}
 use Rattle.struct_schema.specs.Names.{is_name, value_at}
 
 pub one_name : (k l : List ℕ) → is_name k l ≡ true → k ≡ l
@@ -80,12 +80,12 @@ pub rising_end : (done rest : Pairs) → AreRising (members_of (done ++ rest)) �
 rising_end [] rest h = h
 rising_end (e ∷ done) rest h = rising_end done rest h.2
 
-pub sound_at : (n : List ℕ) (ms : Members) (v : Json) → AreRising ms → value_at n ms ≡ Some v → IsSound v
+pub sound_at : (n : List ℕ) (ms : Members) (v : Json) → AreRising ms → value_at n ms ≡ Some v → IsSoundJson v
 sound_at n no_members v h e = absurd (cc)
 sound_at n (member l j ms) v h e = by_test (is_name n l) e (λ q. sound_at n ms v h.2 q)
   where
-    by_test : (b : Bool) → cond b (Some j) (value_at n ms) ≡ Some v → (value_at n ms ≡ Some v → IsSound v) → IsSound v
+    by_test : (b : Bool) → cond b (Some j) (value_at n ms) ≡ Some v → (value_at n ms ≡ Some v → IsSoundJson v) → IsSoundJson v
     by_test true f later =
         let same : j ≡ v = cc in
-        subst IsSound same h.1
+        subst IsSoundJson same h.1
     by_test false f later = later f

@@ -1,12 +1,12 @@
 -- That each default of a schema is a JSON value: its numbers have 64 bits, and the names of its objects rise.
 use Rattle.std.specs.Prelude.{Option, Some, None}
 use Rattle.kj_value.specs.Json.{Json}
-use Rattle.kj_value.specs.Sound.{IsSound}
+use Rattle.kj_value.specs.Sound.{IsSoundJson}
 use Rattle.struct_schema.specs.Shape.{Shape, shape, Shapes, no_shapes, shape_at, MaybeShapes, no_map, some_map, MaybeShape, no_shape, some_shape}
 
 abbrev pub SoundAt : Option Json → Type 0
 SoundAt None = Unit {0}
-SoundAt (Some j) = IsSound j
+SoundAt (Some j) = IsSoundJson j
 
 abbrev mutual
   pub HasSoundDefaults : Shape → Type 0

@@ -2,7 +2,7 @@
 ghost use Rattle.std.specs.Prelude.{◌≡◌, ◌≤◌, ◌+◌, ℕ, List, Some, IfOk, OnOk, option_map, cond, length};
 ghost use Rattle.kj_value.specs.Json.{items_of, members_of};
 ghost use Rattle.kj_value.specs.Seen.{json};
-ghost use Rattle.kj_value.specs.Sound.{IsSound};
+ghost use Rattle.kj_value.specs.Sound.{IsSoundJson};
 ghost use Rattle.struct_schema.specs.Shape.{map_of, maybe_of, some_shape, items_shape};
 ghost use Rattle.struct_schema.specs.ShapeOf.{shape_of, own_of};
 ghost use Rattle.struct_schema.specs.Names.{is_name, shape_for, value_at};
@@ -22,7 +22,7 @@ use struct_schema::{NodeKind, Schema};
 /// objects that hold the parts.
 pub fn fill(alloc: Global, s: &Schema, v: JVal) -> Result<JVal, NoMemory>
     ensures filled { IfOk result (λ w. Filled (shape_of s.now) (json v) (json w)) }
-    ensures sound { IfOk result (λ w. IsSound (json w)) }
+    ensures sound { IfOk result (λ w. IsSoundJson (json w)) }
     ensures same { IfOk result (λ w. Filled (shape_of s.now) (json v) (json v) → json w ≡ json v) }
     ensures bounded { IfOk result (λ w. size (json w) ≤ size (json v) + most_made) }
 {

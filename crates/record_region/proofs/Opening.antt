@@ -3,7 +3,7 @@ use Rattle.std.proofs.Common.{◌≡◌, ℕ, zero, suc, ◌+◌, ◌*◌, ◌^�
 use Rattle.std.proofs.lemmas.List.{length-replicate}
 use Rattle.record_region.specs.declared.chunks.TheConstants.{CHUNK_BYTES}
 use Rattle.record_region.specs.Places.{Places, used}
-use Rattle.record_region.specs.Chains.{walk, places_from, chain_length, label, IsSound}
+use Rattle.record_region.specs.Chains.{walk, places_from, chain_length, label, IsSoundRegion}
 
 -- no chunk is marked
 abbrev pub zeros : ℕ → List ℕ
@@ -28,7 +28,7 @@ pub used-none : (n : ℕ) → used (replicate n None) ≡ 0
 used-none zero = refl
 used-none (suc n) = omega (arith, used-none n)
 
-pub all_free : (store links : List ℕ) (count : ℕ) → length store ≡ CHUNK_BYTES * count → length links ≡ count → ((k : ℕ) → k < count → get_or links k 0 ≡ k + 1) → count < 2 ^ 32 → IsSound store links (zeros count) 0 count
+pub all_free : (store links : List ℕ) (count : ℕ) → length store ≡ CHUNK_BYTES * count → length links ≡ count → ((k : ℕ) → k < count → get_or links k 0 ≡ k + 1) → count < 2 ^ 32 → IsSoundRegion store links (zeros count) 0 count
 all_free store links count e f order few =
     let long : length (zeros count) ≡ count = length-replicate count 0 in
     record {
@@ -47,8 +47,8 @@ all_free store links count e f order few =
           omega (arith, used-none count);
     }
 
-pub opened : (store links marks : List ℕ) (count : ℕ) → length store ≡ CHUNK_BYTES * count → length links ≡ count → ((k : ℕ) → k < count → get_or links k 0 ≡ k + 1) → count < 2 ^ 32 → marks ≡ zeros count → IsSound store links marks 0 count
-opened store links marks count e f order few zeros = subst (λ (ms : List ℕ). IsSound store links ms 0 count) (sym zeros) (all_free store links count e f order few)
+pub opened : (store links marks : List ℕ) (count : ℕ) → length store ≡ CHUNK_BYTES * count → length links ≡ count → ((k : ℕ) → k < count → get_or links k 0 ≡ k + 1) → count < 2 ^ 32 → marks ≡ zeros count → IsSoundRegion store links marks 0 count
+opened store links marks count e f order few zeros = subst (λ (ms : List ℕ). IsSoundRegion store links ms 0 count) (sym zeros) (all_free store links count e f order few)
 
 pub opened_places : (store links marks : List ℕ) (count : ℕ) → marks ≡ zeros count → places_from store links 0 marks ≡ replicate count None
 opened_places store links marks count zeros = ap (λ (ms : List ℕ). places_from store links 0 ms) zeros ∙ places_from-zeros store links 0 count

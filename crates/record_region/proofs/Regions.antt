@@ -7,7 +7,7 @@ use Rattle.record_region.specs.declared.chunks.TheConstants.{CHUNK_BYTES}
 use Rattle.record_region.specs.Chunks.{chunks_of}
 use Rattle.record_region.specs.Places.{Places, used, spare, piece_at, bytes_at, bytes_in, chunks_in, IsLive}
 use Rattle.record_region.specs.Laws.{used-set, live_within}
-use Rattle.record_region.specs.Chains.{walk, chunk_at, content, marked, places_from, chain_length, IsApart, IsSound}
+use Rattle.record_region.specs.Chains.{walk, chunk_at, content, marked, places_from, chain_length, IsApart, IsSoundRegion}
 use Rattle.record_region.proofs.Stores.{length-content}
 use Rattle.record_region.proofs.Labels.{apart_by, not_free, chain-within, walk-other, apart-put, apart-free}
 use Rattle.record_region.proofs.Views.{length-places_from, piece_is, marked-same, places_from-set, live_mark, marked_is, chain_is}
@@ -43,7 +43,7 @@ put_places store later links marks bytes head free mark e most a filled others =
     (marked_is later links mark (length bytes) head e ∙ ap (λ (xs : List ℕ). Some xs) filled)
 
 -- the fields after a put
-pub put_sound : (store later links marks bytes : List ℕ) (head free mark next : ℕ) → mark ≡ length bytes + 1 → next ≡ walk links (chunks_of (length bytes)) head → chunks_of (length bytes) ≤ free → IsSound store links marks head free → length later ≡ length store → take (length bytes) (content later links (chunks_of (length bytes)) head) ≡ bytes → ((other : ℕ) → ((j : ℕ) → j < chunks_of (length bytes) → walk links j head ≢ other) → chunk_at later other ≡ chunk_at store other) → IsSound later links (set marks head mark) next (free - chunks_of (length bytes))
+pub put_sound : (store later links marks bytes : List ℕ) (head free mark next : ℕ) → mark ≡ length bytes + 1 → next ≡ walk links (chunks_of (length bytes)) head → chunks_of (length bytes) ≤ free → IsSoundRegion store links marks head free → length later ≡ length store → take (length bytes) (content later links (chunks_of (length bytes)) head) ≡ bytes → ((other : ℕ) → ((j : ℕ) → j < chunks_of (length bytes) → walk links j head ≢ other) → chunk_at later other ≡ chunk_at store other) → IsSoundRegion later links (set marks head mark) next (free - chunks_of (length bytes))
 put_sound store later links marks bytes head free mark next e f most s long filled others = record {
   store_length = omega (arith, s.store_length, length-set marks head mark);
   links_length = omega (arith, s.links_length, length-set marks head mark);
@@ -72,12 +72,12 @@ live_inside store links marks piece live = omega (arith, live_within (places_fro
 pub live_bytes : (store links marks : List ℕ) (piece n : ℕ) → get_or marks piece 0 ≡ n + 1 → piece_at (places_from store links 0 marks) piece ≡ Some (take n (content store links (chunks_of n) piece))
 live_bytes store links marks piece n e = piece_is store links marks piece ∙ marked_is store links (get_or marks piece 0) n piece e
 
-pub chain_inside : (store links marks : List ℕ) (head free piece n : ℕ) → IsSound store links marks head free → get_or marks piece 0 ≡ n + 1 → (j : ℕ) → j < chunks_of n → walk links j piece < length links
+pub chain_inside : (store links marks : List ℕ) (head free piece n : ℕ) → IsSoundRegion store links marks head free → get_or marks piece 0 ≡ n + 1 → (j : ℕ) → j < chunks_of n → walk links j piece < length links
 chain_inside store links marks head free piece n s e j p =
     let c : chain_length (get_or marks piece 0) ≡ chunks_of n = chain_is (get_or marks piece 0) n e in
     omega (arith, s.apart.piece_within piece j (omega arith), s.links_length)
 
-pub live_length : (store links marks : List ℕ) (head free piece n : ℕ) → IsSound store links marks head free → get_or marks piece 0 ≡ n + 1 → length (bytes_at (places_from store links 0 marks) piece) ≡ n
+pub live_length : (store links marks : List ℕ) (head free piece n : ℕ) → IsSoundRegion store links marks head free → get_or marks piece 0 ≡ n + 1 → length (bytes_at (places_from store links 0 marks) piece) ≡ n
 live_length store links marks head free piece n s e =
     let long : length (content store links (chunks_of n) piece) ≡ CHUNK_BYTES * chunks_of n = length-content store links (chunks_of n) piece (λ j p. let w : walk links j piece < length links = chain_inside store links marks head free piece n s e j p in omega (arith, s.store_length, s.links_length)) in
     ap (λ (p : Option (List ℕ)). length (bytes_in p)) (live_bytes store links marks piece n e) ∙ omega (arith, length-take n (content store links (chunks_of n) piece))
@@ -90,7 +90,7 @@ free_places store links marks head free piece last e a =
     (λ j p. walk-other links marks head free piece last a (a.piece_labels piece last (omega arith)) i ne j p) (λ j p. refl))
 
 -- the fields after a free
-pub free_sound : (store links marks : List ℕ) (head free piece n : ℕ) → get_or marks piece 0 ≡ n + 1 → IsSound store links marks head free → IsSound store (set links (walk links (chunks_of n - 1) piece) head) (set marks piece 0) piece (free + chunks_of n)
+pub free_sound : (store links marks : List ℕ) (head free piece n : ℕ) → get_or marks piece 0 ≡ n + 1 → IsSoundRegion store links marks head free → IsSoundRegion store (set links (walk links (chunks_of n - 1) piece) head) (set marks piece 0) piece (free + chunks_of n)
 free_sound store links marks head free piece n e s = record {
   store_length = omega (arith, s.store_length, length-set marks piece 0);
   links_length = omega (arith, s.links_length, length-set marks piece 0, length-set links (walk links (chunks_of n - 1) piece) head);
@@ -124,7 +124,7 @@ pub record IsHeld (store links marks : List ℕ) (seen : Places) (piece size : �
   pub bytes : bytes_at seen piece ≡ take size (content store links (chunks_of size) piece)
   pub long : length (bytes_at seen piece) ≡ size
 
-pub held : (store links marks : List ℕ) (head free : ℕ) (seen : Places) (piece : ℕ) → places_from store links 0 marks ≡ seen → IsSound store links marks head free → IsLive seen piece → IsHeld store links marks seen piece (get_or marks piece 0 - 1)
+pub held : (store links marks : List ℕ) (head free : ℕ) (seen : Places) (piece : ℕ) → places_from store links 0 marks ≡ seen → IsSoundRegion store links marks head free → IsLive seen piece → IsHeld store links marks seen piece (get_or marks piece 0 - 1)
 held store links marks head free seen piece view s live = subst (λ (p : Places). IsHeld store links marks p piece (get_or marks piece 0 - 1)) view (record {
   mark = mark;
   inside = live_inside store links marks piece here;
@@ -140,7 +140,7 @@ held store links marks head free seen piece view s live = subst (λ (p : Places)
     mark = omega (arith, live_marked store links marks piece here)
 
 -- by its length
-pub held_by : (store links marks : List ℕ) (head free : ℕ) (seen : Places) (piece chunk size : ℕ) → places_from store links 0 marks ≡ seen → IsSound store links marks head free → IsLive seen piece → chunk ≡ piece → size ≡ length (bytes_at seen piece) → IsHeld store links marks seen chunk size
+pub held_by : (store links marks : List ℕ) (head free : ℕ) (seen : Places) (piece chunk size : ℕ) → places_from store links 0 marks ≡ seen → IsSoundRegion store links marks head free → IsLive seen piece → chunk ≡ piece → size ≡ length (bytes_at seen piece) → IsHeld store links marks seen chunk size
 held_by store links marks head free seen piece chunk size view s live at e =
     let h = held store links marks head free seen piece view s live in
     subst (λ (k : ℕ). IsHeld store links marks seen k size) (sym at)
@@ -148,11 +148,11 @@ held_by store links marks head free seen piece chunk size view s live at e =
 
 -- a region after a free
 pub record IsFreed (store links marks : List ℕ) (head free : ℕ) (seen : Places) (chunk count last : ℕ) : Type 0 where
-  pub sound : IsSound store (set links last head) (set marks chunk 0) chunk (free + count)
+  pub sound : IsSoundRegion store (set links last head) (set marks chunk 0) chunk (free + count)
   pub places : places_from store (set links last head) 0 (set marks chunk 0) ≡ set seen chunk None
   pub few : free + count < 2 ^ 32
 
-pub freed : (store links marks : List ℕ) (head free : ℕ) (seen : Places) (piece size count last : ℕ) → places_from store links 0 marks ≡ seen → IsSound store links marks head free → IsHeld store links marks seen piece size → count ≡ chunks_of size → last ≡ walk links (count - 1) piece → IsFreed store links marks head free seen piece count last
+pub freed : (store links marks : List ℕ) (head free : ℕ) (seen : Places) (piece size count last : ℕ) → places_from store links 0 marks ≡ seen → IsSoundRegion store links marks head free → IsHeld store links marks seen piece size → count ≡ chunks_of size → last ≡ walk links (count - 1) piece → IsFreed store links marks head free seen piece count last
 freed store links marks head free seen piece size count last view s h e f =
     subst (λ (k : ℕ). IsFreed store links marks head free seen piece k last) (sym e)
     (subst (λ (l : ℕ). IsFreed store links marks head free seen piece (chunks_of size) l) (sym (f ∙ ap (λ (k : ℕ). walk links (k - 1) piece) e)) (record {
@@ -161,7 +161,7 @@ freed store links marks head free seen piece size count last view s h e f =
       few = omega (arith, sound.few, sound.counted);
     }))
   where
-    sound : IsSound store (set links (walk links (chunks_of size - 1) piece) head) (set marks piece 0) piece (free + chunks_of size)
+    sound : IsSoundRegion store (set links (walk links (chunks_of size - 1) piece) head) (set marks piece 0) piece (free + chunks_of size)
     sound = free_sound store links marks head free piece size h.mark s
 
     chain : chain_length (get_or marks piece 0) ≡ suc (chunks_of size - 1)
@@ -170,27 +170,27 @@ freed store links marks head free seen piece size count last view s h e f =
         omega arith
 
 -- the free chunks that a region counts are those that no live piece takes
-pub spare_is : (store links marks : List ℕ) (head free : ℕ) (seen : Places) → places_from store links 0 marks ≡ seen → IsSound store links marks head free → free ≡ spare seen
+pub spare_is : (store links marks : List ℕ) (head free : ℕ) (seen : Places) → places_from store links 0 marks ≡ seen → IsSoundRegion store links marks head free → free ≡ spare seen
 spare_is store links marks head free seen view s = subst (λ (p : Places). free ≡ spare p) view (omega (arith, s.counted, length-places_from store links 0 marks))
 
-pub used_within : (store links marks : List ℕ) (head free : ℕ) (seen : Places) → places_from store links 0 marks ≡ seen → IsSound store links marks head free → used seen ≤ length seen
+pub used_within : (store links marks : List ℕ) (head free : ℕ) (seen : Places) → places_from store links 0 marks ≡ seen → IsSoundRegion store links marks head free → used seen ≤ length seen
 used_within store links marks head free seen view s = subst (λ (p : Places). used p ≤ length p) view (omega (arith, s.counted, length-places_from store links 0 marks))
 
 -- the chunks of a put are apart
 pub free_apart : (links marks : List ℕ) (head free : ℕ) → IsApart links marks head free → (i j : ℕ) → i < j → j < free → walk links i head ≢ walk links j head
 free_apart links marks head free a i j p q = apart_by a.labels (walk links i head) (walk links j head) (length marks) i (length marks) j (a.free_labels i (omega arith)) (a.free_labels j q) (λ r s. let t : i ≡ j = s in omega arith)
 
-pub free_inside : (store links marks : List ℕ) (head free : ℕ) → IsSound store links marks head free → (j : ℕ) → j < free → walk links j head < length links
+pub free_inside : (store links marks : List ℕ) (head free : ℕ) → IsSoundRegion store links marks head free → (j : ℕ) → j < free → walk links j head < length links
 free_inside store links marks head free s j p = omega (arith, s.apart.free_within j p, s.links_length)
 
 -- a region after a put
 pub record IsPut (later links marks bytes : List ℕ) (head free : ℕ) (seen : Places) (count next : ℕ) : Type 0 where
-  pub sound : IsSound later links (set marks head (length bytes + 1)) next (free - count)
+  pub sound : IsSoundRegion later links (set marks head (length bytes + 1)) next (free - count)
   pub places : places_from later links 0 (set marks head (length bytes + 1)) ≡ set seen head (Some bytes)
   pub within : head < length seen
   pub unused : piece_at seen head ≡ None
 
-pub put_done : (store later written links marks bytes : List ℕ) (head free : ℕ) (seen : Places) (count next : ℕ) → places_from store links 0 marks ≡ seen → IsSound store links marks head free → count ≡ chunks_of (length bytes) → count ≤ free → later ≡ written → length written ≡ length store → next ≡ walk links (chunks_of (length bytes)) head → take (length bytes) (content written links (chunks_of (length bytes)) head) ≡ bytes → ((other : ℕ) → ((j : ℕ) → j < chunks_of (length bytes) → walk links j head ≢ other) → chunk_at written other ≡ chunk_at store other) → IsPut later links marks bytes head free seen count next
+pub put_done : (store later written links marks bytes : List ℕ) (head free : ℕ) (seen : Places) (count next : ℕ) → places_from store links 0 marks ≡ seen → IsSoundRegion store links marks head free → count ≡ chunks_of (length bytes) → count ≤ free → later ≡ written → length written ≡ length store → next ≡ walk links (chunks_of (length bytes)) head → take (length bytes) (content written links (chunks_of (length bytes)) head) ≡ bytes → ((other : ℕ) → ((j : ℕ) → j < chunks_of (length bytes) → walk links j head ≢ other) → chunk_at written other ≡ chunk_at store other) → IsPut later links marks bytes head free seen count next
 put_done store later written links marks bytes head free seen count next view s e most same long end filled others =
     subst (λ (xs : List ℕ). IsPut xs links marks bytes head free seen count next) (sym same)
     (subst (λ (p : Places). IsPut written links marks bytes head free p count next) view

@@ -51,7 +51,7 @@ pub record IsApart (links marks : List ℕ) (head free : ℕ) : Type 0 where
   pub piece_labels : (i j : ℕ) → j < chain_length (get_or marks i 0) → labels (walk links j i) ≡ label i j
 
 -- the fields of a region fit each other
-pub record IsSound (store links marks : List ℕ) (head free : ℕ) : Type 0 where
+pub record IsSoundRegion (store links marks : List ℕ) (head free : ℕ) : Type 0 where
   pub store_length : length store ≡ CHUNK_BYTES * length marks
   pub links_length : length links ≡ length marks
   pub few : length marks < 2 ^ 32

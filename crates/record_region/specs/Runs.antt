@@ -10,10 +10,10 @@ pub data Call : Type 0 where
   Free : ℕ → Call
 
 -- a region answers a call so
-abbrev pub Answers : Places → Call → Type 0
-Answers places (Put first bytes) = (first < length places) × (piece_at places first ≡ None) × (chunks_of (length bytes) ≤ spare places)
-Answers places (Refused bytes) = spare places < chunks_of (length bytes)
-Answers places (Free first) = IsLive places first
+abbrev pub RegionAnswers : Places → Call → Type 0
+RegionAnswers places (Put first bytes) = (first < length places) × (piece_at places first ≡ None) × (chunks_of (length bytes) ≤ spare places)
+RegionAnswers places (Refused bytes) = spare places < chunks_of (length bytes)
+RegionAnswers places (Free first) = IsLive places first
 
 abbrev pub called : Places → Call → Places
 called places (Put first bytes) = slice_set places first (Some bytes)
@@ -23,7 +23,7 @@ called places (Free first) = slice_set places first None
 -- a region answers the calls so, one after another
 abbrev pub AnswersAll : Places → List Call → Type 0
 AnswersAll places [] = Unit {0}
-AnswersAll places (c ∷ cs) = Answers places c × AnswersAll (called places c) cs
+AnswersAll places (c ∷ cs) = RegionAnswers places c × AnswersAll (called places c) cs
 
 abbrev pub called_all : Places → List Call → Places
 called_all places [] = places

@@ -26,13 +26,13 @@ pub struct Region {
 
 impl Model for Region {
     ghost use Rattle.record_region.specs.Places.{Places};
-    ghost use Rattle.record_region.specs.Chains.{places_from, IsSound};
+    ghost use Rattle.record_region.specs.Chains.{places_from, IsSoundRegion};
 
     ghost Value = { Places };
 
     ghost view = { λ r. places_from r.store.items r.links.items 0 r.marks.items };
 
-    ghost invariant = { λ r. IsSound r.store.items r.links.items r.marks.items r.head r.free };
+    ghost invariant = { λ r. IsSoundRegion r.store.items r.links.items r.marks.items r.head r.free };
 }
 
 impl Region {

@@ -18,7 +18,7 @@ use Rattle.record_window.specs.Held.{trimmed}
 use Rattle.record_window.specs.Pasts.{Pasts, past_by, past_weight, rows_of}
 use Rattle.record_store.specs.View.{Item, StoreView, IsStore, item_key, item_weight, old_by, old_weight}
 use Rattle.record_store.specs.Moves.{removed, removed_found}
-use Rattle.record_store.specs.Inside.{item_of, old_of, store_view, row_weight, IsSound}
+use Rattle.record_store.specs.Inside.{item_of, old_of, store_view, row_weight, IsSoundStore}
 use Rattle.record_store.proofs.Keyed.{weights-put, weights-without, without-absent, each-put, each-without, each-found, each-push, each-weaker}
 use Rattle.record_store.proofs.Mapped.{length-seen, push-seen, each-seen, keys-seen, find-seen, put-seen, without-seen, weights-seen, fits-seen, newest-seen, floor-seen, rises-seen}
 use Rattle.record_store.proofs.Pieces.{taken-le}
@@ -27,10 +27,10 @@ use Rattle.record_store.proofs.Windows.{rises-push, rises-newest, each-newest, f
 
 -- the store holds this now, and is seen like that
 pub record Changed (limits : Limits) (index : Rows) (window : Pasts) (places : Places) (live last : ℕ) (view : StoreView) : Type 0 where
-  pub sound : IsSound limits index window places live last
+  pub sound : IsSoundStore limits index window places live last
   pub seen : store_view limits index window places last ≡ view
 
-module _ (limits : Limits) (index : Rows) (window : Pasts) (places : Places) (live last : ℕ) (h : IsSound limits index window places live last) where
+module _ (limits : Limits) (index : Rows) (window : Pasts) (places : Places) (live last : ℕ) (h : IsSoundStore limits index window places live last) where
   abbrev view : StoreView
   view = store_view limits index window places last
 
@@ -113,7 +113,7 @@ module _ (limits : Limits) (index : Rows) (window : Pasts) (places : Places) (li
     pasts_then : Each (λ p. p.by ≤ now) all
     pasts_then = each-push (λ p. p.by ≤ now) window.items gone (each-weaker (λ p. p.by ≤ last) (λ p. p.by ≤ now) (λ p b. omega (arith, b, later)) window.items h.past) (omega arith)
 
-    sound_then : IsSound limits index_then window_then places_then (live - r.record.weight) now
+    sound_then : IsSoundStore limits index_then window_then places_then (live - r.record.weight) now
     sound_then =
         let weigh = weights-without row_key row_weight k r index.rows e in
         let lives = h.lives in
@@ -182,7 +182,7 @@ module _ (limits : Limits) (index : Rows) (window : Pasts) (places : Places) (li
         its : Adds index.rows window.items r places after
         its = adds r bytes index.rows window.items places fresh unused within text len chunks h.shares
 
-        sound : IsSound limits (record index { rows = put row_key r index.rows }) window after (live + r.record.weight) now
+        sound : IsSoundStore limits (record index { rows = put row_key r index.rows }) window after (live + r.record.weight) now
         sound =
             let weigh = weights-put row_key row_weight r index.rows fresh in
             let lives = h.lives in

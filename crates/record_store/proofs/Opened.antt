@@ -6,7 +6,7 @@ use Rattle.kube_meta.specs.declared.limits.Limits.{Limits}
 use Rattle.record_region.specs.Places.{piece_at, used}
 use Rattle.record_window.specs.Held.{pieces_in}
 use Rattle.record_window.specs.Pasts.{past_by, past_weight}
-use Rattle.record_store.specs.Inside.{IsSound}
+use Rattle.record_store.specs.Inside.{IsSoundStore}
 
 none_at : (n chunk : ℕ) → piece_at (replicate n None) chunk ≡ None
 none_at zero chunk = refl
@@ -22,7 +22,7 @@ as_many zero = refl
 as_many (suc n) = ap suc (as_many n)
 
 pub opened : (limits : Limits) → limits.chunks + limits.window_chunks < 2 ^ 32
-    → IsSound limits (record { room = limits.objects; rows = [] }) (record { limits = limits; items = []; floor = 1 }) (replicate (limits.chunks + limits.window_chunks) None) 0 0
+    → IsSoundStore limits (record { room = limits.objects; rows = [] }) (record { limits = limits; items = []; floor = 1 }) (replicate (limits.chunks + limits.window_chunks) None) 0 0
 opened limits small =
     let n = limits.chunks + limits.window_chunks in
     record {

@@ -17,7 +17,7 @@ use Rattle.record_store.specs.View.{Item, StoreView, IsStore, item_key, item_wei
 use Rattle.record_store.specs.Moves.{removed, removed_found, replaced, added, new_item, with_new}
 use Rattle.record_store.specs.Room.{HasRoom}
 use Rattle.record_store.specs.declared.record.NewRecord.{NewRecord}
-use Rattle.record_store.specs.Inside.{item_of, store_view, IsSound}
+use Rattle.record_store.specs.Inside.{item_of, store_view, IsSoundStore}
 use Rattle.record_store.proofs.Keyed.{find-without, put-without}
 use Rattle.record_store.proofs.Mapped.{keys-seen, find-seen}
 use Rattle.record_store.proofs.Sorted.{hit, miss_of}
@@ -98,7 +98,7 @@ placed index waiting piece i index1 index2 there is1 is2 =
 
 -- ---- the record that stood leaves, and another comes
 
-module _ (limits : Limits) (index : Rows) (window : Pasts) (places : Places) (live last : ℕ) (h : IsSound limits index window places live last) (now : ℕ) (later : last < now) (rise : KeysRise (map row_key index.rows)) where
+module _ (limits : Limits) (index : Rows) (window : Pasts) (places : Places) (live last : ℕ) (h : IsSoundStore limits index window places live last) (now : ℕ) (later : last < now) (rise : KeysRise (map row_key index.rows)) where
   abbrev view : StoreView
   view = store_view limits index window places last
 

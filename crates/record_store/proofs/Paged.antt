@@ -14,7 +14,7 @@ use Rattle.record_window.specs.declared.past.Past.{Past}
 use Rattle.record_window.specs.Pasts.{Pasts, rows_of}
 use Rattle.record_region.specs.Places.{Places}
 use Rattle.record_store.specs.View.{Item, Old, item_key, put_all, still, since, items_at}
-use Rattle.record_store.specs.Inside.{AreKept, IsKept, IsSound, item_of, old_of, store_view}
+use Rattle.record_store.specs.Inside.{AreKept, IsKept, IsSoundStore, item_of, old_of, store_view}
 use Rattle.record_store.specs.Picked.{merged, standing, stood, superseded}
 use Rattle.record_store.proofs.Keyed.{each-put}
 use Rattle.record_store.proofs.Mapped.{put-seen, each-seen}
@@ -91,7 +91,7 @@ since-none r last (o ∷ os) le h =
     let e : nat_lt r o.by ≡ false = let low : o.by ≤ r = omega (arith, within, le) in grind (arith, nat_tests) in
     rw e (since-none r last os le h.1)
 
-pub present_seen : (limits : Limits) (index : Rows) (window : Pasts) (places : Places) (live last r : ℕ) → IsSound limits index window places live last → last ≤ r
+pub present_seen : (limits : Limits) (index : Rows) (window : Pasts) (places : Places) (live last r : ℕ) → IsSoundStore limits index window places live last → last ≤ r
     → items_at r (store_view limits index window places last) ≡ map (item_of places) index.rows
 present_seen limits index window places live last r sound le =
     let items = map (item_of places) index.rows in

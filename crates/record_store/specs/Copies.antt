@@ -9,6 +9,6 @@ abbrev pub copied : StoredRecord → Item
 copied c = record { key = c.key; at = c.record.at; rv = c.record.rv; born = c.record.born; weight = c.record.weight; bytes = c.text.bytes }
 
 -- the page has copies of these records, and this number behind them
-pub record Shows (page : StorePage) (of : Page Item) : Type 0 where
+pub record ShowsCopies (page : StorePage) (of : Page Item) : Type 0 where
   pub items : map copied page.items.items ≡ of.items
   pub remaining : page.remaining ≡ of.remaining

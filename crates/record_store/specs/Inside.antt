@@ -52,7 +52,7 @@ pub record Shares (rows : List Row) (pasts : List Past) (places : Places) : Type
   pub past_kept : AreKept places (rows_of pasts)
   pub counted : used places ≡ taken rows + taken (rows_of pasts)
 
-pub record IsSound (limits : Limits) (index : Rows) (window : Pasts) (places : Places) (live last : ℕ) : Type 0 where
+pub record IsSoundStore (limits : Limits) (index : Rows) (window : Pasts) (places : Places) (live last : ℕ) : Type 0 where
   pub shares : Shares index.rows window.items places
   pub small : limits.chunks + limits.window_chunks < 2 ^ 32
   pub room : index.room ≡ limits.objects

@@ -5,7 +5,7 @@ ghost use Rattle.kube_meta.specs.Page.{bound_after, listed, page_of};
 ghost use Rattle.kube_meta.specs.Plan.{passed};
 ghost use Rattle.kube_meta.specs.Window.{weights};
 ghost use Rattle.record_index.specs.ByKey.{find, place as place_of};
-ghost use Rattle.record_store.specs.Copies.{Shows};
+ghost use Rattle.record_store.specs.Copies.{ShowsCopies};
 ghost use Rattle.record_store.specs.Standing.{first_held, item_at};
 ghost use Rattle.record_store.specs.View.{IsStore, item_key, item_weight, items_at, record_of};
 
@@ -37,13 +37,13 @@ pub struct Store {
 
 impl Model for Store {
     ghost use Rattle.record_store.specs.View.{StoreView};
-    ghost use Rattle.record_store.specs.Inside.{store_view, IsSound};
+    ghost use Rattle.record_store.specs.Inside.{store_view, IsSoundStore};
 
     ghost Value = { StoreView };
 
     ghost view = { λ s. store_view s.limits s.index s.window s.region s.last };
 
-    ghost invariant = { λ s. IsSound s.limits s.index s.window s.region s.live s.last };
+    ghost invariant = { λ s. IsSoundStore s.limits s.index s.window s.region s.live s.last };
 }
 
 impl Store {
@@ -145,7 +145,7 @@ impl Store {
         limit: u64,
     ) -> Result<StorePage, NoMemory>
         requires known { self.now.floor ≤ rv }
-        ensures page { IfOk result (λ page. Shows page
+        ensures page { IfOk result (λ page. ShowsCopies page
             (page_of rv limit (listed item_key (option_copied ns.entry) (option_copied after.entry) (items_at rv self.now)))) }
         ensures present { self.now.last ≤ rv → items_at rv self.now ≡ self.now.items }
     {

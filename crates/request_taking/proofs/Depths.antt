@@ -2,7 +2,7 @@
 use Rattle.std.proofs.Common.{◌≡◌, ◌∙◌, ℕ, ◌+◌, ◌≤◌, max, List, Bool, true, false, cond, Option, Some, None, refl, ap, sym, subst, arith}
 use Rattle.std.specs.Prelude.{MatchBool, IsSomeAnd, unwrap_or}
 use Rattle.kj_value.specs.Json.{Json, null, boolean, whole, text, list, object, Items, no_items, item, Members, no_members, member, depth, items_depth, members_depth}
-use Rattle.kj_value.specs.Sound.{IsSound, AreSound, AreRising}
+use Rattle.kj_value.specs.Sound.{IsSoundJson, AreSoundItems, AreRising}
 use Rattle.struct_schema.specs.Shape.{Shape, shape, own, Shapes, no_shapes, shape_at, MaybeShapes, no_map, some_map, MaybeShape, no_shape, some_shape}
 use Rattle.struct_schema.specs.Names.{is_name, value_at}
 use Rattle.struct_schema.specs.Filled.{is_object, is_array, is_forbidden, PresentFilled, PropertyFilled, EachItem, AtEachItem, AtEachName, Filled, NameFilled, NamedFilled, RestFilled, ItemFilled}
@@ -12,7 +12,7 @@ use Rattle.request_taking.proofs.Lookup.{one_name, own_name, gone, AtSound, at_s
 
 -- that what a value becomes is within the levels, where the value is
 abbrev IsLow : Json → Type 0
-IsLow j = (t : Shape) (n : ℕ) (k : Json) → IsSound k → HasLowDefaults n t → IsWithin n j → Filled t j k → IsWithin n k
+IsLow j = (t : Shape) (n : ℕ) (k : Json) → IsSoundJson k → HasLowDefaults n t → IsWithin n j → Filled t j k → IsWithin n k
 
 abbrev IsLowAt : Option Json → Type 0
 IsLowAt None = Unit {0}
@@ -109,7 +109,7 @@ at_within n (member k j ms) l h =
 abbrev AllLow : Members → Type 0
 AllLow ms = (l : List ℕ) → IsLowAt (value_at l ms)
 
-fields_within : (d : Bool) (ps : MaybeShapes) (a : MaybeShape) (preserve : Bool) (n : ℕ) (ms : Members) (k : Json) → AllLow ms → IsSound k → LowInMap (n + 1) ps → LowInMaybe (n + 1) a → IsWithin n (object ms)
+fields_within : (d : Bool) (ps : MaybeShapes) (a : MaybeShape) (preserve : Bool) (n : ℕ) (ms : Members) (k : Json) → AllLow ms → IsSoundJson k → LowInMap (n + 1) ps → LowInMaybe (n + 1) a → IsWithin n (object ms)
     → MatchBool d (AtEachName (NameFilled ps (λ x y. RestFilled a preserve x y)) ms k) (k ≡ object ms) → IsWithin n k
 fields_within false ps a preserve n ms k low s d e p h = subst (λ (x : Json). IsWithin n x) (sym h) p
 fields_within true ps a preserve n ms (object ns) low s d e p h =
@@ -129,7 +129,7 @@ null_within : (n : ℕ) (o : Option Json) → WithinAt n o → n ≤ OBJECT_LEVE
 null_within n None h m = omega (arith, m)
 null_within n (Some d) h m = h
 
-element_within : (i : MaybeShape) (n : ℕ) (j x : Json) → IsLow j → IsSound x → LowInMaybe n i → n ≤ OBJECT_LEVELS → IsWithin n j → ItemFilled i j x → IsWithin n x
+element_within : (i : MaybeShape) (n : ℕ) (j x : Json) → IsLow j → IsSoundJson x → LowInMaybe n i → n ≤ OBJECT_LEVELS → IsWithin n j → ItemFilled i j x → IsWithin n x
 element_within no_shape n j x low s d m p h = subst (λ (y : Json). IsWithin n y) (sym h) p
 element_within (some_shape t) n j x low s d m p h = by_test (is_forbidden (own t) j) h
   where
@@ -139,9 +139,9 @@ element_within (some_shape t) n j x low s d m p h = by_test (is_forbidden (own t
 
 -- the same of each item, whatever the schema of the items
 abbrev AreLow : Items → Type 0
-AreLow js = (i : MaybeShape) (n : ℕ) (ks : Items) → AreSound ks → LowInMaybe n i → n ≤ OBJECT_LEVELS → n + items_depth js ≤ OBJECT_LEVELS → EachItem (λ x y. ItemFilled i x y) js ks → n + items_depth ks ≤ OBJECT_LEVELS
+AreLow js = (i : MaybeShape) (n : ℕ) (ks : Items) → AreSoundItems ks → LowInMaybe n i → n ≤ OBJECT_LEVELS → n + items_depth js ≤ OBJECT_LEVELS → EachItem (λ x y. ItemFilled i x y) js ks → n + items_depth ks ≤ OBJECT_LEVELS
 
-list_within : (d : Bool) (i : MaybeShape) (n : ℕ) (js : Items) (k : Json) → AreLow js → IsSound k → LowInMaybe (n + 1) i → IsWithin n (list js)
+list_within : (d : Bool) (i : MaybeShape) (n : ℕ) (js : Items) (k : Json) → AreLow js → IsSoundJson k → LowInMaybe (n + 1) i → IsWithin n (list js)
     → MatchBool d (AtEachItem (λ x y. ItemFilled i x y) js k) (k ≡ list js) → IsWithin n k
 list_within false i n js k low s d p h = subst (λ (x : Json). IsWithin n x) (sym h) p
 list_within true i n js (list ks) low s d p h =
@@ -180,5 +180,5 @@ mutual
   low_members no_members l = tt
   low_members (member k j ms) l = low_here j (value_at l ms) (low_value j) (low_members ms l) (is_name l k)
 
-pub filled_within : (t : Shape) (n : ℕ) (j k : Json) → IsSound k → HasLowDefaults n t → IsWithin n j → Filled t j k → IsWithin n k
+pub filled_within : (t : Shape) (n : ℕ) (j k : Json) → IsSoundJson k → HasLowDefaults n t → IsWithin n j → Filled t j k → IsWithin n k
 filled_within t n j k s d p h = low_value j t n k s d p h

@@ -5,7 +5,7 @@ use Rattle.std.proofs.lemmas.Cmp.{nat_list_cmp_total}
 use Rattle.std.proofs.lemmas.Slice.Eq.{bytes_eq-Decides}
 use Rattle.std.proofs.lemmas.Map.Text.{is_eq-slice_cmp}
 use Rattle.kj_value.specs.Json.{Json, Members, no_members, member}
-use Rattle.kj_value.specs.Sound.{IsSound, ComesFirst, AreRising}
+use Rattle.kj_value.specs.Sound.{IsSoundJson, ComesFirst, AreRising}
 use Rattle.struct_schema.specs.Names.{is_name, value_at}
 
 pub one_name : (k l : List ℕ) → is_name k l ≡ true → k ≡ l
@@ -32,7 +32,7 @@ gone k (member l j ms) p h = by_test (is_name k l) refl (λ q r. gone k ms (past
 -- what stands at a name is sound
 abbrev pub AtSound : Option Json → Type 0
 AtSound None = Unit {0}
-AtSound (Some x) = IsSound x
+AtSound (Some x) = IsSoundJson x
 
 pub at_sound : (n : List ℕ) (ms : Members) → AreRising ms → AtSound (value_at n ms)
 at_sound n no_members h = tt

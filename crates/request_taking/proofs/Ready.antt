@@ -6,7 +6,7 @@ use Rattle.std.proofs.lemmas.Slice.Eq.{bytes_eq-Decides}
 use Rattle.kj_value.specs.Json.{Json, null, boolean, whole, text, list, object, members_of, items_of, depth}
 use Rattle.kj_value.specs.Fields.{Pairs, field, AreInOrder}
 use Rattle.kj_value.specs.Reading.{Reads}
-use Rattle.kj_value.specs.Sound.{AreSound}
+use Rattle.kj_value.specs.Sound.{AreSoundItems}
 use Rattle.kj_value.specs.declared.rule.Rule.{Rule}
 use Rattle.kube_meta.specs.View.{MetaView, ObjectView}
 use Rattle.object_reading.specs.Fields.{pairs_of, object_at, list_at}
@@ -16,7 +16,7 @@ use Rattle.object_reading.specs.Refusal.{is_given_text}
 use Rattle.struct_schema.specs.Shape.{Shape}
 use Rattle.struct_schema.specs.Fault.{Fault as CheckFault, fault}
 use Rattle.struct_schema.specs.Filled.{Filled}
-use Rattle.struct_schema.specs.Told.{Names}
+use Rattle.struct_schema.specs.Told.{NamesCheckFault}
 use Rattle.struct_schema.specs.declared.trouble.CheckFault as check
 use Rattle.struct_schema.specs.declared.trouble.CheckFault.TheVariants as answer
 use Rattle.struct_schema.specs.OwnDefaults.{HasOwnDefaults}
@@ -30,7 +30,7 @@ use Rattle.spoke_laws.specs.Notes.{IsObject}
 use Rattle.crd_meaning.specs.Definition.{Definition, version_at}
 use Rattle.crd_meaning.specs.Request.{first_there, rows, placed, expected_of, IsTaken}
 use Rattle.crd_meaning.specs.Admission.{IsFilling, Passes}
-use Rattle.crd_meaning.specs.Refusal.{cause_at, Refuses, is_early, is_broken}
+use Rattle.crd_meaning.specs.Refusal.{cause_at, RefusesRequest, is_early, is_broken}
 use Rattle.loaded_versions.specs.Passed.{IsPassed}
 use Rattle.request_taking.specs.Low.{HasLowDefaults}
 use Rattle.request_taking.specs.Steps.{IsFirst, BreaksRule, TellsCause}
@@ -56,7 +56,7 @@ none_of (Some f) e = absurd (cc)
 abbrev cause_in : List ℕ → Rule → Option CauseView
 cause_in path rule = Some (record { field = path; rule = rule })
 
-pub names_told : (o : Option CheckFault) (e : check.CheckFault) → Names o e → TellsCause e (option_map cause_at o)
+pub names_told : (o : Option CheckFault) (e : check.CheckFault) → NamesCheckFault o e → TellsCause e (option_map cause_at o)
 names_told None e h = absurd h
 names_told (Some f) (answer.Broken path rule) h = ap₂ cause_in (sym h.0) (sym h.1)
 names_told (Some f) answer.NoMemory h = tt
@@ -88,11 +88,11 @@ taken_of d r es x e reads nothing is number =
 
 -- ---- refusals
 
-pub early_refused : (d : Definition) (r : Request) (es : Pairs) (f : Fault) → Reads r.bytes OBJECT_LEVELS (object (members_of es)) → IsFirst (rows d r es) f → Refuses d r f
+pub early_refused : (d : Definition) (r : Request) (es : Pairs) (f : Fault) → Reads r.bytes OBJECT_LEVELS (object (members_of es)) → IsFirst (rows d r es) f → RefusesRequest d r f
 early_refused d r es f reads h =
     is_early (record { value = object (members_of es); reads = reads; told = early_fields d r es ∙ h })
 
-pub broken_refused : (d : Definition) (r : Request) (x : ObjectView) (e : Option ℕ) (s : Shape) (f : Fault) → IsTaken d r x e → s ≡ (version_at d r.version).schema → BreaksRule s x f → Refuses d r f
+pub broken_refused : (d : Definition) (r : Request) (x : ObjectView) (e : Option ℕ) (s : Shape) (f : Fault) → IsTaken d r x e → s ≡ (version_at d r.version).schema → BreaksRule s x f → RefusesRequest d r f
 broken_refused d r x e s f t same h =
     let b : BreaksRule (version_at d r.version).schema x f = subst (λ (u : Shape). BreaksRule u x f) same h in
     is_broken (record { object = x; number = e; taken = t; cause = b.cause; told = b.told; broken = b.broken })
@@ -133,7 +133,7 @@ module _ (d : Definition) (r : Request) (es : Pairs) (x y : ObjectView) (h : IsR
       levels = filled_within (version_at d r.version).schema 0 (object (members_of x.body)) (object (members_of y.body)) h.filling.sound low body_within h.filling.filled;
     }
 
-    pub passed : IsObject y → AreInOrder y.meta.labels → AreSound (items_of y.meta.owners) → IsPassed d r.version y
+    pub passed : IsObject y → AreInOrder y.meta.labels → AreSoundItems (items_of y.meta.owners) → IsPassed d r.version y
     unfolding meta_in
     passed sound labels owners =
         let asked = none_asked d r es h.nothing in record {

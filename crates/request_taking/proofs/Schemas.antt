@@ -16,7 +16,7 @@ use Rattle.schema_reading.specs.declared.walk.TheConstants.{MAX_NESTING, MAX_DEF
 use Rattle.crd_reading.specs.View.{VersionView, DefinitionView}
 use Rattle.crd_reading.specs.Spelled.{schema_in, version_items, versions_read}
 use Rattle.crd_reading.specs.Accepted.{HaveSchemas}
-use Rattle.crd_reading.specs.Whole.{IsWhole}
+use Rattle.crd_reading.specs.Whole.{IsWholeDefinition}
 use Rattle.request_taking.specs.Low.{WithinAt, HasLowDefaults, LowInMap, LowInShapes, LowInMaybe}
 
 -- ---- tests joined by and
@@ -120,7 +120,7 @@ low_version (item j js) w zero none h = low_node true 0 (schema_in j) h.0.0
 low_version (item j js) w (suc v) none h = low_version js w v none h.1
 
 -- of a definition, at each place and beyond them
-pub low_schema : (d : DefinitionView) (w : VersionView) (v : ℕ) → HasLowDefaults 0 w.schema → IsWhole d → HasLowDefaults 0 (slice_index_or d.versions v w).schema
+pub low_schema : (d : DefinitionView) (w : VersionView) (v : ℕ) → HasLowDefaults 0 w.schema → IsWholeDefinition d → HasLowDefaults 0 (slice_index_or d.versions v w).schema
 low_schema d w v none known =
     let spelled = known.spelled in
     subst (λ (x : DefinitionView). HasLowDefaults 0 (slice_index_or x.versions v w).schema) spelled.2 (low_version (version_items spelled.0) w v none spelled.1.schemas)

@@ -2,7 +2,7 @@
 ghost use Rattle.std.specs.Prelude.{◌<◌};
 ghost use Rattle.kj_value.specs.Fields.{AreInOrder};
 ghost use Rattle.kj_value.specs.Json.{items_of};
-ghost use Rattle.kj_value.specs.Sound.{AreSound};
+ghost use Rattle.kj_value.specs.Sound.{AreSoundItems};
 ghost use Rattle.kube_meta.specs.View.{object_of};
 ghost use Rattle.struct_schema.specs.OwnDefaults.{HasOwnDefaults};
 ghost use Rattle.spoke_laws.specs.Notes.{IsObject};
@@ -25,7 +25,7 @@ pub fn defaults_of(set: &LoadedVersions, v: u8)
 pub fn order_of(o: &Object)
     ensures object { IsObject (object_of o.now) }
     ensures labels { AreInOrder o.now.meta.labels }
-    ensures owners { AreSound (items_of o.now.meta.owners) }
+    ensures owners { AreSoundItems (items_of o.now.meta.owners) }
 {
     let _ = o.meta.labels.len();
     let _ = o.meta.annotations.len();

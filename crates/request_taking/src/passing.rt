@@ -5,7 +5,7 @@ ghost use Rattle.kube_meta.specs.View.{object_of};
 ghost use Rattle.api_calls.specs.Versions.{Refused, request_of};
 ghost use Rattle.crd_meaning.specs.Definition.{count_of};
 ghost use Rattle.crd_meaning.specs.Admission.{Passes};
-ghost use Rattle.crd_meaning.specs.Refusal.{Refuses};
+ghost use Rattle.crd_meaning.specs.Refusal.{RefusesRequest};
 ghost use Rattle.loaded_versions.specs.Passed.{IsPassed};
 
 use crate::body::read_body;
@@ -38,7 +38,7 @@ pub fn pass(alloc: Global, set: &LoadedVersions, input: &Incoming<'_>) -> Result
     requires ns { is_namespace input.now.ns.now ≡ true }
     ensures passes { IfOk result (λ p. Passes set.now (request_of input.now) (object_of p.object) p.expected) }
     ensures passed { IfOk result (λ p. IsPassed set.now input.now.version (object_of p.object)) }
-    ensures refused { IfErr result (Refused (Refuses set.now (request_of input.now)) ⊥) }
+    ensures refused { IfErr result (Refused (RefusesRequest set.now (request_of input.now)) ⊥) }
 {
     filled_again();
     defaults_of(set, input.version);

@@ -4,7 +4,7 @@ use Rattle.std.specs.Prelude.{◌≡◌, ℕ, suc, ◌+◌, List, [], cond, nat_
 use Rattle.std.specs.Str.{bytes_eq}
 use Rattle.kj_value.specs.Json.{Json, null, boolean, whole, text, list, object, Items, no_items, item, no_members, member}
 use Rattle.hub_cells.specs.Level.{Name}
-use Rattle.hub_rules.specs.Sound.{IsSound}
+use Rattle.hub_rules.specs.Sound.{IsSoundRule}
 use Rattle.hub_rules.specs.Rule.{Rule, same, within, spoke_only, hub_only, split, table, scale, Rules, no_rules, rule, rules_of, rule_depth}
 use Rattle.rule_reading.specs.Words.{word}
 use Rattle.rule_reading.specs.Path.{Path, here, in_name}
@@ -118,4 +118,4 @@ abbrev mutual
 
 -- for private clauses: a sound rule with no others inside it
 abbrev pub Plain : Rule → Type 0
-Plain r = IsSound r × (rule_depth r ≡ 0) × (rule_size r ≡ 1)
+Plain r = IsSoundRule r × (rule_depth r ≡ 0) × (rule_size r ≡ 1)

@@ -13,10 +13,10 @@ abbrev pub set_of : RuleSet → Name × List (Name × List Rule)
 set_of s = (s.hub.bytes, s.spokes)
 
 -- the path of a refusal; want of memory may come anywhere
-abbrev pub Names : {A : Type 0} → Result A Path → RulesFault → Type 0
-Names r NoMemory = Unit {0}
-Names (Ok a) (Refused path) = ⊥
-Names (Err p) (Refused path) = path.bytes ≡ p.text
+abbrev pub NamesRulesFault : {A : Type 0} → Result A Path → RulesFault → Type 0
+NamesRulesFault r NoMemory = Unit {0}
+NamesRulesFault (Ok a) (Refused path) = ⊥
+NamesRulesFault (Err p) (Refused path) = path.bytes ≡ p.text
 
 -- ---- for private clauses
 

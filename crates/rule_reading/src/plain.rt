@@ -4,7 +4,7 @@ ghost use Rattle.kj_value.specs.Json.{object, members_of};
 ghost use Rattle.kj_value.specs.Seen.{json};
 ghost use Rattle.hub_rules.specs.Rule.{rule_depth};
 ghost use Rattle.hub_rules.specs.Seen.{rule};
-ghost use Rattle.hub_rules.specs.Sound.{IsSound};
+ghost use Rattle.hub_rules.specs.Sound.{IsSoundRule};
 ghost use Rattle.rule_reading.specs.RuleRead.{same_read, spoke_only_read, hub_only_read, split_read, table_read, scale_read, plain_read, Plain};
 ghost use Rattle.rule_reading.specs.Told.{answer};
 

@@ -4,7 +4,7 @@ ghost use Rattle.kj_value.specs.Json.{object, items_of, members_of};
 ghost use Rattle.kj_value.specs.Seen.{json};
 ghost use Rattle.hub_rules.specs.Rule.{rule_depth, inner_depth, rules_of};
 ghost use Rattle.hub_rules.specs.Seen.{rule};
-ghost use Rattle.hub_rules.specs.Sound.{IsSound};
+ghost use Rattle.hub_rules.specs.Sound.{IsSoundRule};
 ghost use Rattle.rule_reading.specs.RuleRead.{rule_size, rules_size, rule_by, rule_read, within_read, rules_read, rules_from, one_field};
 ghost use Rattle.rule_reading.specs.Told.{answer};
 
@@ -43,7 +43,7 @@ fn one_field(v: &JVal) -> Option<(&str, &JVal)>
 fn read_rule(alloc: Global, depth: u32, count: &mut u32, v: &JVal) -> Tried<Line>
     requires { depth ≤ MAX_OBJECTS }
     ensures read { IfOk result (λ r. answer rule r ≡ rule_read depth count.old (json v.now)) }
-    ensures sound { IfOk result (λ r. IfOk r (λ l. IsSound (rule l))) }
+    ensures sound { IfOk result (λ r. IfOk r (λ l. IsSoundRule (rule l))) }
     ensures depth { IfOk result (λ r. IfOk r (λ l. depth + rule_depth (rule l) ≤ MAX_OBJECTS)) }
     ensures count { IfOk result
         (λ r. IfOk r (λ l. count.new ≡ count.old + rule_size (rule l))) }
@@ -77,7 +77,7 @@ fn read_rule(alloc: Global, depth: u32, count: &mut u32, v: &JVal) -> Tried<Line
 fn read_within(alloc: Global, depth: u32, count: &mut u32, v: &JVal) -> Tried<Line>
     requires { depth ≤ MAX_OBJECTS }
     ensures read { IfOk result (λ r. answer rule r ≡ within_read depth count.old (json v.now)) }
-    ensures sound { IfOk result (λ r. IfOk r (λ l. IsSound (rule l))) }
+    ensures sound { IfOk result (λ r. IfOk r (λ l. IsSoundRule (rule l))) }
     ensures depth { IfOk result
         (λ r. IfOk r (λ l. depth + rule_depth (rule l) ≤ MAX_OBJECTS + 1)) }
     ensures count { IfOk result
@@ -99,7 +99,7 @@ fn read_object(alloc: Global, depth: u32, count: &mut u32, fields: &JFields) -> 
     requires { depth ≤ MAX_OBJECTS }
     ensures read { IfOk result
         (λ r. answer rule r ≡ within_read depth count.old (object (members_of fields.now))) }
-    ensures sound { IfOk result (λ r. IfOk r (λ l. IsSound (rule l))) }
+    ensures sound { IfOk result (λ r. IfOk r (λ l. IsSoundRule (rule l))) }
     ensures depth { IfOk result
         (λ r. IfOk r (λ l. depth + rule_depth (rule l) ≤ MAX_OBJECTS + 1)) }
     ensures count { IfOk result

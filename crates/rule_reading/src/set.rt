@@ -8,7 +8,7 @@ ghost use Rattle.rule_reading.specs.SetRead.{spoke_read, spokes_from, spokes_rea
 ghost use Rattle.rule_reading.specs.SeenSet.{spoke_pair};
 ghost use Rattle.rule_reading.specs.Words.{word};
 ghost use Rattle.rule_reading.specs.Shapes.{field_read, ended};
-ghost use Rattle.rule_reading.specs.Told.{answer, set_of, Names};
+ghost use Rattle.rule_reading.specs.Told.{answer, set_of, NamesRulesFault};
 
 use crate::fields::{beyond, value_at};
 use crate::rules::read_rules_in;
@@ -214,7 +214,7 @@ fn read_set(alloc: Global, doc: &JVal) -> Tried<RuleSet>
 /// inside it. `NoMemory` may come for any document.
 pub fn read_rules(alloc: Global, doc: &JVal) -> Result<RuleSet, RulesFault>
     ensures read { IfOk result (λ s. set_read (json doc.now) ≡ Ok (set_of s)) }
-    ensures refused { IfErr result (λ e. Names (set_read (json doc.now)) e) }
+    ensures refused { IfErr result (λ e. NamesRulesFault (set_read (json doc.now)) e) }
 {
     match read_set(alloc, doc)? {
         Ok(set) => Ok(set),

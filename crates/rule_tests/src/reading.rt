@@ -1,5 +1,5 @@
 use hub_rules::Line;
-use kj_value::{MAX_LEVELS, Txt, read};
+use kj_value::{MAX_JSON_LEVELS, Txt, read};
 use rule_reading::{RuleSet, RulesFault, read_rules};
 use std::alloc::Global;
 use std::process::Abort;
@@ -57,7 +57,7 @@ fn set_text(alloc: Global, set: &RuleSet) -> Result<Txt, Fail> {
 
 // What a document spells, or the path of what is refused in it.
 fn told(alloc: Global, text: &str) -> Result<Txt, Fail> {
-    let doc = read(alloc, text.as_bytes(), MAX_LEVELS)?;
+    let doc = read(alloc, text.as_bytes(), MAX_JSON_LEVELS)?;
     match read_rules(alloc, &doc) {
         Ok(set) => set_text(alloc, &set),
         Err(RulesFault::Refused { path }) => {

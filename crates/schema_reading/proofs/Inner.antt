@@ -10,7 +10,7 @@ use Rattle.struct_schema.specs.Fault.{or_else}
 use Rattle.schema_reading.specs.Words.{word, passed_type}
 use Rattle.schema_reading.specs.Visit.{Visit, Refusal, within, after, first, under}
 use Rattle.schema_reading.specs.Visits.{visits, inner_visits, map_visits, each_visits, property_visits, meta_visits}
-use Rattle.schema_reading.specs.Told.{Stops, Passes}
+use Rattle.schema_reading.specs.Told.{StopsSchemaReading, Passes}
 use Rattle.schema_reading.specs.declared.words.Keyword.{Keyword}
 use Rattle.schema_reading.specs.declared.words.Keyword.TheVariants.{Properties}
 use Rattle.schema_reading.specs.declared.trouble.Stop.{Stop}
@@ -19,12 +19,12 @@ use Rattle.schema_reading.proofs.Parts.{keywords-meta}
 use Rattle.schema_reading.proofs.Found.{inner_visits-some, map_visits-some}
 
 abbrev pub Steps : List ℕ → Stop → Stop → Type 0
-Steps k stop e = (o : Option Refusal) → Stops o stop → Stops (under (named k) o) e
+Steps k stop e = (o : Option Refusal) → StopsSchemaReading o stop → StopsSchemaReading (under (named k) o) e
 
-pub stops_inner : (w : Keyword) (n d : ℕ) (ms : Members) (v : Json) (k : List ℕ) (stop e : Stop) → value_at (word w) ms ≡ Some v → k ≡ word w → Stops (first n (visits false (d + 1) v)) stop → Steps k stop e → Stops (first n (inner_visits w d ms)) e
+pub stops_inner : (w : Keyword) (n d : ℕ) (ms : Members) (v : Json) (k : List ℕ) (stop e : Stop) → value_at (word w) ms ≡ Some v → k ≡ word w → StopsSchemaReading (first n (visits false (d + 1) v)) stop → Steps k stop e → StopsSchemaReading (first n (inner_visits w d ms)) e
 stops_inner w n d ms v k stop e found spelled h step =
     let steps : Steps (word w) stop e = subst (λ (l : List ℕ). Steps l stop e) spelled step in
-    subst (λ (vs : List Visit). Stops (first n vs) e) (sym (inner_visits-some w d ms v found)) (stops-within (named (word w)) n (visits false (d + 1) v) stop e steps h)
+    subst (λ (vs : List Visit). StopsSchemaReading (first n vs) e) (sym (inner_visits-some w d ms v found)) (stops-within (named (word w)) n (visits false (d + 1) v) stop e steps h)
 
 pub passes_inner : (w : Keyword) (n m d : ℕ) (ms : Members) (v : Json) → value_at (word w) ms ≡ Some v → Passes n m (visits false (d + 1) v) → Passes n m (inner_visits w d ms)
 passes_inner w n m d ms v found p =
@@ -33,11 +33,11 @@ passes_inner w n m d ms v found p =
 pub passes_none : (n : ℕ) (vs : List Visit) → vs ≡ [] → Passes n n vs
 passes_none n vs e = subst (λ (ws : List Visit). Passes n n ws) (sym e) (refl, refl)
 
-pub stops_map : (root : Bool) (n d : ℕ) (ms : Members) (es : List (List ℕ × Json)) (k : List ℕ) (stop e : Stop) → value_at (word Properties) ms ≡ Some (object (members_of es)) → k ≡ word Properties → Stops (first n (each_visits root d (members_of es))) stop → Steps k stop e
-    → Stops (first n (map_visits root d ms)) e
+pub stops_map : (root : Bool) (n d : ℕ) (ms : Members) (es : List (List ℕ × Json)) (k : List ℕ) (stop e : Stop) → value_at (word Properties) ms ≡ Some (object (members_of es)) → k ≡ word Properties → StopsSchemaReading (first n (each_visits root d (members_of es))) stop → Steps k stop e
+    → StopsSchemaReading (first n (map_visits root d ms)) e
 stops_map root n d ms es k stop e found spelled h step =
     let steps : Steps (word Properties) stop e = subst (λ (l : List ℕ). Steps l stop e) spelled step in
-    subst (λ (vs : List Visit). Stops (first n vs) e) (sym (map_visits-some root d ms (object (members_of es)) found)) (stops-within (named (word Properties)) n (each_visits root d (members_of es)) stop e steps h)
+    subst (λ (vs : List Visit). StopsSchemaReading (first n vs) e) (sym (map_visits-some root d ms (object (members_of es)) found)) (stops-within (named (word Properties)) n (each_visits root d (members_of es)) stop e steps h)
 
 pub passes_map : (root : Bool) (n m d : ℕ) (ms : Members) (es : List (List ℕ × Json)) → value_at (word Properties) ms ≡ Some (object (members_of es)) → Passes n m (each_visits root d (members_of es)) → Passes n m (map_visits root d ms)
 passes_map root n m d ms es found p =
@@ -58,21 +58,21 @@ each_at root d fs i f within is =
     ap (From root d) there ∙ ap (λ (k : ℕ). Here root d f (passed_type root f.name.bytes) ++ From root d (drop k fs)) (sym (add-one i))
 
 stops_here : (root : Bool) (n d : ℕ) (fs : List Field) (i : ℕ) (f : Field) (o : Option (List ℕ)) (vs : List Visit) (k : List ℕ) (stop e : Stop) → i < length fs → f ≡ get_or fs i f → passed_type root f.name.bytes ≡ o → property_visits o (json f.value) (visits false (d + 1) (json f.value)) ≡ vs
-    → k ≡ f.name.bytes → Stops (first n vs) stop → Steps k stop e → Stops (first n (From root d (drop i fs))) e
+    → k ≡ f.name.bytes → StopsSchemaReading (first n vs) stop → Steps k stop e → StopsSchemaReading (first n (From root d (drop i fs))) e
 stops_here root n d fs i f o vs k stop e within is passed seen spelled h step =
     let steps : Steps f.name.bytes stop e = subst (λ (l : List ℕ). Steps l stop e) spelled step in
-    let inner : Stops (first n (property_visits o (json f.value) (visits false (d + 1) (json f.value)))) stop = subst (λ (ws : List Visit). Stops (first n ws) stop) (sym seen) h in
-    let one : Stops (first n (Here root d f o)) e = stops-within (named f.name.bytes) n (property_visits o (json f.value) (visits false (d + 1) (json f.value))) stop e steps inner in
-    let here : Stops (first n (Here root d f (passed_type root f.name.bytes))) e = subst (λ (p : Option (List ℕ)). Stops (first n (Here root d f p)) e) (sym passed) one in
-    subst (λ (ws : List Visit). Stops (first n ws) e) (sym (each_at root d fs i f within is)) (stops-first n (Here root d f (passed_type root f.name.bytes)) (From root d (drop (i + 1) fs)) e here)
+    let inner : StopsSchemaReading (first n (property_visits o (json f.value) (visits false (d + 1) (json f.value)))) stop = subst (λ (ws : List Visit). StopsSchemaReading (first n ws) stop) (sym seen) h in
+    let one : StopsSchemaReading (first n (Here root d f o)) e = stops-within (named f.name.bytes) n (property_visits o (json f.value) (visits false (d + 1) (json f.value))) stop e steps inner in
+    let here : StopsSchemaReading (first n (Here root d f (passed_type root f.name.bytes))) e = subst (λ (p : Option (List ℕ)). StopsSchemaReading (first n (Here root d f p)) e) (sym passed) one in
+    subst (λ (ws : List Visit). StopsSchemaReading (first n ws) e) (sym (each_at root d fs i f within is)) (stops-first n (Here root d f (passed_type root f.name.bytes)) (From root d (drop (i + 1) fs)) e here)
 
-pub stopped_node : (root : Bool) (n d : ℕ) (fs : List Field) (i : ℕ) (f : Field) (k l : List ℕ) (stop e : Stop) → i < length fs → f ≡ get_or fs i f → None ≡ passed_type root k → k ≡ f.name.bytes → l ≡ f.name.bytes → Stops (first n (visits false (d + 1) (json f.value))) stop → Steps l stop e
-    → Stops (first n (From root d (drop i fs))) e
+pub stopped_node : (root : Bool) (n d : ℕ) (fs : List Field) (i : ℕ) (f : Field) (k l : List ℕ) (stop e : Stop) → i < length fs → f ≡ get_or fs i f → None ≡ passed_type root k → k ≡ f.name.bytes → l ≡ f.name.bytes → StopsSchemaReading (first n (visits false (d + 1) (json f.value))) stop → Steps l stop e
+    → StopsSchemaReading (first n (From root d (drop i fs))) e
 stopped_node root n d fs i f k l stop e within is passed named_is spelled h step =
     stops_here root n d fs i f None (visits false (d + 1) (json f.value)) l stop e within is (sym (passed ∙ ap (passed_type root) named_is)) refl spelled h step
 
-pub stopped_meta : (root : Bool) (n d : ℕ) (fs : List Field) (i : ℕ) (f : Field) (t k l : List ℕ) (stop e : Stop) → i < length fs → f ≡ get_or fs i f → Some t ≡ passed_type root k → k ≡ f.name.bytes → l ≡ f.name.bytes → Stops (first 0 (meta_visits t (json f.value))) stop → Steps l stop e
-    → Stops (first n (From root d (drop i fs))) e
+pub stopped_meta : (root : Bool) (n d : ℕ) (fs : List Field) (i : ℕ) (f : Field) (t k l : List ℕ) (stop e : Stop) → i < length fs → f ≡ get_or fs i f → Some t ≡ passed_type root k → k ≡ f.name.bytes → l ≡ f.name.bytes → StopsSchemaReading (first 0 (meta_visits t (json f.value))) stop → Steps l stop e
+    → StopsSchemaReading (first n (From root d (drop i fs))) e
 stopped_meta root n d fs i f t k l stop e within is passed named_is spelled h step =
     stops_here root n d fs i f (Some t) (meta_visits t (json f.value)) l stop e within is (sym (passed ∙ ap (passed_type root) named_is)) refl spelled (stops-keywords n (meta_visits t (json f.value)) stop (keywords-meta t (json f.value)) h) step
 

@@ -10,7 +10,7 @@ use Rattle.schema_reading.specs.Words.{word}
 use Rattle.schema_reading.specs.Allowed.{is_allowed, additional_allowed, items_allowed}
 use Rattle.schema_reading.specs.Visit.{keyword, Visit, Refusal, refused_at, after, first}
 use Rattle.schema_reading.specs.Visits.{in_part, tries, part_visits, unallowed, is_meta_type, meta_rest, meta_typed, meta_object, meta_visits, additional_visits, items_visits, typed_visits, type_visits, default_visits}
-use Rattle.schema_reading.specs.Told.{Stops}
+use Rattle.schema_reading.specs.Told.{StopsSchemaReading}
 use Rattle.schema_reading.specs.declared.trouble.Stop.{Stop}
 use Rattle.schema_reading.specs.declared.words.Keyword.{Keyword}
 use Rattle.schema_reading.specs.declared.words.Keyword.TheVariants.{Additional, Default, Items as ItemsWord, Kind as TypeWord}
@@ -85,14 +85,14 @@ keywords-meta w (object ms) = keywords-object w ms
 pub part_passes : (p : Part) (s : Scope) (ms : Members) → option_map (refused_at []) (unallowed p s ms) ≡ None → first 0 (part_visits p s ms) ≡ None
 part_passes p s ms e = first-part 0 p s ms ∙ e
 
-pub part_stops : (p : Part) (s : Scope) (ms : Members) (e : Stop) → Stops (option_map (refused_at []) (unallowed p s ms)) e → Stops (first 0 (part_visits p s ms)) e
-part_stops p s ms e h = subst (λ (o : Option Refusal). Stops o e) (sym (first-part 0 p s ms)) h
+pub part_stops : (p : Part) (s : Scope) (ms : Members) (e : Stop) → StopsSchemaReading (option_map (refused_at []) (unallowed p s ms)) e → StopsSchemaReading (first 0 (part_visits p s ms)) e
+part_stops p s ms e h = subst (λ (o : Option Refusal). StopsSchemaReading o e) (sym (first-part 0 p s ms)) h
 
 pub tries_pass : (w : Keyword) (b : Bool) → cond b None (Some (refused_at [] (word w))) ≡ None → first 0 (tries w b) ≡ None
 tries_pass w b e = first-tries 0 w b ∙ e
 
-pub tries_stop : (w : Keyword) (b : Bool) (e : Stop) → Stops (cond b None (Some (refused_at [] (word w)))) e → Stops (first 0 (tries w b)) e
-tries_stop w b e h = subst (λ (o : Option Refusal). Stops o e) (sym (first-tries 0 w b)) h
+pub tries_stop : (w : Keyword) (b : Bool) (e : Stop) → StopsSchemaReading (cond b None (Some (refused_at [] (word w)))) e → StopsSchemaReading (first 0 (tries w b)) e
+tries_stop w b e h = subst (λ (o : Option Refusal). StopsSchemaReading o e) (sym (first-tries 0 w b)) h
 
 -- two lists of keywords, one after the other
 
@@ -100,7 +100,7 @@ pub both_pass : (xs ys : List Visit) → AreKeywords xs → first 0 xs ≡ None 
 both_pass xs ys k p q =
     first-append 0 xs ys ∙ ap (λ (o : Option Refusal). or_else o (first (after 0 xs) ys)) p ∙ ap (λ (n : ℕ). first n ys) (after-keywords 0 xs k) ∙ q
 
-pub second_stops : (xs ys : List Visit) (e : Stop) → AreKeywords xs → first 0 xs ≡ None → Stops (first 0 ys) e → Stops (first 0 (xs ++ ys)) e
+pub second_stops : (xs ys : List Visit) (e : Stop) → AreKeywords xs → first 0 xs ≡ None → StopsSchemaReading (first 0 ys) e → StopsSchemaReading (first 0 (xs ++ ys)) e
 second_stops xs ys e k p h = stops-then 0 0 xs ys e (passes-keywords 0 xs k p) h
 
 -- one after the other, the first of which passed

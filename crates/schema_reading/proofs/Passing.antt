@@ -3,7 +3,7 @@ use Rattle.std.proofs.Common.{◌≡◌, ℕ, List, [], ◌∷◌, ◌++◌, con
 use Rattle.struct_schema.specs.Path.{Step}
 use Rattle.struct_schema.specs.Fault.{or_else}
 use Rattle.schema_reading.specs.Visit.{Tried, entered, keyword, Visit, Refusal, within, counted, denied, refused_at, after, first, under}
-use Rattle.schema_reading.specs.Told.{Names, Stops, Passes}
+use Rattle.schema_reading.specs.Told.{NamesSchemaFault, StopsSchemaReading, Passes}
 use Rattle.schema_reading.specs.declared.trouble.Stop.{Stop}
 use Rattle.schema_reading.specs.declared.trouble.Stop.TheVariants.{Found, Starved}
 use Rattle.schema_reading.specs.declared.trouble.Spot.{Spot}
@@ -48,26 +48,26 @@ passes-within s n m vs p =
 
 -- ---- and tries that don't
 
-pub stops-starved : (o : Option Refusal) → Stops o Starved
+pub stops-starved : (o : Option Refusal) → StopsSchemaReading o Starved
 stops-starved None = tt
 stops-starved (Some r) = tt
 
-pub stops-or_else : (o p : Option Refusal) (e : Stop) → Stops o e → Stops (or_else o p) e
+pub stops-or_else : (o p : Option Refusal) (e : Stop) → StopsSchemaReading o e → StopsSchemaReading (or_else o p) e
 stops-or_else o p Starved h = stops-starved (or_else o p)
 stops-or_else None p (Found s) h = absurd h
 stops-or_else (Some r) p (Found s) h = h
 
-pub stops-first : (n : ℕ) (xs ys : List Visit) (e : Stop) → Stops (first n xs) e → Stops (first n (xs ++ ys)) e
+pub stops-first : (n : ℕ) (xs ys : List Visit) (e : Stop) → StopsSchemaReading (first n xs) e → StopsSchemaReading (first n (xs ++ ys)) e
 stops-first n xs ys e h =
-    subst (λ (o : Option Refusal). Stops o e) (sym (first-append n xs ys)) (stops-or_else (first n xs) (first (after n xs) ys) e h)
+    subst (λ (o : Option Refusal). StopsSchemaReading o e) (sym (first-append n xs ys)) (stops-or_else (first n xs) (first (after n xs) ys) e h)
 
-pub stops-then : (n m : ℕ) (xs ys : List Visit) (e : Stop) → Passes n m xs → Stops (first m ys) e → Stops (first n (xs ++ ys)) e
+pub stops-then : (n m : ℕ) (xs ys : List Visit) (e : Stop) → Passes n m xs → StopsSchemaReading (first m ys) e → StopsSchemaReading (first n (xs ++ ys)) e
 stops-then n m xs ys e p h =
-    subst (λ (o : Option Refusal). Stops o e) (sym (first-append n xs ys ∙ ap (λ (o : Option Refusal). or_else o (first (after n xs) ys)) p.0 ∙ ap (λ (k : ℕ). first k ys) (sym p.1))) h
+    subst (λ (o : Option Refusal). StopsSchemaReading o e) (sym (first-append n xs ys ∙ ap (λ (o : Option Refusal). or_else o (first (after n xs) ys)) p.0 ∙ ap (λ (k : ℕ). first k ys) (sym p.1))) h
 
-pub stops-within : (s : Step) (n : ℕ) (vs : List Visit) (inner e : Stop) → ((o : Option Refusal) → Stops o inner → Stops (under s o) e) → Stops (first n vs) inner → Stops (first n (within s vs)) e
+pub stops-within : (s : Step) (n : ℕ) (vs : List Visit) (inner e : Stop) → ((o : Option Refusal) → StopsSchemaReading o inner → StopsSchemaReading (under s o) e) → StopsSchemaReading (first n vs) inner → StopsSchemaReading (first n (within s vs)) e
 stops-within s n vs inner e step h =
-    subst (λ (o : Option Refusal). Stops o e) (sym (first-within s n vs)) (step (first n vs) h)
+    subst (λ (o : Option Refusal). StopsSchemaReading o e) (sym (first-within s n vs)) (step (first n vs) h)
 
 -- ---- tries of keywords alone, before which no node counts
 
@@ -102,15 +102,15 @@ first-keywords n m (v ∷ vs) p = by_case v.tried p.0 (first-keywords n m vs p.1
 pub passes-keywords : (n : ℕ) (vs : List Visit) → AreKeywords vs → first 0 vs ≡ None → Passes n n vs
 passes-keywords n vs p e = (first-keywords n 0 vs p ∙ e, sym (after-keywords n vs p))
 
-pub stops-keywords : (n : ℕ) (vs : List Visit) (e : Stop) → AreKeywords vs → Stops (first 0 vs) e → Stops (first n vs) e
-stops-keywords n vs e p h = subst (λ (o : Option Refusal). Stops o e) (first-keywords 0 n vs p) h
+pub stops-keywords : (n : ℕ) (vs : List Visit) (e : Stop) → AreKeywords vs → StopsSchemaReading (first 0 vs) e → StopsSchemaReading (first n vs) e
+stops-keywords n vs e p h = subst (λ (o : Option Refusal). StopsSchemaReading o e) (first-keywords 0 n vs p) h
 
 -- ---- as it is told
 
-pub starved_names : (o : Option Refusal) → Names o NoMemory
+pub starved_names : (o : Option Refusal) → NamesSchemaFault o NoMemory
 starved_names None = tt
 starved_names (Some r) = tt
 
-pub found_names : (o : Option Refusal) (s : Spot) → Stops o (Found s) → Names o (Refused s.path s.keyword)
+pub found_names : (o : Option Refusal) (s : Spot) → StopsSchemaReading o (Found s) → NamesSchemaFault o (Refused s.path s.keyword)
 found_names None s h = absurd h
 found_names (Some r) s h = (h.0, h.2)

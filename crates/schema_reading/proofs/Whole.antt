@@ -7,7 +7,7 @@ use Rattle.struct_schema.specs.declared.kind.NodeKind.{NodeKind}
 use Rattle.schema_reading.specs.Words.{word}
 use Rattle.schema_reading.specs.Visit.{Visit, first}
 use Rattle.schema_reading.specs.Visits.{additional_visits, items_visits, type_visits, inner_visits, map_visits, default_visits}
-use Rattle.schema_reading.specs.Told.{Stops, Passes}
+use Rattle.schema_reading.specs.Told.{StopsSchemaReading, Passes}
 use Rattle.schema_reading.specs.declared.words.Keyword.TheVariants.{Additional, Default, Items as ItemsWord}
 use Rattle.schema_reading.specs.declared.trouble.Stop.{Stop}
 use Rattle.schema_reading.proofs.Passing.{passes-append, passes-keywords, stops-first, stops-then, stops-keywords}
@@ -35,31 +35,31 @@ module _ (k : Option NodeKind) (s : Shape) (root : Bool) (d : ℕ) (ms : Members
   pass_2 n m e p =
       passes-append n n m (items_visits k ms) (inner_visits ItemsWord d ms) (passes-keywords n (items_visits k ms) (keywords-items k ms) e) p
 
-  pub stop_additional : (n : ℕ) (e : Stop) → Stops (first 0 (additional_visits k ms)) e → Stops (first n (object_by k s root d ms)) e
+  pub stop_additional : (n : ℕ) (e : Stop) → StopsSchemaReading (first 0 (additional_visits k ms)) e → StopsSchemaReading (first n (object_by k s root d ms)) e
   stop_additional n e h =
       stops-first n (G1 k d ms) (G2 k d ms ++ (type_visits root k ms ++ (map_visits root d ms ++ Last root s ms))) e (stops-first n (additional_visits k ms) (inner_visits Additional d ms) e (stops-keywords n (additional_visits k ms) e (keywords-additional k ms) h))
 
-  pub stop_inner : (n : ℕ) (e : Stop) → first 0 (additional_visits k ms) ≡ None → Stops (first n (inner_visits Additional d ms)) e → Stops (first n (object_by k s root d ms)) e
+  pub stop_inner : (n : ℕ) (e : Stop) → first 0 (additional_visits k ms) ≡ None → StopsSchemaReading (first n (inner_visits Additional d ms)) e → StopsSchemaReading (first n (object_by k s root d ms)) e
   stop_inner n e a h =
       stops-first n (G1 k d ms) (G2 k d ms ++ (type_visits root k ms ++ (map_visits root d ms ++ Last root s ms))) e (stops-then n n (additional_visits k ms) (inner_visits Additional d ms) e (passes-keywords n (additional_visits k ms) (keywords-additional k ms) a) h)
 
-  pub stop_items : (n m : ℕ) (e : Stop) → Passes n m (G1 k d ms) → Stops (first 0 (items_visits k ms)) e → Stops (first n (object_by k s root d ms)) e
+  pub stop_items : (n m : ℕ) (e : Stop) → Passes n m (G1 k d ms) → StopsSchemaReading (first 0 (items_visits k ms)) e → StopsSchemaReading (first n (object_by k s root d ms)) e
   stop_items n m e p h =
       stops-then n m (G1 k d ms) (G2 k d ms ++ (type_visits root k ms ++ (map_visits root d ms ++ Last root s ms))) e p (stops-first m (G2 k d ms) (type_visits root k ms ++ (map_visits root d ms ++ Last root s ms)) e (stops-first m (items_visits k ms) (inner_visits ItemsWord d ms) e (stops-keywords m (items_visits k ms) e (keywords-items k ms) h)))
 
-  pub stop_element : (n m : ℕ) (e : Stop) → Passes n m (G1 k d ms) → first 0 (items_visits k ms) ≡ None → Stops (first m (inner_visits ItemsWord d ms)) e → Stops (first n (object_by k s root d ms)) e
+  pub stop_element : (n m : ℕ) (e : Stop) → Passes n m (G1 k d ms) → first 0 (items_visits k ms) ≡ None → StopsSchemaReading (first m (inner_visits ItemsWord d ms)) e → StopsSchemaReading (first n (object_by k s root d ms)) e
   stop_element n m e p b h =
       stops-then n m (G1 k d ms) (G2 k d ms ++ (type_visits root k ms ++ (map_visits root d ms ++ Last root s ms))) e p (stops-first m (G2 k d ms) (type_visits root k ms ++ (map_visits root d ms ++ Last root s ms)) e (stops-then m m (items_visits k ms) (inner_visits ItemsWord d ms) e (passes-keywords m (items_visits k ms) (keywords-items k ms) b) h))
 
-  pub stop_type : (n m l : ℕ) (e : Stop) → Passes n m (G1 k d ms) → Passes m l (G2 k d ms) → Stops (first 0 (type_visits root k ms)) e → Stops (first n (object_by k s root d ms)) e
+  pub stop_type : (n m l : ℕ) (e : Stop) → Passes n m (G1 k d ms) → Passes m l (G2 k d ms) → StopsSchemaReading (first 0 (type_visits root k ms)) e → StopsSchemaReading (first n (object_by k s root d ms)) e
   stop_type n m l e p q h =
       stops-then n m (G1 k d ms) (G2 k d ms ++ (type_visits root k ms ++ (map_visits root d ms ++ Last root s ms))) e p (stops-then m l (G2 k d ms) (type_visits root k ms ++ (map_visits root d ms ++ Last root s ms)) e q (stops-first l (type_visits root k ms) (map_visits root d ms ++ Last root s ms) e (stops-keywords l (type_visits root k ms) e (keywords-type root k ms) h)))
 
-  pub stop_map : (n m l : ℕ) (e : Stop) → Passes n m (G1 k d ms) → Passes m l (G2 k d ms) → first 0 (type_visits root k ms) ≡ None → Stops (first l (map_visits root d ms)) e → Stops (first n (object_by k s root d ms)) e
+  pub stop_map : (n m l : ℕ) (e : Stop) → Passes n m (G1 k d ms) → Passes m l (G2 k d ms) → first 0 (type_visits root k ms) ≡ None → StopsSchemaReading (first l (map_visits root d ms)) e → StopsSchemaReading (first n (object_by k s root d ms)) e
   stop_map n m l e p q t h =
       stops-then n m (G1 k d ms) (G2 k d ms ++ (type_visits root k ms ++ (map_visits root d ms ++ Last root s ms))) e p (stops-then m l (G2 k d ms) (type_visits root k ms ++ (map_visits root d ms ++ Last root s ms)) e q (stops-then l l (type_visits root k ms) (map_visits root d ms ++ Last root s ms) e (passes-keywords l (type_visits root k ms) (keywords-type root k ms) t) (stops-first l (map_visits root d ms) (Last root s ms) e h)))
 
-  pub stop_default : (n m l j : ℕ) (e : Stop) → Passes n m (G1 k d ms) → Passes m l (G2 k d ms) → first 0 (type_visits root k ms) ≡ None → Passes l j (map_visits root d ms) → Stops (first 0 (Last root s ms)) e → Stops (first n (object_by k s root d ms)) e
+  pub stop_default : (n m l j : ℕ) (e : Stop) → Passes n m (G1 k d ms) → Passes m l (G2 k d ms) → first 0 (type_visits root k ms) ≡ None → Passes l j (map_visits root d ms) → StopsSchemaReading (first 0 (Last root s ms)) e → StopsSchemaReading (first n (object_by k s root d ms)) e
   stop_default n m l j e p q t r h =
       stops-then n m (G1 k d ms) (G2 k d ms ++ (type_visits root k ms ++ (map_visits root d ms ++ Last root s ms))) e p (stops-then m l (G2 k d ms) (type_visits root k ms ++ (map_visits root d ms ++ Last root s ms)) e q (stops-then l l (type_visits root k ms) (map_visits root d ms ++ Last root s ms) e (passes-keywords l (type_visits root k ms) (keywords-type root k ms) t) (stops-then l j (map_visits root d ms) (Last root s ms) e r (stops-keywords j (Last root s ms) e (keywords-default root s (value_at (word Default) ms)) h))))
 

@@ -7,16 +7,16 @@ use Rattle.schema_reading.specs.declared.trouble.SchemaFault.TheVariants.{Refuse
 use Rattle.schema_reading.specs.declared.trouble.Stop.{Stop}
 use Rattle.schema_reading.specs.declared.trouble.Stop.TheVariants.{Found, Starved}
 
-abbrev pub Names : Option Refusal → SchemaFault → Type 0
-Names o NoMemory = Unit {0}
-Names None (Refused path keyword) = ⊥
-Names (Some r) (Refused path keyword) = (path.bytes ≡ path_text r.path) × (keyword.bytes ≡ r.keyword)
+abbrev pub NamesSchemaFault : Option Refusal → SchemaFault → Type 0
+NamesSchemaFault o NoMemory = Unit {0}
+NamesSchemaFault None (Refused path keyword) = ⊥
+NamesSchemaFault (Some r) (Refused path keyword) = (path.bytes ≡ path_text r.path) × (keyword.bytes ≡ r.keyword)
 
 -- for private clauses: the same on the way out of the walk
-abbrev pub Stops : Option Refusal → Stop → Type 0
-Stops o Starved = Unit {0}
-Stops None (Found s) = ⊥
-Stops (Some r) (Found s) = (s.path.bytes ≡ path_text r.path) × (s.named ≡ starts_named r.path) × (s.keyword.bytes ≡ r.keyword)
+abbrev pub StopsSchemaReading : Option Refusal → Stop → Type 0
+StopsSchemaReading o Starved = Unit {0}
+StopsSchemaReading None (Found s) = ⊥
+StopsSchemaReading (Some r) (Found s) = (s.path.bytes ≡ path_text r.path) × (s.named ≡ starts_named r.path) × (s.keyword.bytes ≡ r.keyword)
 
 -- for private clauses: nothing of some tries is refused, and the count of nodes goes on
 abbrev pub Passes : ℕ → ℕ → List Visit → Type 0

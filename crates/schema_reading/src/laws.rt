@@ -1,7 +1,7 @@
 //! Laws of what is accepted. Each function does nothing, and its clauses are the law.
 ghost use Rattle.std.specs.Prelude.{◌≡◌, None, true};
 ghost use Rattle.kj_value.specs.Json.{Json};
-ghost use Rattle.kj_value.specs.Sound.{IsSound};
+ghost use Rattle.kj_value.specs.Sound.{IsSoundJson};
 ghost use Rattle.struct_schema.specs.Shape.{Shape};
 ghost use Rattle.struct_schema.specs.Filled.{Filled};
 ghost use Rattle.struct_schema.specs.Stays.{stays};
@@ -18,5 +18,5 @@ pub fn accepts()
 /// is itself.
 pub fn own_fillings()
     ensures stays { (s : Shape) (d : Json) → stays s d ≡ true → Filled s d d }
-    ensures filled { (s : Shape) (d : Json) → IsSound d → Filled s d d → stays s d ≡ true }
+    ensures filled { (s : Shape) (d : Json) → IsSoundJson d → Filled s d d → stays s d ≡ true }
 {}

@@ -6,7 +6,7 @@ ghost use Rattle.struct_schema.specs.Names.{value_at};
 ghost use Rattle.schema_reading.specs.Words.{word};
 ghost use Rattle.schema_reading.specs.Visit.{refused_at, first};
 ghost use Rattle.schema_reading.specs.Visits.{in_part, is_below, unallowed, is_meta_type, meta_rest, meta_typed, meta_visits, meta_object, additional_visits, items_visits, typed_visits, type_visits};
-ghost use Rattle.schema_reading.specs.Told.{Stops};
+ghost use Rattle.schema_reading.specs.Told.{StopsSchemaReading};
 
 use crate::keywords::{additional_allowed, is_allowed, items_allowed};
 use crate::kinds::{is_absent, type_allowed, value_at};
@@ -52,7 +52,7 @@ pub(crate) fn try_part(
     fields: &JFields,
 ) -> Result<(), Stop>
     ensures { let o = option_map (refused_at []) (unallowed part scope (members_of fields.now)) in
-        MatchResult result (λ _. o ≡ None) (λ e. Stops o e) }
+        MatchResult result (λ _. o ≡ None) (λ e. StopsSchemaReading o e) }
 {
     for f in fields.as_slice() {
         if in_part(part, f.name.as_str()) {
@@ -67,7 +67,7 @@ pub(crate) fn try_part(
 // One keyword, allowed or not.
 pub(crate) fn try_keyword(alloc: Global, keyword: Keyword, allowed: bool) -> Result<(), Stop>
     ensures { let o = cond allowed None (Some (refused_at [] (word keyword))) in
-        MatchResult result (λ _. o ≡ None) (λ e. Stops o e) }
+        MatchResult result (λ _. o ≡ None) (λ e. StopsSchemaReading o e) }
 {
     if allowed {
         Ok(())
@@ -89,7 +89,7 @@ fn is_meta_type(text: &str, v: Option<&JVal>) -> bool
 // What comes behind the type, with the default.
 fn try_meta_rest(alloc: Global, fields: &JFields) -> Result<(), Stop>
     ensures { let o = first 0 (meta_rest (members_of fields.now)) in
-        MatchResult result (λ _. o ≡ None) (λ e. Stops o e) }
+        MatchResult result (λ _. o ≡ None) (λ e. StopsSchemaReading o e) }
 {
     match try_part(alloc, Part::AfterType, Scope::Meta, fields) {
         Err(stop) => Err(stop),
@@ -102,7 +102,7 @@ fn try_meta_rest(alloc: Global, fields: &JFields) -> Result<(), Stop>
 
 fn try_meta_type(alloc: Global, text: &str, fields: &JFields) -> Result<(), Stop>
     ensures { let o = first 0 (meta_typed text.now (members_of fields.now)) in
-        MatchResult result (λ _. o ≡ None) (λ e. Stops o e) }
+        MatchResult result (λ _. o ≡ None) (λ e. StopsSchemaReading o e) }
 {
     let is_right = is_meta_type(text, value_at(fields, Keyword::Kind));
     match try_keyword(alloc, Keyword::Kind, is_right) {
@@ -113,7 +113,7 @@ fn try_meta_type(alloc: Global, text: &str, fields: &JFields) -> Result<(), Stop
 
 fn try_meta_object(alloc: Global, text: &str, fields: &JFields) -> Result<(), Stop>
     ensures { let o = first 0 (meta_object text.now (members_of fields.now)) in
-        MatchResult result (λ _. o ≡ None) (λ e. Stops o e) }
+        MatchResult result (λ _. o ≡ None) (λ e. StopsSchemaReading o e) }
 {
     match try_part(alloc, Part::AnyBeforeType, Scope::Meta, fields) {
         Err(stop) => Err(stop),
@@ -124,7 +124,7 @@ fn try_meta_object(alloc: Global, text: &str, fields: &JFields) -> Result<(), St
 // The schema of a name that the root passes over, which has this type.
 pub(crate) fn try_meta(alloc: Global, text: &str, doc: &JVal) -> Result<(), Stop>
     ensures { let o = first 0 (meta_visits text.now (json doc.now)) in
-        MatchResult result (λ _. o ≡ None) (λ e. Stops o e) }
+        MatchResult result (λ _. o ≡ None) (λ e. StopsSchemaReading o e) }
 {
     match doc {
         JVal::Obj(fields) => try_meta_object(alloc, text, fields),
@@ -143,7 +143,7 @@ pub(crate) fn try_additional(
     fields: &JFields,
 ) -> Result<(), Stop>
     ensures { let o = first 0 (additional_visits kind (members_of fields.now)) in
-        MatchResult result (λ _. o ≡ None) (λ e. Stops o e) }
+        MatchResult result (λ _. o ≡ None) (λ e. StopsSchemaReading o e) }
 {
     match try_part(alloc, Part::BeforeAdditional, Scope::Node(kind), fields) {
         Err(stop) => Err(stop),
@@ -161,7 +161,7 @@ pub(crate) fn try_additional(
 // Those from there up to `items`.
 pub(crate) fn try_items(alloc: Global, kind: Option<NodeKind>, fields: &JFields) -> Result<(), Stop>
     ensures { let o = first 0 (items_visits kind (members_of fields.now)) in
-        MatchResult result (λ _. o ≡ None) (λ e. Stops o e) }
+        MatchResult result (λ _. o ≡ None) (λ e. StopsSchemaReading o e) }
 {
     match try_part(alloc, Part::BeforeItems, Scope::Node(kind), fields) {
         Err(stop) => Err(stop),
@@ -180,7 +180,7 @@ fn try_typed(
     fields: &JFields,
 ) -> Result<(), Stop>
     ensures { let o = first 0 (typed_visits root kind (members_of fields.now)) in
-        MatchResult result (λ _. o ≡ None) (λ e. Stops o e) }
+        MatchResult result (λ _. o ≡ None) (λ e. StopsSchemaReading o e) }
 {
     match try_keyword(alloc, Keyword::Kind, type_allowed(root, kind)) {
         Err(stop) => Err(stop),
@@ -196,7 +196,7 @@ pub(crate) fn try_type(
     fields: &JFields,
 ) -> Result<(), Stop>
     ensures { let o = first 0 (type_visits root kind (members_of fields.now)) in
-        MatchResult result (λ _. o ≡ None) (λ e. Stops o e) }
+        MatchResult result (λ _. o ≡ None) (λ e. StopsSchemaReading o e) }
 {
     match try_part(alloc, Part::BeforeType, Scope::Node(kind), fields) {
         Err(stop) => Err(stop),

@@ -2,7 +2,7 @@
 ghost use Rattle.std.specs.Prelude.{◌≡◌, ◌++◌, [], ◌∷◌, IfOk, Option, Some, false, true, codes};
 ghost use Rattle.struct_schema.specs.Path.{named, point};
 ghost use Rattle.schema_reading.specs.Visit.{Refusal, under, refused_at};
-ghost use Rattle.schema_reading.specs.Told.{Stops};
+ghost use Rattle.schema_reading.specs.Told.{StopsSchemaReading};
 
 use kj_value::{NoMemory, Txt};
 use std::alloc::Global;
@@ -57,7 +57,7 @@ fn spot_here(alloc: Global, keyword: &str) -> Result<Spot, NoMemory>
 
 // A keyword that is refused at the node itself.
 pub(crate) fn refused_here(alloc: Global, keyword: &str) -> Stop
-    ensures { Stops (Some (refused_at [] keyword.now)) result }
+    ensures { StopsSchemaReading (Some (refused_at [] keyword.now)) result }
 {
     match spot_here(alloc, keyword) {
         Ok(spot) => Stop::Found(spot),
@@ -91,7 +91,7 @@ fn stepped(alloc: Global, name: &str, inner: Spot) -> Result<Spot, NoMemory>
 
 // The end of a walk under a name, as that of the walk around it.
 pub(crate) fn under_name(alloc: Global, name: &str, stop: Stop) -> Stop
-    ensures { (o : Option Refusal) → Stops o stop → Stops (under (named name.now) o) result }
+    ensures { (o : Option Refusal) → StopsSchemaReading o stop → StopsSchemaReading (under (named name.now) o) result }
 {
     match stop {
         Stop::Starved => Stop::Starved,

@@ -10,7 +10,7 @@ ghost use Rattle.schema_reading.specs.Words.{word};
 ghost use Rattle.schema_reading.specs.ShapeRead.{shape_read, inner_read, map_read, shapes_read, with_default};
 ghost use Rattle.schema_reading.specs.Visit.{first};
 ghost use Rattle.schema_reading.specs.Visits.{visits, object_visits, inner_visits, map_visits, each_visits, default_visits, first_refusal};
-ghost use Rattle.schema_reading.specs.Told.{Names, Stops, Passes};
+ghost use Rattle.schema_reading.specs.Told.{NamesSchemaFault, StopsSchemaReading, Passes};
 
 use crate::defaults::default_allowed;
 use crate::kinds::{node_kind, value_at};
@@ -43,7 +43,7 @@ pub fn read_schema(alloc: Global, doc: &JVal) -> Result<Schema, SchemaFault>
     ensures read { IfOk result (λ s. shape_of s ≡ shape_read true (json doc.now)) }
     ensures own_defaults { IfOk result (λ s. HasOwnDefaults (shape_of s)) }
     ensures allowed { OnOk result (first_refusal (json doc.now) ≡ None) }
-    ensures refused { IfErr result (λ e. Names (first_refusal (json doc.now)) e) }
+    ensures refused { IfErr result (λ e. NamesSchemaFault (first_refusal (json doc.now)) e) }
 {
     let mut nodes = 0;
     match read_node(alloc, true, 0, &mut nodes, doc) {
@@ -90,7 +90,7 @@ fn read_default(
         ≡ value_at (word Keyword.Default) (members_of fields.now)) }
     ensures walk { let o = first 0 (default_visits root (shape_of s.now)
         (value_at (word Keyword.Default) (members_of fields.now))) in
-        MatchResult result (λ _. o ≡ None) (λ e. Stops o e) }
+        MatchResult result (λ _. o ≡ None) (λ e. StopsSchemaReading o e) }
 {
     match value_at(fields, Keyword::Default) {
         None => Ok(None),
@@ -132,7 +132,7 @@ fn read_node(
     requires { depth ≤ MAX_NESTING + 1 }
     ensures read { IfOk result (λ s. shape_of s ≡ shape_read root (json doc.now)) }
     ensures walk { let v = visits root depth (json doc.now) in
-        MatchResult result (λ _. Passes nodes.old nodes.new v) (λ e. Stops (first nodes.old v) e) }
+        MatchResult result (λ _. Passes nodes.old nodes.new v) (λ e. StopsSchemaReading (first nodes.old v) e) }
 {
     if *nodes >= MAX_NODES {
         return Err(refused_here(alloc, limit_word()));
@@ -163,7 +163,7 @@ fn read_object(
     requires { depth ≤ MAX_NESTING }
     ensures read { IfOk result (λ s. shape_of s ≡ shape_read root (object (members_of fields.now))) }
     ensures walk { let v = object_visits root depth (members_of fields.now) in
-        MatchResult result (λ _. Passes nodes.old nodes.new v) (λ e. Stops (first nodes.old v) e) }
+        MatchResult result (λ _. Passes nodes.old nodes.new v) (λ e. StopsSchemaReading (first nodes.old v) e) }
 {
     let kind = node_kind(fields);
     match try_additional(alloc, kind, fields) {
@@ -210,7 +210,7 @@ fn read_inner(
     requires { depth ≤ MAX_NESTING }
     ensures read { IfOk result (λ m. maybe_of m ≡ inner_read keyword (members_of fields.now)) }
     ensures walk { let v = inner_visits keyword depth (members_of fields.now) in
-        MatchResult result (λ _. Passes nodes.old nodes.new v) (λ e. Stops (first nodes.old v) e) }
+        MatchResult result (λ _. Passes nodes.old nodes.new v) (λ e. StopsSchemaReading (first nodes.old v) e) }
 {
     match value_at(fields, keyword) {
         None => Ok(None),
@@ -233,7 +233,7 @@ fn read_properties(
     requires { depth ≤ MAX_NESTING }
     ensures read { IfOk result (λ m. map_of m ≡ map_read root (members_of fields.now)) }
     ensures walk { let v = map_visits root depth (members_of fields.now) in
-        MatchResult result (λ _. Passes nodes.old nodes.new v) (λ e. Stops (first nodes.old v) e) }
+        MatchResult result (λ _. Passes nodes.old nodes.new v) (λ e. StopsSchemaReading (first nodes.old v) e) }
 {
     match properties_of(fields) {
         None => Ok(None),
@@ -255,7 +255,7 @@ fn read_map(
     requires { depth ≤ MAX_NESTING }
     ensures read { IfOk result (λ m. shapes_of m ≡ shapes_read root (members_of named.now)) }
     ensures walk { let v = each_visits root depth (members_of named.now) in
-        MatchResult result (λ _. Passes nodes.old nodes.new v) (λ e. Stops (first nodes.old v) e) }
+        MatchResult result (λ _. Passes nodes.old nodes.new v) (λ e. StopsSchemaReading (first nodes.old v) e) }
 {
     let mut map = SchemaMap::new(alloc);
     for f in named.as_slice() {

@@ -1,5 +1,5 @@
 //! The answers to cases; there is none where a text is no JSON, a schema is refused, or memory is wanted.
-use kj_value::{JVal, MAX_LEVELS, Txt, depth, read, same, write};
+use kj_value::{JVal, MAX_JSON_LEVELS, Txt, depth, read, same, write};
 use prune_default::fill;
 use schema_reading::{SchemaFault, read_schema};
 use std::alloc::Global;
@@ -42,7 +42,7 @@ pub fn answer(alloc: Global, section: &str, case: &str) -> Option<Txt> {
 }
 
 fn document(alloc: Global, text: &str) -> Option<JVal> {
-    read(alloc, text.as_bytes(), MAX_LEVELS).ok()
+    read(alloc, text.as_bytes(), MAX_JSON_LEVELS).ok()
 }
 
 // A document whose one property, `p`, is the node.
@@ -89,7 +89,7 @@ fn stays(alloc: Global, s: &Schema, text: &str) -> Option<Txt> {
 }
 
 fn text_of(alloc: Global, v: &JVal) -> Option<Txt> {
-    if depth(v) > MAX_LEVELS {
+    if depth(v) > MAX_JSON_LEVELS {
         return None;
     }
     write(alloc, v).ok()

@@ -6,7 +6,7 @@ use Rattle.hub_cells.specs.Level.{Cell, Level, level, Inners, no_inner, inner}
 use Rattle.hub_cells.specs.Fit.{Fit, IsFitted}
 use Rattle.keep_laws.specs.Marked.{Marks, Marked, MarkedInners, OrAbsent, AreGood, IsGood, InnersGood}
 use Rattle.keep_laws.specs.Settle.{CellsAllowed, IsAllowed, InnersAllowed, settled, converted}
-use Rattle.keep_laws.specs.Whole.{Held, Ready, IsWhole, marks_of}
+use Rattle.keep_laws.specs.Whole.{Held, Ready, IsWholeOnSide, marks_of}
 
 pub ready : (f : Fit) → IsFitted f → Ready f.level
 ready f h = record { fits = h.fits; spoke_names = h.no_name_twice spoke; hub_names = h.no_name_twice hub }
@@ -28,7 +28,7 @@ mutual
   inners_allowed d (inner a b r l is) ms g =
       (or_absent_both (λ m h. good_allowed d l m h) r ms.0 g.0, inners_allowed d is ms.1 g.1)
 
-pub back_allowed : (d e : Side) (l : Level) (x r : Held) → e ≡ other d → r ≡ converted d l x → IsWhole (other d) l (converted d l x) → IsAllowed e l (marks_of e l r)
+pub back_allowed : (d e : Side) (l : Level) (x r : Held) → e ≡ other d → r ≡ converted d l x → IsWholeOnSide (other d) l (converted d l x) → IsAllowed e l (marks_of e l r)
 back_allowed d e l x r s q w =
     let P : Side → Type 0 = λ f. IsAllowed f l (marks_of f l r) in
     let R : Held → Type 0 = λ y. IsAllowed (other d) l (marks_of (other d) l y) in

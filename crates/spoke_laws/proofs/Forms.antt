@@ -6,7 +6,7 @@ use Rattle.kube_meta.specs.View.{ObjectView}
 use Rattle.kept_entries.specs.declared.entry.Entry.{Entry}
 use Rattle.hub_cells.specs.Side.{hub}
 use Rattle.hub_cells.specs.Level.{Name}
-use Rattle.keep_laws.specs.Whole.{Held, IsWhole, IsPair}
+use Rattle.keep_laws.specs.Whole.{Held, IsWholeOnSide, IsPair}
 use Rattle.keep_laws.specs.Settle.{converted}
 use Rattle.keep_laws.proofs.Fields.{bytes_same, bytes_other}
 use Rattle.spoke_laws.specs.Spokes.{Spoke, Spokes, IsDefinition, api_version}
@@ -59,8 +59,8 @@ module _ (laws : Laws) (all : Spokes) (v : ℕ) (s : Spoke) (def : IsDefinition 
     own_note : IsNoteOf eh (noted (spoke_key s.name) h)
     own_note = subst (λ (es : List Entry). IsNoteOf es (noted (spoke_key s.name) h)) kept_is (whole_own laws all v s def place h w).1
 
-    own_whole : IsWhole hub s.fit.level (with_entries h.body eh)
-    own_whole = subst (λ (es : List Entry). IsWhole hub s.fit.level (with_entries h.body es)) kept_is (whole_own laws all v s def place h w).2
+    own_whole : IsWholeOnSide hub s.fit.level (with_entries h.body eh)
+    own_whole = subst (λ (es : List Entry). IsWholeOnSide hub s.fit.level (with_entries h.body es)) kept_is (whole_own laws all v s def place h w).2
 
     note_pair : (k : Name) → NotePair s ex eh (key_kind all k) (noted k x) (noted k h)
     note_pair k = by_hub (name_cases k hub_key)
@@ -95,5 +95,5 @@ module _ (laws : Laws) (all : Spokes) (v : ℕ) (s : Spoke) (def : IsDefinition 
       bodies = subst (λ (y : Held). IsPair s.fit.level y (with_entries h.body eh)) (sym bodies) (hub_pair s.fit.level (with_entries h.body eh) (ready laws all v s def place) own_whole);
     }
 
-    pub form_whole : IsWhole hub s.fit.level (with_entries h.body eh)
+    pub form_whole : IsWholeOnSide hub s.fit.level (with_entries h.body eh)
     form_whole = own_whole

@@ -8,7 +8,7 @@ use Rattle.kube_meta.specs.View.{Texts, ObjectView}
 use Rattle.kept_entries.specs.declared.entry.Entry.{Entry}
 use Rattle.hub_cells.specs.Side.{spoke, hub}
 use Rattle.hub_cells.specs.Level.{Name}
-use Rattle.keep_laws.specs.Whole.{Held, IsWhole, IsPair}
+use Rattle.keep_laws.specs.Whole.{Held, IsWholeOnSide, IsPair}
 use Rattle.keep_laws.specs.Settle.{converted}
 use Rattle.keep_laws.proofs.Fields.{bytes_same, bytes_other}
 use Rattle.keep_laws.proofs.Dead.{converted_whole}
@@ -66,7 +66,7 @@ module _ (all : Spokes) (v : ℕ) (s : Spoke) (def : IsDefinition all) (place : 
 
 -- ---- it is whole
 
-note_whole : (laws : Laws) (all : Spokes) (v : ℕ) (s : Spoke) → IsDefinition all → slice_get all.items v ≡ Some s → (body : Pairs) (eh : List Entry) → AreRising (members_of body) → IsHubBody all.items body → IsWhole hub s.fit.level (with_entries body eh) → (k : Name) (c : KeyKind) (o p : Option Name) → KindSays all k c → NoteOver s body eh c o p → WholeNote body c p
+note_whole : (laws : Laws) (all : Spokes) (v : ℕ) (s : Spoke) → IsDefinition all → slice_get all.items v ≡ Some s → (body : Pairs) (eh : List Entry) → AreRising (members_of body) → IsHubBody all.items body → IsWholeOnSide hub s.fit.level (with_entries body eh) → (k : Name) (c : KeyKind) (o p : Option Name) → KindSays all k c → NoteOver s body eh c o p → WholeNote body c p
 note_whole laws all v s def place body eh rises bodies own k plain o p h e = tt
 note_whole laws all v s def place body eh rises bodies own k of_hub o p h e = e
 note_whole laws all v s def place body eh rises bodies own k (of_spoke t) o p h e = by_name (name_cases t.name s.name) e
@@ -75,15 +75,15 @@ note_whole laws all v s def place body eh rises bodies own k (of_spoke t) o p h 
     by_name (inl q) g =
         let same : s ≡ t = sym (same_spoke all v h.1.0 s t def place h.1.1 q) in
         let true_name : bytes_eq t.name s.name ≡ true = ap (λ (n : Name). bytes_eq n s.name) q ∙ bytes_same s.name in
-        (eh, subst (λ (b : Bool). SpokeNoteOver b t body eh o p) true_name g, subst (λ (u : Spoke). IsWhole hub u.fit.level (with_entries body eh)) same own)
+        (eh, subst (λ (b : Bool). SpokeNoteOver b t body eh o p) true_name g, subst (λ (u : Spoke). IsWholeOnSide hub u.fit.level (with_entries body eh)) same own)
     by_name (inr q) g =
         judged_whole laws all h.1.0 t def h.1.1 body o p rises (hub_body_at all.items h.1.0 t body bodies h.1.1) (subst (λ (b : Bool). SpokeNoteOver b t body eh o p) (bytes_other t.name s.name q) g)
 note_whole laws all v s def place body eh rises bodies own k of_none o p h e = e
 
 module _ (laws : Laws) (all : Spokes) (v : ℕ) (s : Spoke) (def : IsDefinition all) (place : slice_get all.items v ≡ Some s) where
-  pub over_body_whole : (x h : ObjectView) → AreRising (members_of x.body) → IsBodyOf spoke s.fit x.body → (g : GoesOver all s x h) → IsWhole hub s.fit.level (with_entries h.body g.spoke_kept)
+  pub over_body_whole : (x h : ObjectView) → AreRising (members_of x.body) → IsBodyOf spoke s.fit x.body → (g : GoesOver all s x h) → IsWholeOnSide hub s.fit.level (with_entries h.body g.spoke_kept)
   over_body_whole x h rises b g =
-      subst (IsWhole hub s.fit.level) (sym g.bodies) (converted_whole spoke s.fit.level (with_entries x.body g.hub_kept) (ready laws all v s def place) (allowed laws all v s def place spoke x.body g.hub_kept rises b))
+      subst (IsWholeOnSide hub s.fit.level) (sym g.bodies) (converted_whole spoke s.fit.level (with_entries x.body g.hub_kept) (ready laws all v s def place) (allowed laws all v s def place spoke x.body g.hub_kept rises b))
 
   pub over_whole : (x h : ObjectView) → AreRising (members_of x.body) → IsBodyOf spoke s.fit x.body → GoesOver all s x h → IsWholeHub all h
   over_whole x h rises b g =

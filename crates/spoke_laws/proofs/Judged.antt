@@ -7,7 +7,7 @@ use Rattle.kj_value.specs.Fields.{Pairs}
 use Rattle.kept_entries.specs.declared.entry.Entry.{Entry}
 use Rattle.hub_cells.specs.Side.{Side, hub}
 use Rattle.hub_cells.specs.Level.{Name}
-use Rattle.keep_laws.specs.Whole.{Held, IsWhole, marks_of}
+use Rattle.keep_laws.specs.Whole.{Held, IsWholeOnSide, marks_of}
 use Rattle.keep_laws.specs.Settle.{IsAllowed, settled}
 use Rattle.keep_laws.proofs.Back.{no_name_twice}
 use Rattle.keep_laws.proofs.Dead.{settled_whole, whole_settled}
@@ -33,11 +33,11 @@ module _ (laws : Laws) (all : Spokes) (v : ℕ) (s : Spoke) (def : IsDefinition 
       let f = fits all v s def place in
       ap (λ (fs : Pairs). record { fields = fs; entries = living_entries d s body es }) (settled_fields d s.fit.level (with_entries body es) (no_name_twice d s.fit.level (ready_of s.fit f)) (laws.known d s.fit body f h b))
 
-  pub living_whole : (d : Side) (body : Pairs) (es : List Entry) → AreRising (members_of body) → IsBodyOf d s.fit body → IsWhole d s.fit.level (with_entries body (living_entries d s body es))
+  pub living_whole : (d : Side) (body : Pairs) (es : List Entry) → AreRising (members_of body) → IsBodyOf d s.fit body → IsWholeOnSide d s.fit.level (with_entries body (living_entries d s body es))
   living_whole d body es h b =
-      subst (IsWhole d s.fit.level) (settled_is d body es h b) (settled_whole d s.fit.level (with_entries body es) (ready_of s.fit (fits all v s def place)) (allowed d body es h b))
+      subst (IsWholeOnSide d s.fit.level) (settled_is d body es h b) (settled_whole d s.fit.level (with_entries body es) (ready_of s.fit (fits all v s def place)) (allowed d body es h b))
 
-  nothing_whole : (body : Pairs) → AreRising (members_of body) → IsBodyOf hub s.fit body → IsWhole hub s.fit.level (with_entries body [])
+  nothing_whole : (body : Pairs) → AreRising (members_of body) → IsBodyOf hub s.fit body → IsWholeOnSide hub s.fit.level (with_entries body [])
   nothing_whole body h b =
       alive_whole hub s.fit.level (with_entries body []) (ready_of s.fit (fits all v s def place)) (laws.known hub s.fit body (fits all v s def place) h b) (allowed hub body [] h b) (λ e i. absurd i) tt (λ e i. absurd i)
 
@@ -46,7 +46,7 @@ module _ (laws : Laws) (all : Spokes) (v : ℕ) (s : Spoke) (def : IsDefinition 
   judged_whole body (Some t) p h b j = (living_entries hub s body j.0, j.2, living_whole hub body j.0 h b)
 
 -- what is whole is judged to stay
-pub living_same : (d : Side) (s : Spoke) (body : Pairs) (es : List Entry) → IsWhole d s.fit.level (with_entries body es) → living_entries d s body es ≡ es
+pub living_same : (d : Side) (s : Spoke) (body : Pairs) (es : List Entry) → IsWholeOnSide d s.fit.level (with_entries body es) → living_entries d s body es ≡ es
 living_same d s body es w = ap (λ (a : Held). a.entries) (whole_settled d s.fit.level (with_entries body es) w)
 
 pub whole_judged : (s : Spoke) (body : Pairs) (o p : Option Name) → o ≡ p → WholeNote body (of_spoke s) p → IsJudged s body o o

@@ -12,7 +12,7 @@ use Rattle.kept_entries.specs.Text.{kept_json}
 use Rattle.hub_cells.specs.Side.{Side, spoke, hub, other}
 use Rattle.hub_cells.specs.Level.{Name}
 use Rattle.hub_cells.specs.Fit.{Fit, IsFitted}
-use Rattle.keep_laws.specs.Whole.{Held, IsWhole, marks_of}
+use Rattle.keep_laws.specs.Whole.{Held, IsWholeOnSide, marks_of}
 use Rattle.keep_laws.specs.Settle.{IsAllowed, settled, converted}
 use Rattle.keep_laws.proofs.Dead.{settled_whole, converted_whole}
 use Rattle.fitted_bodies.specs.Body.{IsBodyOf}
@@ -39,7 +39,7 @@ pub record IsWritable (es : List Entry) : Type 0 where
   pub order : are_in_order es ≡ true
   pub levels : depth (kept_json es) ≤ KEPT_LEVELS
 
-pub whole_writable : Laws → (d : Side) (f : Fit) (y : Held) (es : List Entry) → IsFitted f → IsWhole d f.level y → es ≡ y.entries → IsWritable es
+pub whole_writable : Laws → (d : Side) (f : Fit) (y : Held) (es : List Entry) → IsFitted f → IsWholeOnSide d f.level y → es ≡ y.entries → IsWritable es
 whole_writable laws d f y es h w e =
     subst IsWritable (sym e) (record { order = (laws.words d f.level y (ready_of f h) w).order; levels = whole_levels d f.level y w })
 
@@ -48,12 +48,12 @@ pub living_writable : Laws → (d : Side) (f : Fit) (x : Held) (es : List Entry)
 living_writable laws d f x es h rises b e =
     whole_writable laws d f (settled d f.level x) es h (settled_whole d f.level x (ready_of f h) (laws.allowed d f x h rises b)) e
 
-over_from : Laws → (d : Side) (f : Fit) (x : Held) (y : Held) → IsFitted f → AreRising (members_of x.fields) → IsBodyOf d f x.fields → y ≡ converted d f.level x → IsWhole (other d) f.level y
+over_from : Laws → (d : Side) (f : Fit) (x : Held) (y : Held) → IsFitted f → AreRising (members_of x.fields) → IsBodyOf d f x.fields → y ≡ converted d f.level x → IsWholeOnSide (other d) f.level y
 over_from laws d f x y h rises b e =
-    subst (IsWhole (other d) f.level) (sym e) (converted_whole d f.level x (ready_of f h) (laws.allowed d f x h rises b))
+    subst (IsWholeOnSide (other d) f.level) (sym e) (converted_whole d f.level x (ready_of f h) (laws.allowed d f x h rises b))
 
 module _ (laws : Laws) (all : Spokes) (v : ℕ) (s : Spoke) (def : IsDefinition all) (place : slice_get all.items v ≡ Some s) where
-  pub hub_made_whole : (body fields : Pairs) (es eh : List Entry) → AreRising (members_of body) → IsBodyOf spoke s.fit body → with_entries fields eh ≡ converted spoke s.fit.level (with_entries body es) → IsWhole hub s.fit.level (with_entries fields eh)
+  pub hub_made_whole : (body fields : Pairs) (es eh : List Entry) → AreRising (members_of body) → IsBodyOf spoke s.fit body → with_entries fields eh ≡ converted spoke s.fit.level (with_entries body es) → IsWholeOnSide hub s.fit.level (with_entries fields eh)
   hub_made_whole body fields es eh rises b e =
       over_from laws spoke s.fit (with_entries body es) (with_entries fields eh) (fits all v s def place) rises b e
 

@@ -5,7 +5,7 @@ use Rattle.kube_meta.specs.View.{ObjectView}
 use Rattle.kept_entries.specs.declared.entry.Entry.{Entry}
 use Rattle.hub_cells.specs.Side.{spoke, hub}
 use Rattle.hub_cells.specs.Level.{Name}
-use Rattle.keep_laws.specs.Whole.{Held, Ready, IsWhole, IsPair}
+use Rattle.keep_laws.specs.Whole.{Held, Ready, IsWholeOnSide, IsPair}
 use Rattle.keep_laws.proofs.Back.{pair_whole}
 use Rattle.keep_laws.proofs.Fields.{bytes_same}
 use Rattle.spoke_laws.specs.Spokes.{Spoke, Spokes, IsDefinition}
@@ -63,12 +63,12 @@ module _ (laws : Laws) (all : Spokes) (v : ℕ) (s : Spoke) (def : IsDefinition 
   pub ready : Ready s.fit.level
   ready = ready_of s.fit (fits all v s def place)
 
-  pub hub_whole : (x h : ObjectView) → IsWholeHub all h → (p : IsPairOf all s x h) → IsWhole hub s.fit.level (with_entries h.body p.spoke_kept)
+  pub hub_whole : (x h : ObjectView) → IsWholeHub all h → (p : IsPairOf all s x h) → IsWholeOnSide hub s.fit.level (with_entries h.body p.spoke_kept)
   hub_whole x h w p =
       let kept = whole_own h w in
-      subst (λ (es : List Entry). IsWhole hub s.fit.level (with_entries h.body es)) (one_note laws.one (noted (spoke_key s.name) h) kept.0 p.spoke_kept kept.1 (own_pair x h p).1) kept.2
+      subst (λ (es : List Entry). IsWholeOnSide hub s.fit.level (with_entries h.body es)) (one_note laws.one (noted (spoke_key s.name) h) kept.0 p.spoke_kept kept.1 (own_pair x h p).1) kept.2
 
-  pub spoke_whole : (x h : ObjectView) → IsWholeHub all h → (p : IsPairOf all s x h) → IsWhole spoke s.fit.level (with_entries x.body p.hub_kept)
+  pub spoke_whole : (x h : ObjectView) → IsWholeHub all h → (p : IsPairOf all s x h) → IsWholeOnSide spoke s.fit.level (with_entries x.body p.hub_kept)
   spoke_whole x h w p =
       pair_whole s.fit.level (with_entries x.body p.hub_kept) (with_entries h.body p.spoke_kept) ready (hub_whole x h w p) p.bodies
 
@@ -86,7 +86,7 @@ module _ (laws : Laws) (all : Spokes) (v : ℕ) (s : Spoke) (def : IsDefinition 
   one_hub_object x g h og oh t p q =
       let level = s.fit.level in
       let first : t.pair.hub_kept ≡ p.hub_kept = one_note laws.one (noted hub_key x) t.pair.hub_kept p.hub_kept (hub_pair_note x t.hub t.pair) (hub_pair_note x g p) in
-      let whole : IsWhole spoke level (with_entries x.body p.hub_kept) = subst (λ (es : List Entry). IsWhole spoke level (with_entries x.body es)) first (spoke_whole x t.hub t.whole t.pair) in
+      let whole : IsWholeOnSide spoke level (with_entries x.body p.hub_kept) = subst (λ (es : List Entry). IsWholeOnSide spoke level (with_entries x.body es)) first (spoke_whole x t.hub t.whole t.pair) in
       let kept : q.hub_kept ≡ p.hub_kept = one_note laws.one (noted hub_key x) q.hub_kept p.hub_kept (hub_pair_note x h q) (hub_pair_note x g p) in
       let other : IsPair level (with_entries x.body p.hub_kept) (with_entries h.body q.spoke_kept) = subst (λ (es : List Entry). IsPair level (with_entries x.body es) (with_entries h.body q.spoke_kept)) kept q.bodies in
       let held = one_hub level (with_entries x.body p.hub_kept) (with_entries g.body p.spoke_kept) (with_entries h.body q.spoke_kept) ready whole p.bodies other in

@@ -8,7 +8,7 @@ use Rattle.kj_value.specs.Json.{Json, text, depth, items_depth, members_depth, i
 use Rattle.kj_value.specs.Fields.{Pairs, with_field}
 use Rattle.struct_schema.specs.Valid.{valid}
 use Rattle.struct_schema.specs.Stays.{stays}
-use Rattle.hub_cells.specs.declared.allowed.TheConstants.{MAX_LEVELS}
+use Rattle.hub_cells.specs.declared.allowed.TheConstants.{STORED_LEVELS}
 use Rattle.hub_cells.specs.Side.{Side, other}
 use Rattle.hub_cells.specs.Cell.{Tuple}
 use Rattle.hub_cells.specs.Level.{Name, Place, places, names, named, is_word, allowed_at, all_allowed, Cell, Level, level, Inners, no_inner, inner}
@@ -18,7 +18,7 @@ use Rattle.kept_entries.specs.Text.{entry_json, kept_json}
 use Rattle.keep_laws.specs.Entry.{put, under}
 use Rattle.keep_laws.specs.Marked.{Marks, Marked, MarkedInners, IsAlive, AreGood, OrAbsent, IsGood, InnersGood}
 use Rattle.keep_laws.specs.Body.{entry_of, cell_entries, with_inside, all_entries, inner_entries}
-use Rattle.keep_laws.specs.Whole.{Held, marks_of, IsWhole}
+use Rattle.keep_laws.specs.Whole.{Held, marks_of, IsWholeOnSide}
 use Rattle.keep_laws.specs.Words.{Has}
 use Rattle.keep_laws.proofs.Holds.{order_has}
 use Rattle.keep_laws.proofs.Written.{split_has, map_has}
@@ -41,8 +41,8 @@ AreShallow (Some j ∷ os) = (depth j ≤ 63) × AreShallow os
 
 shallow_at : (n : ℕ) (p : Place) (j : Json) → allowed_at n p (Some j) ≡ true → depth j ≤ 63
 shallow_at n p j h =
-    let three = and_left (valid p.shape j && stays p.shape j && leb (n + 1 + depth j) MAX_LEVELS) (is_word j) h in
-    let room : n + 1 + depth j ≤ MAX_LEVELS = leb-true (n + 1 + depth j) MAX_LEVELS (and_right (valid p.shape j && stays p.shape j) (leb (n + 1 + depth j) MAX_LEVELS) three) in
+    let three = and_left (valid p.shape j && stays p.shape j && leb (n + 1 + depth j) STORED_LEVELS) (is_word j) h in
+    let room : n + 1 + depth j ≤ STORED_LEVELS = leb-true (n + 1 + depth j) STORED_LEVELS (and_right (valid p.shape j && stays p.shape j) (leb (n + 1 + depth j) STORED_LEVELS) three) in
     omega arith
 
 shallow_all : (n : ℕ) (ps : List Place) (t : Tuple) → all_allowed n ps t ≡ true → AreShallow t
@@ -113,7 +113,7 @@ items_shallow : (es : List Entry) → ((e : Entry) → Has e es → IsShallow e)
 items_shallow [] h = omega arith
 items_shallow (e ∷ es) h = omega (arith, entry_depth e (h e (inl refl)), items_shallow es (λ f i. h f (inr i)))
 
-pub whole_levels : (d : Side) (l : Level) (x : Held) → IsWhole d l x → depth (kept_json x.entries) ≤ KEPT_LEVELS
+pub whole_levels : (d : Side) (l : Level) (x : Held) → IsWholeOnSide d l x → depth (kept_json x.entries) ≤ KEPT_LEVELS
 whole_levels d l x w =
     let m = marks_of d l x in
     let same = ap (λ (h : Held). h.entries) w.nothing_else in

@@ -8,7 +8,7 @@ use Rattle.hub_cells.specs.Level.{Name, Level}
 use Rattle.hub_cells.specs.Fit.{Fit, IsFitted}
 use Rattle.kept_entries.specs.declared.entry.Entry.{Entry}
 use Rattle.kept_entries.specs.Text.{IsKept}
-use Rattle.keep_laws.specs.Whole.{Held, Ready, IsWhole, marks_of}
+use Rattle.keep_laws.specs.Whole.{Held, Ready, IsWholeOnSide, marks_of}
 use Rattle.keep_laws.specs.Settle.{IsAllowed}
 use Rattle.keep_laws.specs.Known.{IsKnown}
 use Rattle.keep_laws.specs.Words.{IsSettledObject}
@@ -25,10 +25,10 @@ abbrev pub BodyAllowed : Type 0
 BodyAllowed = (d : Side) (f : Fit) (x : Held) → IsFitted f → AreRising (members_of x.fields) → IsBodyOf d f x.fields → IsAllowed d f.level (marks_of d f.level x)
 
 abbrev pub WholeBody : Type 0
-WholeBody = (d : Side) (f : Fit) (x : Held) → IsFitted f → HasRoom f → IsWhole d f.level x → IsBodyOf d f x.fields
+WholeBody = (d : Side) (f : Fit) (x : Held) → IsFitted f → HasRoom f → IsWholeOnSide d f.level x → IsBodyOf d f x.fields
 
 abbrev pub WholeWords : Type 0
-WholeWords = (d : Side) (l : Level) (x : Held) → Ready l → IsWhole d l x → IsSettledObject d l x
+WholeWords = (d : Side) (l : Level) (x : Held) → Ready l → IsWholeOnSide d l x → IsSettledObject d l x
 
 pub record Laws : Type 0 where
   pub one : OneList

@@ -5,7 +5,7 @@ use Rattle.kube_meta.specs.View.{ObjectView}
 use Rattle.kept_entries.specs.declared.entry.Entry.{Entry}
 use Rattle.hub_cells.specs.Side.{spoke, hub}
 use Rattle.hub_cells.specs.Level.{Name}
-use Rattle.keep_laws.specs.Whole.{IsWhole}
+use Rattle.keep_laws.specs.Whole.{IsWholeOnSide}
 use Rattle.spoke_laws.specs.Spokes.{Spoke, Spokes, api_version}
 use Rattle.spoke_laws.specs.Keys.{KeyKind, plain, of_hub, of_spoke, of_none, key_kind}
 use Rattle.fitted_bodies.specs.Body.{IsBodyOf}
@@ -21,7 +21,7 @@ IsHubBody (s ∷ ss) body = IsBodyOf hub s.fit body × IsHubBody ss body
 abbrev pub WholeNote : Pairs → KeyKind → Option Name → Type 0
 WholeNote body plain o = Unit {0}
 WholeNote body of_hub o = o ≡ None
-WholeNote body (of_spoke s) o = (es : List Entry) × IsNoteOf es o × IsWhole hub s.fit.level (with_entries body es)
+WholeNote body (of_spoke s) o = (es : List Entry) × IsNoteOf es o × IsWholeOnSide hub s.fit.level (with_entries body es)
 WholeNote body of_none o = o ≡ None
 
 pub record IsWholeHub (all : Spokes) (h : ObjectView) : Type 0 where

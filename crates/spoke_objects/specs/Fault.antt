@@ -22,25 +22,25 @@ IsFaultAt all (Some v) ns e = (s : Spoke) → slice_get all.items v ≡ Some s �
 
 -- ---- for private clauses
 
-abbrev pub IsRefused : Name → Type 0
-IsRefused t = (es : List Entry) → IsKept t es → ⊥
+abbrev pub IsNoKeptText : Name → Type 0
+IsNoKeptText t = (es : List Entry) → IsKept t es → ⊥
 
 abbrev pub IsBadText : Name → Name → KeepFault → Type 0
-IsBadText k t (BadKept a) = (a.bytes ≡ k) × IsRefused t
+IsBadText k t (BadKept a) = (a.bytes ≡ k) × IsNoKeptText t
 IsBadText k t NoMemory = Unit {0}
 
 abbrev pub IsBadNote : Name → Name → Option Name → Type 0
 IsBadNote a k None = ⊥
-IsBadNote a k (Some t) = (a ≡ k) × IsRefused t
+IsBadNote a k (Some t) = (a ≡ k) × IsNoKeptText t
 
 abbrev pub IsBadAt : Name → Option Name → KeepFault → Type 0
 IsBadAt k o (BadKept a) = IsBadNote a.bytes k o
 IsBadAt k o NoMemory = Unit {0}
 
 abbrev pub IsBadOther : Bool → Name → Name → KeepFault → Type 0
-IsBadOther own k t (BadKept a) = (a.bytes ≡ k) × IsRefused t × (own ≡ false)
+IsBadOther own k t (BadKept a) = (a.bytes ≡ k) × IsNoKeptText t × (own ≡ false)
 IsBadOther own k t NoMemory = Unit {0}
 
 abbrev pub IsBadRead : Option Name → KeyKind → Name → Name → KeepFault → Type 0
-IsBadRead own c k t (BadKept a) = (a.bytes ≡ k) × IsRefused t × IsRead own c
+IsBadRead own c k t (BadKept a) = (a.bytes ≡ k) × IsNoKeptText t × IsRead own c
 IsBadRead own c k t NoMemory = Unit {0}

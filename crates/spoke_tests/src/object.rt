@@ -13,7 +13,7 @@ ghost use Rattle.spoke_laws.specs.Spokes.{api_version};
 ghost use Rattle.spoke_laws.specs.Whole.{IsHubBody};
 ghost use Rattle.spoke_laws.specs.Place.{StandsAt};
 
-use hub_cells::MAX_LEVELS;
+use hub_cells::STORED_LEVELS;
 use kj_value::{JFields, JVal, Txt, depth, read};
 use kube_meta::Object;
 use object_reading::read_object;
@@ -91,7 +91,7 @@ fn filled_at_hub(alloc: Global, s: &Spoke, x: Object) -> Option<Object>
 fn submitted(alloc: Global, group: &Txt, version: &Txt, kind: &str, text: &str) -> Option<Object>
     ensures { IfSome result (λ x. x.api_version.bytes ≡ api_version group.now.bytes version.now.bytes) }
 {
-    let doc = read(alloc, text.as_bytes(), kj_value::MAX_LEVELS).ok()?;
+    let doc = read(alloc, text.as_bytes(), kj_value::MAX_JSON_LEVELS).ok()?;
     let x = read_object(alloc, doc, kind).ok()?;
     let wanted = version_text(alloc, group, version)?;
     if x.api_version.as_str() != wanted.as_str() {
@@ -158,7 +158,7 @@ fn fields_of(v: JVal) -> Option<JFields>
 fn is_body(alloc: Global, s: &Schema, names: u32, v: &JVal) -> bool
     ensures valid { IsTrue result → valid (shape_of s.now) (json v.now) ≡ true }
     ensures filled { IsTrue result → Filled (shape_of s.now) (json v.now) (json v.now) }
-    ensures levels { IsTrue result → names + depth (json v.now) ≤ MAX_LEVELS }
+    ensures levels { IsTrue result → names + depth (json v.now) ≤ STORED_LEVELS }
 {
     if !is_valid(alloc, s, v) {
         return false;
@@ -180,7 +180,7 @@ fn is_valid(alloc: Global, s: &Schema, v: &JVal) -> bool
 
 // Whether the value is within the levels of an object, with so many names leading to it.
 fn is_within(names: u32, v: &JVal) -> bool
-    ensures { result ≡ leb (names + depth (json v.now)) MAX_LEVELS }
+    ensures { result ≡ leb (names + depth (json v.now)) STORED_LEVELS }
 {
-    u64::from(names) + u64::from(depth(v)) <= u64::from(MAX_LEVELS)
+    u64::from(names) + u64::from(depth(v)) <= u64::from(STORED_LEVELS)
 }

@@ -5,7 +5,7 @@ ghost use Rattle.spoke_laws.specs.Place.{StandsAt};
 
 use crate::object::object_at;
 use crate::versions::shared_versions;
-use kj_value::{MAX_LEVELS, Txt, depth, write};
+use kj_value::{MAX_JSON_LEVELS, Txt, depth, write};
 use kube_meta::{Object, write_object};
 use spoke_laws::settling;
 use spoke_objects::{KeepFault, Spokes, from_hub, settle, to_hub};
@@ -18,7 +18,7 @@ use std::test::Fail;
 // The text of an object.
 fn written(alloc: Global, o: &Object) -> Result<Txt, Fail> {
     let doc = write_object(alloc, o)?;
-    if depth(&doc) > MAX_LEVELS {
+    if depth(&doc) > MAX_JSON_LEVELS {
         return Err(Fail::from("too deep"));
     }
     Ok(write(alloc, &doc)?)

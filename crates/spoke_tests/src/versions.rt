@@ -7,7 +7,7 @@ use fitted_bodies::room_of_rules;
 use hub_cells::Fitted;
 use hub_fit::fit;
 use hub_rules::Rules;
-use kj_value::{JVal, MAX_LEVELS, Txt, read};
+use kj_value::{JVal, MAX_JSON_LEVELS, Txt, read};
 use rule_reading::read_rules;
 use schema_reading::read_schema;
 use spoke_objects::{Spoke, Spokes};
@@ -17,10 +17,14 @@ use struct_schema::Schema;
 /// The shared definition's versions: the hub `v1`, and its one spoke `v1beta1`. There are none where the
 /// definition isn't read or its rules don't fit, or for want of memory.
 pub(crate) fn shared_versions(alloc: Global) -> Option<Spokes> {
-    let doc = read(alloc, definition().as_bytes(), MAX_LEVELS).ok()?;
+    let doc = read(alloc, definition().as_bytes(), MAX_JSON_LEVELS).ok()?;
     let hub = schema(alloc, &doc, 0)?;
     let spoke = schema(alloc, &doc, 1)?;
-    let set = read_rules(alloc, &read(alloc, rules().as_bytes(), MAX_LEVELS).ok()?).ok()?;
+    let set = read_rules(
+        alloc,
+        &read(alloc, rules().as_bytes(), MAX_JSON_LEVELS).ok()?,
+    )
+    .ok()?;
     let fitted = fitted(alloc, set.spokes.get("v1beta1")?, &spoke, &hub)?;
     one_spoke(alloc, set.hub, Txt::of(alloc, "v1beta1").ok()?, fitted)
 }

@@ -3,7 +3,7 @@ use Rattle.std.proofs.Common.{◌≡◌, ℕ, List, Bool, true, false, ◌&&◌,
 use Rattle.std.specs.Prelude.{is_some, is_none, ◌||◌, unwrap_or, MatchBool}
 use Rattle.kj_value.specs.Json.{Json, null, boolean, whole, text, list, object, Items, no_items, item, Members, no_members, member}
 use Rattle.kj_value.specs.Sameness.{json_same-Decides}
-use Rattle.kj_value.specs.Sound.{IsSound, AreSound, AreRising}
+use Rattle.kj_value.specs.Sound.{IsSoundJson, AreSoundItems, AreRising}
 use Rattle.struct_schema.specs.Shape.{Own, Shape, shape, own, Shapes, no_shapes, shape_at, MaybeShapes, no_map, some_map, MaybeShape, no_shape, some_shape}
 use Rattle.struct_schema.specs.Names.{is_name, value_at, shape_named, property, or_shape, shape_for}
 use Rattle.struct_schema.specs.Filled.{is_object, is_array, is_forbidden, PresentFilled, PropertyFilled, EachItem, Filled, NameFilled, NamedFilled, RestFilled, ItemFilled}
@@ -237,7 +237,7 @@ object_stays_of o ps a i ms true h deep =
 object_stays_of o ps a i ms false h deep = refl
 
 mutual
-  pub filled_stays : (s : Shape) (j : Json) → IsSound j → Filled s j j → stays s j ≡ true
+  pub filled_stays : (s : Shape) (j : Json) → IsSoundJson j → Filled s j j → stays s j ≡ true
   filled_stays (shape o ps a i) null p h = refl
   filled_stays (shape o ps a i) (boolean b) p h = refl
   filled_stays (shape o ps a i) (whole z) p h = refl
@@ -246,7 +246,7 @@ mutual
   filled_stays (shape o ps a i) (object ms) p h =
       object_stays_of o ps a i ms (is_object o.kind) h (λ q. names_stay_of (shape o ps a i) ms p q)
 
-  items_stay_of : (m : MaybeShape) (js : Items) → AreSound js → EachItem (λ x y. ItemFilled m x y) js js → items_stay m js ≡ true
+  items_stay_of : (m : MaybeShape) (js : Items) → AreSoundItems js → EachItem (λ x y. ItemFilled m x y) js js → items_stay m js ≡ true
   items_stay_of m no_items p h = refl
   items_stay_of m (item j js) p h =
       and_true (item_stays m j (λ t. stays t j)) (items_stay m js) (item_stays_of m j h.0 (λ t q. filled_stays t j p.0 q)) (items_stay_of m js p.1 h.1)

@@ -8,14 +8,14 @@ use Rattle.struct_schema.specs.declared.trouble.Stop.{Stop}
 use Rattle.struct_schema.specs.declared.trouble.Stop.TheVariants.{Found, Starved}
 
 -- there is a fault, and it is this one unless memory ran out
-abbrev pub Names : Option Fault → CheckFault → Type 0
-Names None e = ⊥
-Names (Some f) (Broken path rule) = (path.bytes ≡ path_text f.path) × (rule ≡ f.rule)
-Names (Some f) NoMemory = Unit {0}
+abbrev pub NamesCheckFault : Option Fault → CheckFault → Type 0
+NamesCheckFault None e = ⊥
+NamesCheckFault (Some f) (Broken path rule) = (path.bytes ≡ path_text f.path) × (rule ≡ f.rule)
+NamesCheckFault (Some f) NoMemory = Unit {0}
 
 -- for private clauses: the same on the way out of the walk
-abbrev pub Stops : Option Fault → Stop → Type 0
-Stops None e = ⊥
-Stops (Some f) (Found b) =
+abbrev pub StopsCheck : Option Fault → Stop → Type 0
+StopsCheck None e = ⊥
+StopsCheck (Some f) (Found b) =
     (b.path.bytes ≡ path_text f.path) × (b.named ≡ starts_named f.path) × (b.rule ≡ f.rule)
-Stops (Some f) Starved = Unit {0}
+StopsCheck (Some f) Starved = Unit {0}

@@ -7,7 +7,7 @@ ghost use Rattle.struct_schema.specs.ShapeOf.{shape_of, own_of};
 ghost use Rattle.struct_schema.specs.Names.{shape_for};
 ghost use Rattle.struct_schema.specs.Valid.{valid};
 ghost use Rattle.struct_schema.specs.Fault.{fault, own_fault, items_fault, members_fault, missing_fault, first_missing, or_else};
-ghost use Rattle.struct_schema.specs.Told.{Names, Stops};
+ghost use Rattle.struct_schema.specs.Told.{NamesCheckFault, StopsCheck};
 
 use crate::keywords::{broken_rule, first_missing};
 use crate::schema::Schema;
@@ -21,7 +21,7 @@ use std::alloc::Global;
 pub fn check(alloc: Global, s: &Schema, v: &JVal) -> Result<(), CheckFault>
     ensures valid { OnOk result (valid (shape_of s.now) (json v.now) ≡ true) }
     ensures refused { OnErr result (valid (shape_of s.now) (json v.now) ≡ false) }
-    ensures first { IfErr result (λ e. Names (fault (shape_of s.now) (json v.now)) e) }
+    ensures first { IfErr result (λ e. NamesCheckFault (fault (shape_of s.now) (json v.now)) e) }
 {
     match first_fault(alloc, s, v) {
         Ok(()) => Ok(()),
@@ -36,7 +36,7 @@ pub fn check(alloc: Global, s: &Schema, v: &JVal) -> Result<(), CheckFault>
 // The node's own keywords, but for `required`.
 fn own_fault(alloc: Global, s: &Schema, v: &JVal) -> Result<(), Stop>
     ensures { MatchResult result (λ _. own_fault (own_of s.now) (json v.now) ≡ None)
-        (λ e. Stops (own_fault (own_of s.now) (json v.now)) e) }
+        (λ e. StopsCheck (own_fault (own_of s.now) (json v.now)) e) }
 {
     match broken_rule(s, v) {
         None => Ok(()),
@@ -47,7 +47,7 @@ fn own_fault(alloc: Global, s: &Schema, v: &JVal) -> Result<(), Stop>
 // The names that must be there.
 fn missing_fault(alloc: Global, s: &Schema, fields: &JFields) -> Result<(), Stop>
     ensures { let o = missing_fault (first_missing s.now.required (members_of fields.now)) in
-        MatchResult result (λ _. o ≡ None) (λ e. Stops o e) }
+        MatchResult result (λ _. o ≡ None) (λ e. StopsCheck o e) }
 {
     match first_missing(&s.required, fields) {
         None => Ok(()),
@@ -59,7 +59,7 @@ fn missing_fault(alloc: Global, s: &Schema, fields: &JFields) -> Result<(), Stop
 #[tactic(auto, using(kj_value::specs::Inside::item_depth, kj_value::specs::Inside::field_depth))]
 fn first_fault(alloc: Global, s: &Schema, v: &JVal) -> Result<(), Stop>
     ensures { MatchResult result (λ _. fault (shape_of s.now) (json v.now) ≡ None)
-        (λ e. Stops (fault (shape_of s.now) (json v.now)) e) }
+        (λ e. StopsCheck (fault (shape_of s.now) (json v.now)) e) }
 {
     match v {
         JVal::Null => {
@@ -87,7 +87,7 @@ fn first_fault(alloc: Global, s: &Schema, v: &JVal) -> Result<(), Stop>
 #[tactic(auto, using(kj_value::specs::Inside::item_depth, kj_value::specs::Inside::field_depth))]
 fn list_fault(alloc: Global, s: &Schema, items: &JItems) -> Result<(), Stop>
     ensures { let o = items_fault (items_shape (shape_of s.now)) 0 (items_of items.now) in
-        MatchResult result (λ _. o ≡ None) (λ e. Stops o e) }
+        MatchResult result (λ _. o ≡ None) (λ e. StopsCheck o e) }
 {
     match &s.items {
         None => Ok(()),
@@ -99,7 +99,7 @@ fn list_fault(alloc: Global, s: &Schema, items: &JItems) -> Result<(), Stop>
 #[tactic(auto, using(kj_value::specs::Inside::item_depth, kj_value::specs::Inside::field_depth))]
 fn items_fault(alloc: Global, s: &Schema, items: &[JVal]) -> Result<(), Stop>
     ensures { let o = items_fault (some_shape (shape_of s.now)) 0 (items_of (map json items.now)) in
-        MatchResult result (λ _. o ≡ None) (λ e. Stops o e) }
+        MatchResult result (λ _. o ≡ None) (λ e. StopsCheck o e) }
 {
     for i in 0..items.len() {
         if let Err(stop) = first_fault(alloc, s, &items[i]) {
@@ -114,7 +114,7 @@ fn items_fault(alloc: Global, s: &Schema, items: &[JVal]) -> Result<(), Stop>
 fn object_fault(alloc: Global, s: &Schema, fields: &JFields) -> Result<(), Stop>
     ensures { let o = or_else (missing_fault (first_missing s.now.required (members_of fields.now)))
         (members_fault (shape_of s.now) (members_of fields.now)) in
-        MatchResult result (λ _. o ≡ None) (λ e. Stops o e) }
+        MatchResult result (λ _. o ≡ None) (λ e. StopsCheck o e) }
 {
     match missing_fault(alloc, s, fields) {
         Err(stop) => Err(stop),
@@ -126,7 +126,7 @@ fn object_fault(alloc: Global, s: &Schema, fields: &JFields) -> Result<(), Stop>
 #[tactic(auto, using(kj_value::specs::Inside::item_depth, kj_value::specs::Inside::field_depth))]
 fn fields_fault(alloc: Global, s: &Schema, fields: &JFields) -> Result<(), Stop>
     ensures { let o = members_fault (shape_of s.now) (members_of fields.now) in
-        MatchResult result (λ _. o ≡ None) (λ e. Stops o e) }
+        MatchResult result (λ _. o ≡ None) (λ e. StopsCheck o e) }
 {
     for f in fields.as_slice() {
         if let Some(node) = s.schema_for(f.name.as_str()) {

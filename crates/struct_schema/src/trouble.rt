@@ -2,7 +2,7 @@
 ghost use Rattle.std.specs.Prelude.{◌≡◌, ◌++◌, [], ◌∷◌, IfOk, Option, Some, false, true, codes, decimal, string_bytes};
 ghost use Rattle.struct_schema.specs.Path.{named, at, point};
 ghost use Rattle.struct_schema.specs.Fault.{Fault, under, here};
-ghost use Rattle.struct_schema.specs.Told.{Stops};
+ghost use Rattle.struct_schema.specs.Told.{StopsCheck};
 
 use kj_value::{NoMemory, Rule, Txt};
 use std::alloc::Global;
@@ -34,7 +34,7 @@ pub(crate) enum Stop {
 
 // A rule that is broken at the value itself. It takes no memory.
 pub(crate) fn broken_here(alloc: Global, rule: Rule) -> Stop
-    ensures { Stops (Some (here rule)) result }
+    ensures { StopsCheck (Some (here rule)) result }
 {
     Stop::Found(Broken {
         path: Txt::of_string(String::new(alloc)),
@@ -69,7 +69,7 @@ fn stepped(alloc: Global, step: &str, named: bool, inner: Broken) -> Result<Brok
 
 // The end of a walk inside the value at a name, as that of the walk around it.
 pub(crate) fn under_name(alloc: Global, name: &str, stop: Stop) -> Stop
-    ensures { (o : Option Fault) → Stops o stop → Stops (under (named name.now) o) result }
+    ensures { (o : Option Fault) → StopsCheck o stop → StopsCheck (under (named name.now) o) result }
 {
     match stop {
         Stop::Starved => Stop::Starved,
@@ -99,7 +99,7 @@ fn at_place(alloc: Global, i: usize, inner: Broken) -> Result<Broken, NoMemory>
 
 // The end of a walk inside an item, as that of the walk around it.
 pub(crate) fn under_item(alloc: Global, i: usize, stop: Stop) -> Stop
-    ensures { (o : Option Fault) → Stops o stop → Stops (under (at i) o) result }
+    ensures { (o : Option Fault) → StopsCheck o stop → StopsCheck (under (at i) o) result }
 {
     match stop {
         Stop::Starved => Stop::Starved,

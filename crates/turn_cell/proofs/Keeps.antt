@@ -17,14 +17,14 @@ use Rattle.turn_cell.specs.declared.view.Stage.TheVariants.{Rest, Waits, Holds, 
 use Rattle.turn_cell.specs.declared.view.View.{View}
 use Rattle.turn_cell.specs.Views.{opening_view, numbers_of, numbers_or, number_or, set_stage, IsAlone, Later, stamped}
 use Rattle.turn_cell.specs.Turns.{is_numbered}
-use Rattle.turn_cell.specs.Rule.{Plan, AtStage, HasAll, Fits, Kept, total, view_parts, parts_of}
+use Rattle.turn_cell.specs.Rule.{CellPlan, AtStage, HasAll, Fits, Kept, total, view_parts, parts_of}
 use Rattle.turn_cell.specs.Steps.{drew, saw, Sees, appended, passed_on, rang}
 use Rattle.turn_cell.proofs.Lists.{put, put_here, put_else, prefix_snoc, prefix_whole, at_here, same_at, total_set, total_two, items_of-other, zero_factor, parts_whole, none_in}
 use Rattle.turn_cell.specs.Laws.{prefix_self, items_of-append}
 use Rattle.std.proofs.lemmas.Nat.{pow_pos}
 
 -- what others know stays, where one seat steps
-module _ {B : Type 0} (p : Plan B) (id j : ℕ) where
+module _ {B : Type 0} (p : CellPlan B) (id j : ℕ) where
   stage_rings : (bells : List ℕ) (seen : List Logged) (st : Stage) → AtStage p j seen st → AtStage (record p { bells = bells }) j seen st
   stage_rings bells seen Rest k = tt
   stage_rings bells seen (Waits t) k = k
@@ -85,13 +85,13 @@ module _ {T B : Type 0} (stands : T → List Logged → Type 0) (base_of : T →
   abbrev Homes : Type 0
   Homes = List (maybe.Option (Option T))
 
-  abbrev pub words_of : Plan B → List ℕ
+  abbrev pub words_of : CellPlan B → List ℕ
   words_of p = p.ticket ∷ p.serving ∷ length p.log ∷ p.callers ∷ p.bells
 
-  abbrev pub Turned : Plan B → List (View B) → Type 0
+  abbrev pub Turned : CellPlan B → List (View B) → Type 0
   Turned p views = p.busy ≡ true → (v : View B) × (get_elem? views (p.owner p.serving) ≡ some v) × (v.stage ≡ Holds p.serving p.added) × (p.serving < p.ticket)
 
-  abbrev pub Topped : Plan B → List (View B) → Type 0
+  abbrev pub Topped : CellPlan B → List (View B) → Type 0
   Topped p views = (v : View B) × (get_elem? views p.top ≡ some v) × (v.seen ≡ p.log)
 
   -- what the view at i is after a change of the seat id, whose view was v and is w
@@ -102,7 +102,7 @@ module _ {T B : Type 0} (stands : T → List Logged → Type 0) (base_of : T →
       (λ ne. (u, set_else views id i w ne ∙ is, h))
 
   -- a step of one seat, which keeps its share and its numbers
-  pub moves : (s : St) (r : Rule s) (p' : Plan B) (id : ℕ) (v w : View B) (hs : Homes) → get_elem? s.views id ≡ some v
+  pub moves : (s : St) (r : Rule s) (p' : CellPlan B) (id : ℕ) (v w : View B) (hs : Homes) → get_elem? s.views id ≡ some v
       → w.share ≡ v.share → numbers_of w ≡ numbers_of v → p'.scale ≡ r.plan.scale → p'.callers ≡ r.plan.callers → p'.keeper ≡ r.plan.keeper
       → (p'.serving ≤ p'.ticket) × (p'.ticket ≤ 2305843009213693952)
       → (p'.busy ≡ false → (x : T) × (hs ≡ some (Some x) ∷ []) × stands x p'.log × (base_of x ≡ p'.base)) → (p'.busy ≡ true → hs ≡ none ∷ [])
@@ -144,9 +144,9 @@ module _ {T B : Type 0} (stands : T → List Logged → Type 0) (base_of : T →
       × Rule record { words = either (r.plan.ticket == old) (old + 1) r.plan.ticket ∷ r.plan.serving ∷ length r.plan.log ∷ r.plan.callers ∷ r.plan.bells; homes = homes_after s.homes me.1 a; views = set s.views id w }
       × drew (step slots 0 old (old + 1) none) me r.plan.ticket (w, carried_after me.1 a)
   draw_at s r slots old id me at rest small true is =
-      let p : Plan B = r.plan in
+      let p : CellPlan B = r.plan in
       let here : p.ticket ≡ old = grind (arith, nat_tests) in
-      let p' : Plan B = record p { ticket = p.ticket + 1; owner = put p.owner p.ticket id } in
+      let p' : CellPlan B = record p { ticket = p.ticket + 1; owner = put p.owner p.ticket id } in
       let w : View B = set_stage me.0 me.0.seen (Waits old) in
       let f = r.each id me.0 at in
       let b = r.bounds in
@@ -217,8 +217,8 @@ module _ {T B : Type 0} (stands : T → List Logged → Type 0) (base_of : T →
       let same : u ≡ me.0 = same_at s.views (r.plan.owner r.plan.serving) id u me.0 is at (ap r.plan.owner here ∙ f.1) in
       absurd (cc (holds, same, waits))
   see_at s r id me t at waits live bare here false free =
-      let p : Plan B = r.plan in
-      let p' : Plan B = record p { busy = true; added = 0; top = id } in
+      let p : CellPlan B = r.plan in
+      let p' : CellPlan B = record p { busy = true; added = 0; top = id } in
       let w : View B = set_stage me.0 p.log (Holds t 0) in
       let f = r.each id me.0 at in
       let k = subst (AtStage p id me.0.seen) waits f.stage in
@@ -266,11 +266,11 @@ module _ {T B : Type 0} (stands : T → List Logged → Type 0) (base_of : T →
   pub appends : (item : Item) (slots id : ℕ) (me : M) (t n : ℕ) → me.0.stage ≡ Holds t 0 → me.0.number ≡ Some n → 0 < me.0.share.top
       → Allows Rule slots id me 2 (λ k. (k + 1) % 2 ^ 64) (appended item (step slots 2 1 0 none) me)
   appends item slots id me t n holds number live s r deep at _ =
-      let p : Plan B = r.plan in
+      let p : CellPlan B = r.plan in
       let v : View B = me.0 in
       let x : Logged = stamped v item in
       let log : List Logged = p.log ++ x ∷ [] in
-      let p' : Plan B = record p { log = log; added = 1; top = id } in
+      let p' : CellPlan B = record p { log = log; added = 1; top = id } in
       let w : View B = set_stage v (v.seen ++ x ∷ []) (Holds t 1) in
       let f = r.each id v at in
       let k = subst (AtStage p id v.seen) holds f.stage in
@@ -329,8 +329,8 @@ module _ {T B : Type 0} (stands : T → List Logged → Type 0) (base_of : T →
   passes_on_with : (slots id : ℕ) (v : View B) (x : T) (t a : ℕ) → v.stage ≡ Holds t a → 0 < v.share.top → stands x v.seen → v.base ≡ Some (base_of x)
       → Allows Rule slots id (v, (0, Some x) ∷ []) 1 (λ k. (k + 1) % 2 ^ 64) (passed_on (step slots 1 1 0 none) (v, (0, Some x) ∷ []))
   passes_on_with slots id v x t a holds live right based s r deep at _ =
-      let p : Plan B = r.plan in
-      let p' : Plan B = record p { serving = p.serving + 1; busy = false; added = 0 } in
+      let p : CellPlan B = r.plan in
+      let p' : CellPlan B = record p { serving = p.serving + 1; busy = false; added = 0 } in
       let w : View B = set_stage v v.seen Rest in
       let f = r.each id v at in
       let k = subst (AtStage p id v.seen) holds f.stage in
@@ -371,8 +371,8 @@ module _ {T B : Type 0} (stands : T → List Logged → Type 0) (base_of : T →
   -- a bell changes, and nothing else
   pub rung : (s : St) (r : Rule s) (bells : List ℕ) → Rule record { words = words_of (record r.plan { bells = bells }); homes = s.homes; views = s.views }
   rung s r bells =
-      let p : Plan B = r.plan in
-      let p' : Plan B = record p { bells = bells } in
+      let p : CellPlan B = r.plan in
+      let p' : CellPlan B = record p { bells = bells } in
       record {
         plan = p';
         words = refl;

@@ -16,7 +16,7 @@ use Rattle.turn_cell.specs.declared.view.Stage.{Stage}
 use Rattle.turn_cell.specs.declared.view.Stage.TheVariants.{Rest, Waits, Holds, Met}
 use Rattle.turn_cell.specs.declared.view.View.{View}
 use Rattle.turn_cell.specs.Views.{numbers_of, numbers_or, set_stage, halved, newcomer, named, longer, sight, meeting, met_with, spent_view, Unites}
-use Rattle.turn_cell.specs.Rule.{Plan, AtStage, HasAll, Fits, Kept, total, view_parts}
+use Rattle.turn_cell.specs.Rule.{CellPlan, AtStage, HasAll, Fits, Kept, total, view_parts}
 use Rattle.turn_cell.specs.Steps.{got_number, looked}
 use Rattle.turn_cell.proofs.Lists.{pick, put, put_here, put_else, prefix_shorter, prefix_whole, prefix_length, at_here, same_at, total_set, total_snoc, none_in, nothing_before, items_between, longer_cases, in_left, in_right, in_cases, differ_append, parts_double, parts_half, parts_both, zero_factor}
 use Rattle.std.proofs.lemmas.Nat.{pow_pos}
@@ -31,7 +31,7 @@ total_double k (v ∷ vs) low =
     omega arith
 
 -- what others know stays where a number is given, and where two seats are joined
-module _ {B : Type 0} (p : Plan B) (id j : ℕ) where
+module _ {B : Type 0} (p : CellPlan B) (id j : ℕ) where
   has_all_names : (seen : List Logged) (numbers : List ℕ) → HasAll p j seen numbers → HasAll (record p { callers = p.callers + 1; keeper = put p.keeper p.callers id }) j seen numbers
   has_all_names seen numbers h n at = let o = h n at in let less = o.0 in (omega arith, put_else p.keeper p.callers id n (λ e. omega arith) ∙ o.1, o.2)
 
@@ -61,8 +61,8 @@ moved_else f other id n ne = go (ℕ_discrete (f n) other)
     go (yes e) = absurd (ne e)
     go (no _) = refl
 
-module _ {B : Type 0} (p : Plan B) (other id : ℕ) (top : ℕ) where
-  abbrev joined : Plan B
+module _ {B : Type 0} (p : CellPlan B) (other id : ℕ) (top : ℕ) where
+  abbrev joined : CellPlan B
   joined = record p { keeper = moved p.keeper other id; top = top }
 
   has_all_joins : (j : ℕ) (seen : List Logged) (numbers : List ℕ) → j ≢ other → HasAll p j seen numbers → HasAll joined j seen numbers
@@ -91,9 +91,9 @@ module _ {T B : Type 0} (stands : T → List Logged → Type 0) (base_of : T →
   -- K7, the split
   pub splits : (id : ℕ) (v : View B) → Splits Rule id v (halved v) (newcomer v)
   splits id v s r at =
-      let p : Plan B = r.plan in
+      let p : CellPlan B = r.plan in
       let k : ℕ = p.scale in
-      let p' : Plan B = record p { scale = k + 1 } in
+      let p' : CellPlan B = record p { scale = k + 1 } in
       let l : View B = halved v in
       let w : View B = newcomer v in
       let f = r.each id v at in
@@ -141,10 +141,10 @@ module _ {T B : Type 0} (stands : T → List Logged → Type 0) (base_of : T →
       × Rule record { words = r.plan.ticket ∷ r.plan.serving ∷ length r.plan.log ∷ either (r.plan.callers == old) (old + 1) r.plan.callers ∷ r.plan.bells; homes = homes_after s.homes me.1 a; views = set s.views id w }
       × got_number (step slots 3 old (old + 1) none) me r.plan.callers (w, carried_after me.1 a)
   name_at s r slots old id me at rest nameless live small true is =
-      let p : Plan B = r.plan in
+      let p : CellPlan B = r.plan in
       let v : View B = me.0 in
       let here : p.callers ≡ old = grind (arith, nat_tests) in
-      let p' : Plan B = record p { callers = p.callers + 1; keeper = put p.keeper p.callers id } in
+      let p' : CellPlan B = record p { callers = p.callers + 1; keeper = put p.keeper p.callers id } in
       let w : View B = named old v in
       let f = r.each id v at in
       let b = r.bounds in
@@ -220,10 +220,10 @@ module _ {T B : Type 0} (stands : T → List Logged → Type 0) (base_of : T →
     all_numbers : numbers_of both ≡ numbers_of v ++ numbers_of w
     all_numbers = ap (λ (o : Option ℕ). numbers_or o (v.met ++ numbers_of w)) number ∙ sym (ap (λ (o : Option ℕ). numbers_or o v.met ++ numbers_of w) number)
 
-    abbrev p : Plan B
+    abbrev p : CellPlan B
     p = r.plan
 
-    abbrev p' : Plan B
+    abbrev p' : CellPlan B
     p' = joined p other id (pick (ℕ_discrete p.top other) id p.top)
 
     left_has : HasAll p' id v.seen (numbers_of v)
@@ -350,7 +350,7 @@ module _ {T B : Type 0} (stands : T → List Logged → Type 0) (base_of : T →
   pub looks : (slots id : ℕ) (me : M) (a b : Sight) → me.0.stage ≡ Met a b → length a.seen ≤ length me.0.seen → length b.seen ≤ length me.0.seen
       → Allows Rule slots id me 2 (λ n. n) (looked (step slots 2 0 0 none) me)
   looks slots id me a b met la lb s r deep at _ =
-      let p : Plan B = r.plan in
+      let p : CellPlan B = r.plan in
       let v : View B = me.0 in
       let w : View B = set_stage v v.seen Rest in
       let f = r.each id v at in

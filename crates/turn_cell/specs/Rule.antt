@@ -20,7 +20,7 @@ last_ticket = 2305843009213693952
 abbrev pub last_pass : ℕ
 last_pass = 4611686018427387904
 
-pub record Plan (B : Type 0) : Type 0 where
+pub record CellPlan (B : Type 0) : Type 0 where
   pub ticket : ℕ
   pub serving : ℕ
   pub callers : ℕ
@@ -38,7 +38,7 @@ pub record Plan (B : Type 0) : Type 0 where
   -- no share is cut more often
   pub scale : ℕ
 
-module _ {B : Type 0} (p : Plan B) (j : ℕ) where
+module _ {B : Type 0} (p : CellPlan B) (j : ℕ) where
   -- what was seen is a beginning, with all items of these numbers, which are the seat's
   abbrev pub HasAll : List Logged → List ℕ → Type 0
   HasAll seen numbers = (n : ℕ) → In n numbers → (n < p.callers) × (p.keeper n ≡ j) × (items_of n seen ≡ items_of n p.log)
@@ -71,7 +71,7 @@ view_parts scale v = parts_of scale v.share
 
 module _ {T B : Type 0} (stands : T → List Logged → Type 0) (base_of : T → B) where
   pub record Kept (s : State (Option T) (View B)) : Type 0 where
-    pub plan : Plan B
+    pub plan : CellPlan B
     pub words : s.words ≡ plan.ticket ∷ plan.serving ∷ length plan.log ∷ plan.callers ∷ plan.bells
     pub bounds : (plan.serving ≤ plan.ticket) × (plan.ticket ≤ last_ticket) × (plan.callers ≤ last_pass)
     -- a value that is home stands for the list

@@ -18,13 +18,13 @@ use Rattle.api_calls.specs.Room.{lacking}
 use Rattle.api_calls.specs.Legal.{IsNew, MayCreate}
 use Rattle.api_calls.specs.Snap.{past}
 use Rattle.api_calls.specs.Growth.{next_number-revision}
-use Rattle.api_calls.specs.Ends.{WriteEnd, done, unserved, present as exists, storage_moved, full, Decision, says, enters, Ends, bound}
+use Rattle.api_calls.specs.Ends.{WriteEnd, done, unserved, present as exists, storage_moved, full, Decision, says, enters, EndsAsDecided, bound}
 use Rattle.api_calls.specs.Writes.{create_commit, with_room, if_storage}
 use Rattle.turn_state.specs.declared.seen.Prepared.{Prepared}
 use Rattle.turn_state.specs.View.{CoreView}
-use Rattle.turn_state.specs.Keeps.{Keeps, IsText}
+use Rattle.turn_state.specs.Keeps.{KeepsObject, IsText}
 use Rattle.turn_state.specs.Stands.{Stands}
-use Rattle.turn_state.specs.Prepared.{Prepares, record_for}
+use Rattle.turn_state.specs.Prepared.{PreparesValue, record_for}
 use Rattle.turn_state.specs.Pairing.{pairs-room, looked-some, looked-none}
 use Rattle.turn_state.specs.Growing.{Puts, written, written-stands}
 use Rattle.turn_state.specs.Deciding.{unless-done, unless-full, unless-present, unless-gone, unless-moved, said, entered, unequal, decides-served, ends-unserved, absent, present, storage-same}
@@ -56,7 +56,7 @@ module _ (m : Meaning) (c : CoreView) (log : List Item) (stands : Stands m c log
   decided v p h = create_commit c.limits (revision log + 1) (state m log) v p.at p.key h p.weight
 
   pub create-unserved : (v : ℕ) (p : Prepared) (h : ObjectView) → served c.flags v ≡ false
-      → Ends bound (Stands m c) log (create_commit c.limits (revision log + 1) (state m log) v p.at p.key h p.weight) unserved
+      → EndsAsDecided bound (Stands m c) log (create_commit c.limits (revision log + 1) (state m log) v p.at p.key h p.weight) unserved
   create-unserved v p h is =
       ends-unserved m c log stands v
       (if is_some (find p.key (state m log).objects) then says exists
@@ -76,18 +76,18 @@ module _ (m : Meaning) (c : CoreView) (log : List Item) (stands : Stands m c log
       else if_storage (state m log) p.at (with_room (revision log + 1) (revision log + 1) (entry (Create p.key h p.weight)) (lacking c.limits (state m log).objects p.weight))) is
 
   pub create-exists : (v : ℕ) (p : Prepared) (h : ObjectView) (x : RecordItem) → served c.flags v ≡ true → find_record item_key p.key c.store.items ≡ Some x
-      → Ends bound (Stands m c) log (create_commit c.limits (revision log + 1) (state m log) v p.at p.key h p.weight) exists
+      → EndsAsDecided bound (Stands m c) log (create_commit c.limits (revision log + 1) (state m log) v p.at p.key h p.weight) exists
   create-exists v p h x may is =
       let (e, there, keeps) = present m c log stands p.key x is in
       said (Stands m c) log (decided v p h) exists (decides v p h (Some e) may there) stands
 
   pub create-seen : (v : ℕ) (p : Prepared) (h : ObjectView) (r : Record) → served c.flags v ≡ true → option_map record_of (find_record item_key p.key c.store.items) ≡ Some r
-      → Ends bound (Stands m c) log (create_commit c.limits (revision log + 1) (state m log) v p.at p.key h p.weight) exists
+      → EndsAsDecided bound (Stands m c) log (create_commit c.limits (revision log + 1) (state m log) v p.at p.key h p.weight) exists
   create-seen v p h r may is = let (x, found, told) = looked-some (find_record item_key p.key c.store.items) r is in create-exists v p h x may found
 
   pub create-moved : (v : ℕ) (p : Prepared) (h : ObjectView) → served c.flags v ≡ true → option_map record_of (find_record item_key p.key c.store.items) ≡ None
       → (p.at ≡ c.flags.storage → ⊥)
-      → Ends bound (Stands m c) log (create_commit c.limits (revision log + 1) (state m log) v p.at p.key h p.weight) (storage_moved c.flags.storage)
+      → EndsAsDecided bound (Stands m c) log (create_commit c.limits (revision log + 1) (state m log) v p.at p.key h p.weight) (storage_moved c.flags.storage)
   create-moved v p h may is other =
       let none = absent m c log stands p.key (looked-none (find_record item_key p.key c.store.items) is) in
       let test = storage-same m c log stands p.at false (unequal p.at c.flags.storage other) in
@@ -113,10 +113,10 @@ module _ (m : Meaning) (c : CoreView) (log : List Item) (stands : Stands m c log
 
   pub create-full : (v : ℕ) (p : Prepared) (h : ObjectView) (r : Room) → served c.flags v ≡ true → find_record item_key p.key c.store.items ≡ None
       → p.at ≡ c.flags.storage → store.lacking c.store p.weight ≡ Some r
-      → Ends bound (Stands m c) log (create_commit c.limits (revision log + 1) (state m log) v p.at p.key h p.weight) (full r)
+      → EndsAsDecided bound (Stands m c) log (create_commit c.limits (revision log + 1) (state m log) v p.at p.key h p.weight) (full r)
   create-full v p h r may is same lacks = said (Stands m c) log (decided v p h) (full r) (decides_room v p h (Some r) may is same lacks) stands
 
-  create-puts : (p : Prepared) (h : ObjectView) → Prepares m p h → (IsTrue m.honest → IsNew h) → find_record item_key p.key c.store.items ≡ None
+  create-puts : (p : Prepared) (h : ObjectView) → PreparesValue m p h → (IsTrue m.honest → IsNew h) → find_record item_key p.key c.store.items ≡ None
       → p.at ≡ c.flags.storage → store.lacking c.store p.weight ≡ None → Puts m c log (record_for p) c.migrations (Create p.key h p.weight)
   create-puts p h prepares new is same lacks =
       let none = absent m c log stands p.key is in
@@ -125,7 +125,7 @@ module _ (m : Meaning) (c : CoreView) (log : List Item) (stands : Stands m c log
       let number : c.revision + 1 ≡ next_number log = ap (λ (n : ℕ). n + 1) stands.revision ∙ sym (next_number-revision log) in
       let may : MayCreate m c.limits p.key h p.weight (state m log) = record { absent = none; value = prepares.value; fresh = new; room = room } in
       let object : Stored = record { key = p.key; h = h; number = next_number log; at = (state m log).flags.storage; born = next_number log; weight = p.weight } in
-      let keeps : Keeps m (new_item (c.revision + 1) (record_for p) None) object = record {
+      let keeps : KeepsObject m (new_item (c.revision + 1) (record_for p) None) object = record {
         key = refl;
         number = number;
         at = storage;
@@ -139,15 +139,15 @@ module _ (m : Meaning) (c : CoreView) (log : List Item) (stands : Stands m c log
         may = may;
         effect = refl;
         past = ap (past (next_number log)) (sym none);
-        keeps = subst (λ (o : Option RecordItem). Keeps m (new_item (c.revision + 1) (record_for p) o) object) (sym is) keeps;
+        keeps = subst (λ (o : Option RecordItem). KeepsObject m (new_item (c.revision + 1) (record_for p) o) object) (sym is) keeps;
         migrations = refl;
         limit = refl;
         plan_is = stands.present.plan;
       }
 
-  pub create-done : (v : ℕ) (p : Prepared) (h : ObjectView) → Prepares m p h → (IsTrue m.honest → IsNew h) → served c.flags v ≡ true
+  pub create-done : (v : ℕ) (p : Prepared) (h : ObjectView) → PreparesValue m p h → (IsTrue m.honest → IsNew h) → served c.flags v ≡ true
       → find_record item_key p.key c.store.items ≡ None → p.at ≡ c.flags.storage → store.lacking c.store p.weight ≡ None
-      → Ends bound (Stands m (written c (record_for p) c.migrations)) log (create_commit c.limits (revision log + 1) (state m log) v p.at p.key h p.weight) (done (c.revision + 1) (c.revision + 1))
+      → EndsAsDecided bound (Stands m (written c (record_for p) c.migrations)) log (create_commit c.limits (revision log + 1) (state m log) v p.at p.key h p.weight) (done (c.revision + 1) (c.revision + 1))
   create-done v p h prepares new may is same lacks =
       let number : revision log + 1 ≡ c.revision + 1 = ap (λ (n : ℕ). n + 1) (sym stands.revision) in
       entered (Stands m (written c (record_for p) c.migrations)) log (decided v p h) (done (c.revision + 1) (c.revision + 1)) (entry (Create p.key h p.weight))
@@ -158,25 +158,25 @@ module _ (m : Meaning) (c : CoreView) (log : List Item) (stands : Stands m c log
 
   pub create-refused_present : (v : ℕ) (p : Prepared) (h : ObjectView) (s : StoreView) → served c.flags v ≡ true
       → put_end None p.weight (find_record item_key p.key c.store.items) c.store ≡ Present → s ≡ c.store
-      → Ends bound (Stands m (record c { store = s })) log (create_commit c.limits (revision log + 1) (state m log) v p.at p.key h p.weight) exists
+      → EndsAsDecided bound (Stands m (record c { store = s })) log (create_commit c.limits (revision log + 1) (state m log) v p.at p.key h p.weight) exists
   create-refused_present v p h s may end is =
       let (x, found) = put-present p.weight (find_record item_key p.key c.store.items) c.store end in
-      subst (λ (t : StoreView). Ends bound (Stands m (record c { store = t })) log (create_commit c.limits (revision log + 1) (state m log) v p.at p.key h p.weight) exists)
+      subst (λ (t : StoreView). EndsAsDecided bound (Stands m (record c { store = t })) log (create_commit c.limits (revision log + 1) (state m log) v p.at p.key h p.weight) exists)
       (sym is) (create-exists v p h x may found)
 
   pub create-refused_full : (v : ℕ) (p : Prepared) (h : ObjectView) (r : Room) (s : StoreView) → served c.flags v ≡ true → p.at ≡ c.flags.storage
       → put_end None p.weight (find_record item_key p.key c.store.items) c.store ≡ Full r → s ≡ c.store
-      → Ends bound (Stands m (record c { store = s })) log (create_commit c.limits (revision log + 1) (state m log) v p.at p.key h p.weight) (full r)
+      → EndsAsDecided bound (Stands m (record c { store = s })) log (create_commit c.limits (revision log + 1) (state m log) v p.at p.key h p.weight) (full r)
   create-refused_full v p h r s may same end is =
       let (none, lacks) = put-full p.weight (find_record item_key p.key c.store.items) c.store r end in
-      subst (λ (t : StoreView). Ends bound (Stands m (record c { store = t })) log (create_commit c.limits (revision log + 1) (state m log) v p.at p.key h p.weight) (full r))
+      subst (λ (t : StoreView). EndsAsDecided bound (Stands m (record c { store = t })) log (create_commit c.limits (revision log + 1) (state m log) v p.at p.key h p.weight) (full r))
       (sym is) (create-full v p h r may none same lacks)
 
-  pub create-written : (v : ℕ) (p : Prepared) (h : ObjectView) (s : StoreView) → Prepares m p h → (IsTrue m.honest → IsNew h) → served c.flags v ≡ true → p.at ≡ c.flags.storage
+  pub create-written : (v : ℕ) (p : Prepared) (h : ObjectView) (s : StoreView) → PreparesValue m p h → (IsTrue m.honest → IsNew h) → served c.flags v ≡ true → p.at ≡ c.flags.storage
       → put_end None p.weight (find_record item_key p.key c.store.items) c.store ≡ Done → s ≡ with_new (c.revision + 1) (record_for p) c.store
-      → Ends bound (Stands m (record c { revision = c.revision + 1; store = s })) log (create_commit c.limits (revision log + 1) (state m log) v p.at p.key h p.weight) (done (c.revision + 1) (c.revision + 1))
+      → EndsAsDecided bound (Stands m (record c { revision = c.revision + 1; store = s })) log (create_commit c.limits (revision log + 1) (state m log) v p.at p.key h p.weight) (done (c.revision + 1) (c.revision + 1))
   create-written v p h s prepares new may same end is =
       let (none, room) = put-done p.weight (find_record item_key p.key c.store.items) c.store end in
       subst
-      (λ (t : StoreView). Ends bound (Stands m (record c { revision = c.revision + 1; store = t })) log (create_commit c.limits (revision log + 1) (state m log) v p.at p.key h p.weight) (done (c.revision + 1) (c.revision + 1)))
+      (λ (t : StoreView). EndsAsDecided bound (Stands m (record c { revision = c.revision + 1; store = t })) log (create_commit c.limits (revision log + 1) (state m log) v p.at p.key h p.weight) (done (c.revision + 1) (c.revision + 1)))
       (sym is) (create-done v p h prepares new may none same room)

@@ -14,20 +14,20 @@ use Rattle.api_calls.specs.Meaning.{Meaning}
 use Rattle.api_calls.specs.Item.{Item}
 use Rattle.api_calls.specs.Objects.{Stored, find}
 use Rattle.api_calls.specs.State.{State, served, state}
-use Rattle.api_calls.specs.Ends.{WriteEnd, unserved, gone, newer, Decision, says, enters, Ends, bound}
+use Rattle.api_calls.specs.Ends.{WriteEnd, unserved, gone, newer, Decision, says, enters, EndsAsDecided, bound}
 use Rattle.api_calls.specs.Writes.{at_number}
 use Rattle.turn_state.specs.View.{CoreView}
-use Rattle.turn_state.specs.Keeps.{Keeps, IsFound}
+use Rattle.turn_state.specs.Keeps.{KeepsObject, IsFound}
 use Rattle.turn_state.specs.Stands.{Stands}
 use Rattle.turn_state.specs.Pairing.{pairs-find, looked-some, looked-none}
 
 -- ---- ends
 
-pub said : (P : List Item → Type 0) (log : List Item) (d : Decision WriteEnd) (a : WriteEnd) → d ≡ says a → P log → Ends bound P log d a
-said P log d a is h = subst (λ (e : Decision WriteEnd). Ends bound P log e a) (sym is) (refl, h)
+pub said : (P : List Item → Type 0) (log : List Item) (d : Decision WriteEnd) (a : WriteEnd) → d ≡ says a → P log → EndsAsDecided bound P log d a
+said P log d a is h = subst (λ (e : Decision WriteEnd). EndsAsDecided bound P log e a) (sym is) (refl, h)
 
-pub entered : (P : List Item → Type 0) (log : List Item) (d : Decision WriteEnd) (a : WriteEnd) (i : Item) → d ≡ enters a i → P (log ++ i ∷ []) → Ends bound P log d a
-entered P log d a i is h = subst (λ (e : Decision WriteEnd). Ends bound P log e a) (sym is) (refl, h)
+pub entered : (P : List Item → Type 0) (log : List Item) (d : Decision WriteEnd) (a : WriteEnd) (i : Item) → d ≡ enters a i → P (log ++ i ∷ []) → EndsAsDecided bound P log d a
+entered P log d a i is h = subst (λ (e : Decision WriteEnd). EndsAsDecided bound P log e a) (sym is) (refl, h)
 
 -- ---- tests
 
@@ -61,10 +61,10 @@ found-none m None None f is = refl
 found-none m None (Some e) f is = absurd f
 found-none m (Some x) q f is = cc
 
-pub found-some : (m : Meaning) (o : Option RecordItem) (q : Option Stored) (x : RecordItem) → IsFound m o q → o ≡ Some x → (e : Stored) × (q ≡ Some e) × Keeps m x e
+pub found-some : (m : Meaning) (o : Option RecordItem) (q : Option Stored) (x : RecordItem) → IsFound m o q → o ≡ Some x → (e : Stored) × (q ≡ Some e) × KeepsObject m x e
 found-some m None q x f is = cc
 found-some m (Some y) None x f is = absurd f
-found-some m (Some y) (Some e) x f is = let same : y ≡ x = cc in (e, refl, subst (λ (z : RecordItem). Keeps m z e) same f)
+found-some m (Some y) (Some e) x f is = let same : y ≡ x = cc in (e, refl, subst (λ (z : RecordItem). KeepsObject m z e) same f)
 
 -- ---- the object that stands at a number
 
@@ -78,7 +78,7 @@ pub record AtNumber (m : Meaning) (c : CoreView) (log : List Item) (k : KeyView)
   pub object : Stored
   pub found : find_record item_key k c.store.items ≡ Some item
   pub there : find k (state m log).objects ≡ Some object
-  pub keeps : Keeps m item object
+  pub keeps : KeepsObject m item object
   pub told : record_of item ≡ r
   pub at_number : object.number ≡ over
 
@@ -93,19 +93,19 @@ module _ (m : Meaning) (c : CoreView) (log : List Item) (stands : Stands m c log
   decides-served v d is = ap (λ (b : Bool). if not b then says unserved else d) (served-same v true is)
 
   -- the version isn't served
-  pub ends-unserved : (v : ℕ) (d : Decision WriteEnd) → served c.flags v ≡ false → Ends bound (Stands m c) log (if not (served (state m log).flags v) then says unserved else d) unserved
+  pub ends-unserved : (v : ℕ) (d : Decision WriteEnd) → served c.flags v ≡ false → EndsAsDecided bound (Stands m c) log (if not (served (state m log).flags v) then says unserved else d) unserved
   ends-unserved v d is = said (Stands m c) log (if not (served (state m log).flags v) then says unserved else d) unserved (decides-unserved v d is) stands
 
   pub absent : (k : KeyView) → find_record item_key k c.store.items ≡ None → find k (state m log).objects ≡ None
   absent k is = found-none m (find_record item_key k c.store.items) (find k (state m log).objects) (pairs-find m k c.store.items (state m log).objects stands.present.records) is
 
-  pub present : (k : KeyView) (x : RecordItem) → find_record item_key k c.store.items ≡ Some x → (e : Stored) × (find k (state m log).objects ≡ Some e) × Keeps m x e
+  pub present : (k : KeyView) (x : RecordItem) → find_record item_key k c.store.items ≡ Some x → (e : Stored) × (find k (state m log).objects ≡ Some e) × KeepsObject m x e
   present k x is = found-some m (find_record item_key k c.store.items) (find k (state m log).objects) x (pairs-find m k c.store.items (state m log).objects stands.present.records) is
 
   -- no object has the key
   pub ends-gone : (v : ℕ) (k : KeyView) (over : ℕ) (next : Stored → Decision WriteEnd) → served c.flags v ≡ true
       → option_map record_of (find_record item_key k c.store.items) ≡ None
-      → Ends bound (Stands m c) log (served_at (state m log) v k over next) gone
+      → EndsAsDecided bound (Stands m c) log (served_at (state m log) v k over next) gone
   ends-gone v k over next may is =
       let none = absent k (looked-none (find_record item_key k c.store.items) is) in
       said (Stands m c) log (served_at (state m log) v k over next) gone
@@ -114,7 +114,7 @@ module _ (m : Meaning) (c : CoreView) (log : List Item) (stands : Stands m c log
   -- it stands at another number
   pub ends-newer : (v : ℕ) (k : KeyView) (over : ℕ) (next : Stored → Decision WriteEnd) (r : Record) → served c.flags v ≡ true
       → option_map record_of (find_record item_key k c.store.items) ≡ Some r → (r.rv ≡ over → ⊥)
-      → Ends bound (Stands m c) log (served_at (state m log) v k over next) (newer r.rv)
+      → EndsAsDecided bound (Stands m c) log (served_at (state m log) v k over next) (newer r.rv)
   ends-newer v k over next r may is other =
       let (x, found, told) = looked-some (find_record item_key k c.store.items) r is in
       let (e, there, keeps) = present k x found in

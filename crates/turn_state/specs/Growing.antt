@@ -18,7 +18,7 @@ use Rattle.api_calls.specs.Legal.{legal, guard, entry_guard}
 use Rattle.api_calls.specs.Snap.{past, entry_past, item_past, floor, window}
 use Rattle.api_calls.specs.Growth.{next_number-more, next_number-revision, state-more, legal-more}
 use Rattle.turn_state.specs.View.{CoreView}
-use Rattle.turn_state.specs.Keeps.{Keeps, KeepsPast, IsFound}
+use Rattle.turn_state.specs.Keeps.{KeepsObject, KeepsPast, IsFound}
 use Rattle.turn_state.specs.Stands.{IsPresent, IsPast, HasLimits, Stands}
 use Rattle.turn_state.specs.Pairing.{pairs-find, pairs-put, pairs-without}
 use Rattle.turn_state.specs.Superseding.{window-same, window-more}
@@ -71,7 +71,7 @@ pub record Puts (m : Meaning) (c : CoreView) (log : List Item) (new : NewRecord)
   pub may : entry_guard m c.limits (state m log) e
   pub effect : entry_effect (next_number log) e (state m log) ≡ record (state m log) { objects = put object (state m log).objects; plan = plan }
   pub past : entry_past (next_number log) e (state m log) ≡ past (next_number log) (find new.key (state m log).objects)
-  pub keeps : Keeps m (new_item (c.revision + 1) new (find_record item_key new.key c.store.items)) object
+  pub keeps : KeepsObject m (new_item (c.revision + 1) new (find_record item_key new.key c.store.items)) object
   pub migrations : ms.items ≡ c.migrations.items
   pub limit : ms.limit ≡ c.migrations.limit
   pub plan_is : ms.plan ≡ plan
@@ -95,8 +95,8 @@ written-stands m c log new ms e h p =
         → Stands m (record c { revision = c.revision + 1; store = s; migrations = ms }) (log ++ entry e ∷ [])
     there s limits last items olds floor_is =
         let records = pairs-put m (new_item (c.revision + 1) new (find_record item_key new.key c.store.items)) p.object c.store.items (state m log).objects p.keeps h.present.records in
-        let its : AllPair (Keeps m) s.items (put p.object (state m log).objects) =
-        subst (λ (xs : List RecordItem). AllPair (Keeps m) xs (put p.object (state m log).objects)) (sym items) records in
+        let its : AllPair (KeepsObject m) s.items (put p.object (state m log).objects) =
+        subst (λ (xs : List RecordItem). AllPair (KeepsObject m) xs (put p.object (state m log).objects)) (sym items) records in
         let present : IsPresent m (record c { revision = c.revision + 1; store = s; migrations = ms }) (record (state m log) { objects = put p.object (state m log).objects; plan = p.plan }) = record {
           flags = h.present.flags;
           stored = h.present.stored;
@@ -136,7 +136,7 @@ abbrev pub dropped : CoreView → KeyView → CoreView
 dropped c k = record c { revision = c.revision + 1; store = removed (c.revision + 1) k c.store }
 
 pub dropped-stands : (m : Meaning) (c : CoreView) (log : List Item) (k : KeyView) (e : Entry) (x : RecordItem) (f : Stored) → Stands m c log
-    → find_record item_key k c.store.items ≡ Some x → find k (state m log).objects ≡ Some f → Keeps m x f
+    → find_record item_key k c.store.items ≡ Some x → find k (state m log).objects ≡ Some f → KeepsObject m x f
     → entry_guard m c.limits (state m log) e
     → entry_effect (next_number log) e (state m log) ≡ record (state m log) { objects = without k (state m log).objects }
     → entry_past (next_number log) e (state m log) ≡ past (next_number log) (find k (state m log).objects)
@@ -182,7 +182,7 @@ pub settled-stands : (m : Meaning) (c : CoreView) (log : List Item) (f : Flags) 
     → Stands m (settled c f vs ms r) (log ++ i ∷ [])
 settled-stands m c log f vs ms r i t h may effect_is none number later flags stored items plan limit objects =
     let same = window-same m c.limits log i none in
-    let records = subst (λ (es : List Stored). AllPair (Keeps m) c.store.items es) (sym objects) h.present.records in
+    let records = subst (λ (es : List Stored). AllPair (KeepsObject m) c.store.items es) (sym objects) h.present.records in
     let dated = h.dated in
     let present : IsPresent m (settled c f vs ms r) t = record { flags = flags; stored = stored; migrations = items; plan = plan; records = records } in
     stands-more m c (settled c f vs ms r) log i h may refl (record { store = h.limits.store; migrations = limit ∙ h.limits.migrations }) number (omega (arith, dated, later))

@@ -14,7 +14,7 @@ pub record IsText (m : Meaning) (at : ℕ) (h : ObjectView) (bytes : List ℕ) :
   pub same : IsTrue m.honest → value ≡ h
 
 -- a record has an object's key, numbers, version and weight, and the text of its value
-pub record Keeps (m : Meaning) (x : RecordItem) (e : Stored) : Type 0 where
+pub record KeepsObject (m : Meaning) (x : RecordItem) (e : Stored) : Type 0 where
   pub key : x.key ≡ e.key
   pub number : x.rv ≡ e.number
   pub at : x.at ≡ e.at
@@ -27,9 +27,9 @@ abbrev pub IsFound : Meaning → Option RecordItem → Option Stored → Type 0
 IsFound m None None = Unit {0}
 IsFound m None (Some e) = ⊥
 IsFound m (Some x) None = ⊥
-IsFound m (Some x) (Some e) = Keeps m x e
+IsFound m (Some x) (Some e) = KeepsObject m x e
 
 -- a superseded record keeps the object that it was, and has the number that superseded it
 pub record KeepsPast (m : Meaning) (o : Old) (p : Past) : Type 0 where
   pub by : o.by ≡ p.by
-  pub object : Keeps m o.item p.object
+  pub object : KeepsObject m o.item p.object

@@ -14,7 +14,7 @@ use Rattle.api_calls.specs.Named.{named_key, Spares, IsNamed}
 use Rattle.api_calls.specs.Objects.{Stored, find, moved, marked, marked_at, born_or}
 use Rattle.api_calls.specs.State.{State, target_of, moved_storage, effect, number_after, number_from, opening, state_from, state}
 use Rattle.api_calls.specs.Legal.{Each, key_of, guard, legal_from, legal}
-use Rattle.api_calls.specs.Laws.{IsSound}
+use Rattle.api_calls.specs.Laws.{IsSoundState}
 use Rattle.api_calls.specs.EachObject.{each-find}
 use Rattle.api_calls.proofs.Order.{itself, exact}
 use Rattle.api_calls.proofs.Lists.{each-put, each-without, each-updated}
@@ -118,7 +118,7 @@ found-keyed m limits log k e honest ignores l is =
 
 -- ---- what stays
 
-stays-step : (m : Meaning) (limits : Limits) (n : ℕ) (k : KeyView) (i : Item) (s : State) → guard m limits s i → IsSound s → Spares k i
+stays-step : (m : Meaning) (limits : Limits) (n : ℕ) (k : KeyView) (i : Item) (s : State) → guard m limits s i → IsSoundState s → Spares k i
     → find k (effect n i s).objects ≡ find k s.objects
 stays-step m limits n k (entry (Create j h w)) s g sound spares =
     find-put_other k (record { key = j; h = h; number = n; at = s.flags.storage; born = n; weight = w }) s.objects (λ same. spares (ap (λ (q : KeyView). Some q) (sym same)))
@@ -143,7 +143,7 @@ stays-step m limits n k (note (Claim c)) s g sound spares = refl
 stays-step m limits n k (note (RangeDone c)) s g sound spares = refl
 stays-step m limits n k (note (GiveBack c)) s g sound spares = refl
 
-stays-from : (m : Meaning) (limits : Limits) (n : ℕ) (k : KeyView) (s : State) (log : List Item) → legal_from m limits n s log → IsSound s → Each (Spares k) log
+stays-from : (m : Meaning) (limits : Limits) (n : ℕ) (k : KeyView) (s : State) (log : List Item) → legal_from m limits n s log → IsSoundState s → Each (Spares k) log
     → find k (state_from n s log).objects ≡ find k s.objects
 stays-from m limits n k s [] l sound spares = refl
 stays-from m limits n k s (i ∷ log) l sound spares =

@@ -10,7 +10,7 @@ use Rattle.api_calls.specs.declared.token.Token.{Token}
 use Rattle.turn_state.specs.declared.pages.Page.{Page}
 use Rattle.turn_state.specs.declared.pages.PageFault.{PageFault}
 use Rattle.turn_state.specs.declared.pages.PageFault.TheVariants as fault
-use Rattle.turn_state.specs.Keeps.{Keeps}
+use Rattle.turn_state.specs.Keeps.{KeepsObject}
 use Rattle.turn_state.specs.Prepared.{seen_item}
 
 -- where a token goes on
@@ -20,23 +20,23 @@ place_of t = record { number = t.rv; key = t.key }
 -- a page has the number of another, keeps its objects one by one, and leaves as many behind
 pub record KeepsPage (m : Meaning) (p : Page) (q : PageOf Stored) : Type 0 where
   pub number : p.rv ≡ q.number
-  pub records : AllPair (Keeps m) (map seen_item p.items) q.items
+  pub records : AllPair (KeepsObject m) (map seen_item p.items) q.items
   pub remaining : p.remaining ≡ q.remaining
 
 -- a page is decided, and this one keeps it
-abbrev pub Shows : Meaning → Page → PageEnd → Type 0
-Shows m p (shown q) = KeepsPage m p q
-Shows m p unserved = ⊥
-Shows m p (ahead r) = ⊥
-Shows m p (expired f) = ⊥
-Shows m p no_memory = ⊥
+abbrev pub ShowsPage : Meaning → Page → PageEnd → Type 0
+ShowsPage m p (shown q) = KeepsPage m p q
+ShowsPage m p unserved = ⊥
+ShowsPage m p (ahead r) = ⊥
+ShowsPage m p (expired f) = ⊥
+ShowsPage m p no_memory = ⊥
 
 -- a refusal is the one that is decided; want of memory tells nothing
-abbrev pub Refuses : PageFault → PageEnd → Type 0
-Refuses fault.Unserved d = d ≡ unserved
-Refuses (fault.Ahead r) d = d ≡ ahead r
-Refuses (fault.Expired f) d = d ≡ expired f
-Refuses fault.NoMemory d = Unit {0}
+abbrev pub RefusesPage : PageFault → PageEnd → Type 0
+RefusesPage fault.Unserved d = d ≡ unserved
+RefusesPage (fault.Ahead r) d = d ≡ ahead r
+RefusesPage (fault.Expired f) d = d ≡ expired f
+RefusesPage fault.NoMemory d = Unit {0}
 
 -- for private clauses: a page shows these records
 pub record IsPageOf (p : Page) (q : PageOf RecordItem) : Type 0 where

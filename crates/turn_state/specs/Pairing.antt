@@ -16,7 +16,7 @@ use Rattle.record_store.specs.Room as store
 use Rattle.api_calls.specs.Meaning.{Meaning}
 use Rattle.api_calls.specs.Objects.{Stored, find, put, without, updated, live}
 use Rattle.api_calls.specs.Room.{lacking_chunks, lacking}
-use Rattle.turn_state.specs.Keeps.{Keeps, IsFound}
+use Rattle.turn_state.specs.Keeps.{KeepsObject, IsFound}
 
 -- ---- objects by key
 
@@ -76,7 +76,7 @@ record-told k (Some x) r bytes key is text =
 -- ---- pairs
 
 module _ (m : Meaning) where
-  pub pairs-find : (k : KeyView) (xs : List RecordItem) (es : List Stored) → AllPair (Keeps m) xs es → IsFound m (find_record item_key k xs) (find k es)
+  pub pairs-find : (k : KeyView) (xs : List RecordItem) (es : List Stored) → AllPair (KeepsObject m) xs es → IsFound m (find_record item_key k xs) (find k es)
   pairs-find k [] [] h = tt
   pairs-find k [] (e ∷ es) h = absurd h
   pairs-find k (x ∷ xs) [] h = absurd h
@@ -90,46 +90,46 @@ module _ (m : Meaning) where
       by Equal more = h.0
       by Greater more = more
 
-  pub pairs-put : (y : RecordItem) (z : Stored) (xs : List RecordItem) (es : List Stored) → Keeps m y z → AllPair (Keeps m) xs es → AllPair (Keeps m) (put_record item_key y xs) (put z es)
+  pub pairs-put : (y : RecordItem) (z : Stored) (xs : List RecordItem) (es : List Stored) → KeepsObject m y z → AllPair (KeepsObject m) xs es → AllPair (KeepsObject m) (put_record item_key y xs) (put z es)
   pairs-put y z [] [] k h = (k, tt)
   pairs-put y z [] (e ∷ es) k h = absurd h
   pairs-put y z (x ∷ xs) [] k h = absurd h
   pairs-put y z (x ∷ xs) (e ∷ es) k h =
-      subst (λ (o : Ordering). AllPair (Keeps m) (match_ordering o (y ∷ x ∷ xs) (y ∷ xs) (x ∷ put_record item_key y xs)) (match_ordering (key_cmp z.key e.key) (z ∷ e ∷ es) (z ∷ es) (e ∷ put z es)))
+      subst (λ (o : Ordering). AllPair (KeepsObject m) (match_ordering o (y ∷ x ∷ xs) (y ∷ xs) (x ∷ put_record item_key y xs)) (match_ordering (key_cmp z.key e.key) (z ∷ e ∷ es) (z ∷ es) (e ∷ put z es)))
       (sym same) (by (key_cmp z.key e.key) (pairs-put y z xs es k h.1))
     where
       same : key_cmp y.key x.key ≡ key_cmp z.key e.key
       same = ap (λ (q : KeyView). key_cmp q x.key) k.key ∙ ap (key_cmp z.key) h.0.key
 
-      by : (o : Ordering) → AllPair (Keeps m) (put_record item_key y xs) (put z es)
-          → AllPair (Keeps m) (match_ordering o (y ∷ x ∷ xs) (y ∷ xs) (x ∷ put_record item_key y xs)) (match_ordering o (z ∷ e ∷ es) (z ∷ es) (e ∷ put z es))
+      by : (o : Ordering) → AllPair (KeepsObject m) (put_record item_key y xs) (put z es)
+          → AllPair (KeepsObject m) (match_ordering o (y ∷ x ∷ xs) (y ∷ xs) (x ∷ put_record item_key y xs)) (match_ordering o (z ∷ e ∷ es) (z ∷ es) (e ∷ put z es))
       by Less more = (k, h)
       by Equal more = (k, h.1)
       by Greater more = (h.0, more)
 
-  pub pairs-without : (k : KeyView) (xs : List RecordItem) (es : List Stored) → AllPair (Keeps m) xs es → AllPair (Keeps m) (without_record item_key k xs) (without k es)
+  pub pairs-without : (k : KeyView) (xs : List RecordItem) (es : List Stored) → AllPair (KeepsObject m) xs es → AllPair (KeepsObject m) (without_record item_key k xs) (without k es)
   pairs-without k [] [] h = tt
   pairs-without k [] (e ∷ es) h = absurd h
   pairs-without k (x ∷ xs) [] h = absurd h
   pairs-without k (x ∷ xs) (e ∷ es) h =
-      subst (λ (q : KeyView). AllPair (Keeps m) (match_ordering (key_cmp k q) (x ∷ xs) xs (x ∷ without_record item_key k xs)) (match_ordering (key_cmp k e.key) (e ∷ es) es (e ∷ without k es)))
+      subst (λ (q : KeyView). AllPair (KeepsObject m) (match_ordering (key_cmp k q) (x ∷ xs) xs (x ∷ without_record item_key k xs)) (match_ordering (key_cmp k e.key) (e ∷ es) es (e ∷ without k es)))
       (sym h.0.key) (by (key_cmp k e.key) (pairs-without k xs es h.1))
     where
-      by : (o : Ordering) → AllPair (Keeps m) (without_record item_key k xs) (without k es)
-          → AllPair (Keeps m) (match_ordering o (x ∷ xs) xs (x ∷ without_record item_key k xs)) (match_ordering o (e ∷ es) es (e ∷ without k es))
+      by : (o : Ordering) → AllPair (KeepsObject m) (without_record item_key k xs) (without k es)
+          → AllPair (KeepsObject m) (match_ordering o (x ∷ xs) xs (x ∷ without_record item_key k xs)) (match_ordering o (e ∷ es) es (e ∷ without k es))
       by Less more = h
       by Equal more = h.1
       by Greater more = (h.0, more)
 
   -- ---- sums
 
-  pub pairs-length : (xs : List RecordItem) (es : List Stored) → AllPair (Keeps m) xs es → length xs ≡ length es
+  pub pairs-length : (xs : List RecordItem) (es : List Stored) → AllPair (KeepsObject m) xs es → length xs ≡ length es
   pairs-length [] [] h = refl
   pairs-length [] (e ∷ es) h = absurd h
   pairs-length (x ∷ xs) [] h = absurd h
   pairs-length (x ∷ xs) (e ∷ es) h = let more = pairs-length xs es h.1 in omega (arith, more)
 
-  pub pairs-weights : (xs : List RecordItem) (es : List Stored) → AllPair (Keeps m) xs es → weights item_weight xs ≡ live es
+  pub pairs-weights : (xs : List RecordItem) (es : List Stored) → AllPair (KeepsObject m) xs es → weights item_weight xs ≡ live es
   pairs-weights [] [] h = refl
   pairs-weights [] (e ∷ es) h = absurd h
   pairs-weights (x ∷ xs) [] h = absurd h
@@ -143,12 +143,12 @@ module _ (m : Meaning) where
   abbrev short_of : ℕ → ℕ → ℕ → ℕ → ℕ → Option Room
   short_of count most all used w = if nat_lt count most then short all used 0 w else Some (record { what = Objects; need = 1; free = 0 })
 
-  pub pairs-chunks : (limits : Limits) (s : StoreView) (es : List Stored) (going w : ℕ) → s.limits ≡ limits → AllPair (Keeps m) s.items es → store.lacking_chunks s going w ≡ lacking_chunks limits es going w
+  pub pairs-chunks : (limits : Limits) (s : StoreView) (es : List Stored) (going w : ℕ) → s.limits ≡ limits → AllPair (KeepsObject m) s.items es → store.lacking_chunks s going w ≡ lacking_chunks limits es going w
   pairs-chunks limits s es going w is h =
       ap (λ (l : Limits). short l.chunks (weights item_weight s.items) going w) is
       ∙ ap (λ (n : ℕ). short limits.chunks n going w) (pairs-weights s.items es h)
 
-  pub pairs-room : (limits : Limits) (s : StoreView) (es : List Stored) (w : ℕ) → s.limits ≡ limits → AllPair (Keeps m) s.items es → store.lacking s w ≡ lacking limits es w
+  pub pairs-room : (limits : Limits) (s : StoreView) (es : List Stored) (w : ℕ) → s.limits ≡ limits → AllPair (KeepsObject m) s.items es → store.lacking s w ≡ lacking limits es w
   pairs-room limits s es w is h =
       ap (λ (l : Limits). short_of (length s.items) l.objects l.chunks (weights item_weight s.items) w) is
       ∙ ap (λ (n : ℕ). short_of n limits.objects limits.chunks (weights item_weight s.items) w) (pairs-length s.items es h)

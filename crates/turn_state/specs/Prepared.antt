@@ -38,7 +38,7 @@ pub record IsSized (p : Prepared) : Type 0 where
   pub within : length p.bytes.bytes ≤ 256 * p.weight
 
 -- a hub value with its key and weight, and its stored text at a version
-pub record Prepares (m : Meaning) (p : Prepared) (h : ObjectView) : Type 0 where
+pub record PreparesValue (m : Meaning) (p : Prepared) (h : ObjectView) : Type 0 where
   pub value : IsTrue m.honest → IsValue m p.key h p.weight
   pub text : IsText m p.at h p.bytes.bytes
 

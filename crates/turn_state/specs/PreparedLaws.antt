@@ -15,7 +15,7 @@ use Rattle.api_calls.specs.Named.{IsNamed, Spares}
 use Rattle.api_calls.specs.Objects.{Stored, find, put, without, updated, moved, marked_at, elsewhere, keys, born_or}
 use Rattle.api_calls.specs.State.{State, target_of, moved_storage, effect, number_after, number_from, opening, state_from, state}
 use Rattle.api_calls.specs.Legal.{Each, In, MayTouch, IsHeld, guard, legal_from, legal}
-use Rattle.api_calls.specs.Laws.{IsRising, IsSound}
+use Rattle.api_calls.specs.Laws.{IsRising, IsSoundState}
 use Rattle.api_calls.specs.Ends.{TurnEnd, touched, missed, says, enters}
 use Rattle.api_calls.specs.Work.{Turn, Work, work_in, work_under, work_of, is_ready, ready_turn, touch_decision}
 use Rattle.api_calls.specs.WorkGuards.{work_of-held, IsPrepared}
@@ -71,7 +71,7 @@ work-plan c s p is = by (running s.migrations)
     by (Some q) = ap (work_in c q.target) is
 
 -- a claim's target is the storage version
-pub work-storage : (c : Option ℕ) (s : State) (w : Work) → IsSound s → work_of c s ≡ Some w → w.target ≡ s.flags.storage
+pub work-storage : (c : Option ℕ) (s : State) (w : Work) → IsSoundState s → work_of c s ≡ Some w → w.target ≡ s.flags.storage
 work-storage c s w sound is = let held = work_of-held c s w is in sym held.target ∙ (sound.plan held.held.migration held.held.runs).target
 
 work-held : (c : ℕ) (s : State) (h : IsHeld c s) → work_of (Some c) s ≡ Some (record { claim = c; span = h.span; target = h.migration.target })
@@ -196,7 +196,7 @@ module _ (c : ℕ) (k : KeyView) (t : ℕ) where
       by Equal o more = find-none k es (each (λ f. key_cmp g.key f.key ≡ Less) (λ f. key_cmp k f.key ≡ Less) es rising.0 (λ f less. same_left k g.key f.key o less))
       by Greater o more = ap (λ (q : Ordering). match_ordering q None (Some g) (find k (without k es))) o ∙ more
 
-  ahead-without : (j : KeyView) (s : State) → IsSound s → IsAhead c k s.flags.storage s → IsAhead c k s.flags.storage (record s { objects = without j s.objects })
+  ahead-without : (j : KeyView) (s : State) → IsSoundState s → IsAhead c k s.flags.storage s → IsAhead c k s.flags.storage (record s { objects = without j s.objects })
   ahead-without j s sound h w held e there away = by (same_or_not k j)
     where
       by : (k ≡ j) ⊎ (k ≢ j) → (in_span w.span k ≡ true) × IsLeast w.span s.flags.storage k (without j s.objects)
@@ -213,7 +213,7 @@ module _ (c : ℕ) (k : KeyView) (t : ℕ) where
   -- ---- a touch
 
   -- by the claim itself none but the key's object is touched, while that stands elsewhere
-  touched-first : (j : KeyView) (s : State) → MayTouch j c s → IsSound s → IsAhead c k s.flags.storage s → (e : Stored) → find k s.objects ≡ Some e → e.at ≢ s.flags.storage → k ≡ j
+  touched-first : (j : KeyView) (s : State) → MayTouch j c s → IsSoundState s → IsAhead c k s.flags.storage s → (e : Stored) → find k s.objects ≡ Some e → e.at ≢ s.flags.storage → k ≡ j
   touched-first j s g sound h e there away =
       let target = (sound.plan g.claim.migration g.claim.runs).target in
       let old = h (record { claim = c; span = g.claim.span; target = g.claim.migration.target }) (work-held c s g.claim) e there away in
@@ -224,7 +224,7 @@ module _ (c : ℕ) (k : KeyView) (t : ℕ) where
       let one : e ≡ g.first = cc in
       sym (find-key k s.objects e there) ∙ ap (λ (f : Stored). f.key) one ∙ g.under
 
-  ahead-touch : (n : ℕ) (j : KeyView) (d : ℕ) (s : State) → MayTouch j d s → IsSound s → IsAhead c k s.flags.storage s
+  ahead-touch : (n : ℕ) (j : KeyView) (d : ℕ) (s : State) → MayTouch j d s → IsSoundState s → IsAhead c k s.flags.storage s
       → IsAhead c k s.flags.storage (record s { objects = updated (moved n (target_of s)) j s.objects; plan = pass_key d j s.plan })
   ahead-touch n j d s g sound h w held e there away = by (same_or_not k j) (nat_eq d c) refl
     where
@@ -298,7 +298,7 @@ module _ (c : ℕ) (k : KeyView) (t : ℕ) where
   once-stopped None p h = h
   once-stopped (Some q) p h = once-cleared p
 
-  keeps-step : (m : Meaning) (limits : Limits) (n : ℕ) (i : Item) (s : State) → guard m limits s i → IsSound s → KeepsNext c k t s → KeepsNext c k t (effect n i s)
+  keeps-step : (m : Meaning) (limits : Limits) (n : ℕ) (i : Item) (s : State) → guard m limits s i → IsSoundState s → KeepsNext c k t s → KeepsNext c k t (effect n i s)
   keeps-step m limits n (entry (Create j h w)) s g sound keeps =
       let x : Stored = record { key = j; h = h; number = n; at = s.flags.storage; born = n; weight = w } in
       keeps-objects s (put (record { key = j; h = h; number = n; at = s.flags.storage; born = n; weight = w }) s.objects)
@@ -376,7 +376,7 @@ module _ (c : ℕ) (k : KeyView) (t : ℕ) where
   keeps-step m limits n (note (RangeDone d)) s g sound keeps = keeps-freed (λ r. Free) d s (λ r ts. refl) (λ r ts. refl) g.claim keeps
   keeps-step m limits n (note (GiveBack d)) s g sound keeps = keeps-freed (λ r. Loose r) d s (λ r ts. refl) (λ r ts. refl) g keeps
 
-  keeps-from : (m : Meaning) (limits : Limits) (n : ℕ) (s : State) (log : List Item) → legal_from m limits n s log → IsSound s → KeepsNext c k t s → KeepsNext c k t (state_from n s log)
+  keeps-from : (m : Meaning) (limits : Limits) (n : ℕ) (s : State) (log : List Item) → legal_from m limits n s log → IsSoundState s → KeepsNext c k t s → KeepsNext c k t (state_from n s log)
   keeps-from m limits n s [] l sound keeps = keeps
   keeps-from m limits n s (i ∷ log) l sound keeps =
       keeps-from m limits (number_after n i) (effect n i s) log l.1 (sound-step m limits n i s l.0 sound) (keeps-step m limits n i s l.0 sound keeps)
@@ -459,7 +459,7 @@ begins m limits log c k rv l p = record {
   storage = λ w held. refl;
 }
   where
-    sound : IsSound (state m log)
+    sound : IsSoundState (state m log)
     sound = sound-from m limits 2 (opening m) log l (sound-opening m)
 
     target : p.work.target ≡ (state m log).flags.storage

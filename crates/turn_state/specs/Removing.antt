@@ -12,7 +12,7 @@ use Rattle.api_calls.specs.Objects.{Stored, find, without}
 use Rattle.api_calls.specs.State.{entry_effect, served, next_number, revision, state}
 use Rattle.api_calls.specs.Legal.{entry_guard}
 use Rattle.api_calls.specs.Snap.{past, entry_past}
-use Rattle.api_calls.specs.Ends.{WriteEnd, done, unserved, gone, newer, Decision, enters, Ends, bound}
+use Rattle.api_calls.specs.Ends.{WriteEnd, done, unserved, gone, newer, Decision, enters, EndsAsDecided, bound}
 use Rattle.api_calls.specs.Writes.{delete_commit, release_commit, at_number}
 use Rattle.turn_state.specs.View.{CoreView}
 use Rattle.turn_state.specs.Stands.{Stands}
@@ -29,7 +29,7 @@ module _ (m : Meaning) (c : CoreView) (log : List Item) (stands : Stands m c log
       → entry_guard m c.limits (state m log) e
       → entry_effect (next_number log) e (state m log) ≡ record (state m log) { objects = without k (state m log).objects }
       → entry_past (next_number log) e (state m log) ≡ past (next_number log) (find k (state m log).objects)
-      → Ends bound (Stands m (dropped c k)) log (served_at (state m log) v k over (removes e)) (done (c.revision + 1) r.born)
+      → EndsAsDecided bound (Stands m (dropped c k)) log (served_at (state m log) v k over (removes e)) (done (c.revision + 1) r.born)
   removed_done v k over e r a may guarded effect_is past_is =
       let number : revision log + 1 ≡ c.revision + 1 = ap (λ (n : ℕ). n + 1) (sym stands.revision) in
       let born : a.object.born ≡ r.born = sym a.keeps.born ∙ ap (λ (q : Record). q.born) a.told in
@@ -40,47 +40,47 @@ module _ (m : Meaning) (c : CoreView) (log : List Item) (stands : Stands m c log
 
   -- ---- a delete
 
-  pub delete-unserved : (v : ℕ) (k : KeyView) (over : ℕ) → served c.flags v ≡ false → Ends bound (Stands m c) log (delete_commit (revision log + 1) (state m log) v k over) unserved
+  pub delete-unserved : (v : ℕ) (k : KeyView) (over : ℕ) → served c.flags v ≡ false → EndsAsDecided bound (Stands m c) log (delete_commit (revision log + 1) (state m log) v k over) unserved
   delete-unserved v k over is = ends-unserved m c log stands v (at_number over (find k (state m log).objects) (removes (Delete k))) is
 
   pub delete-gone : (v : ℕ) (k : KeyView) (over : ℕ) → served c.flags v ≡ true → option_map record_of (find_record item_key k c.store.items) ≡ None
-      → Ends bound (Stands m c) log (delete_commit (revision log + 1) (state m log) v k over) gone
+      → EndsAsDecided bound (Stands m c) log (delete_commit (revision log + 1) (state m log) v k over) gone
   delete-gone v k over may is = ends-gone m c log stands v k over (removes (Delete k)) may is
 
   pub delete-newer : (v : ℕ) (k : KeyView) (over : ℕ) (r : Record) → served c.flags v ≡ true → option_map record_of (find_record item_key k c.store.items) ≡ Some r → (r.rv ≡ over → ⊥)
-      → Ends bound (Stands m c) log (delete_commit (revision log + 1) (state m log) v k over) (newer r.rv)
+      → EndsAsDecided bound (Stands m c) log (delete_commit (revision log + 1) (state m log) v k over) (newer r.rv)
   delete-newer v k over r may is other = ends-newer m c log stands v k over (removes (Delete k)) r may is other
 
   delete_done : (v : ℕ) (k : KeyView) (over : ℕ) (r : Record) → KnownAt m log k over IsFree → served c.flags v ≡ true
       → option_map record_of (find_record item_key k c.store.items) ≡ Some r → r.rv ≡ over
-      → Ends bound (Stands m (dropped c k)) log (delete_commit (revision log + 1) (state m log) v k over) (done (c.revision + 1) r.born)
+      → EndsAsDecided bound (Stands m (dropped c k)) log (delete_commit (revision log + 1) (state m log) v k over) (done (c.revision + 1) r.born)
   delete_done v k over r known may is at =
       let a = at-number m c log stands k over r is at in
       removed_done v k over (Delete k) r a may (record { old = a.object; there = a.there; free = λ honest. known a.object a.there a.at_number honest }) refl refl
 
   pub delete-removed : (v : ℕ) (k : KeyView) (over : ℕ) (r : Record) (s : StoreView) → KnownAt m log k over IsFree → served c.flags v ≡ true
       → option_map record_of (find_record item_key k c.store.items) ≡ Some r → r.rv ≡ over → s ≡ removed (c.revision + 1) k c.store
-      → Ends bound (Stands m (record c { revision = c.revision + 1; store = s })) log (delete_commit (revision log + 1) (state m log) v k over) (done (c.revision + 1) r.born)
+      → EndsAsDecided bound (Stands m (record c { revision = c.revision + 1; store = s })) log (delete_commit (revision log + 1) (state m log) v k over) (done (c.revision + 1) r.born)
   delete-removed v k over r s known may is at store_is =
-      subst (λ (t : StoreView). Ends bound (Stands m (record c { revision = c.revision + 1; store = t })) log (delete_commit (revision log + 1) (state m log) v k over) (done (c.revision + 1) r.born))
+      subst (λ (t : StoreView). EndsAsDecided bound (Stands m (record c { revision = c.revision + 1; store = t })) log (delete_commit (revision log + 1) (state m log) v k over) (done (c.revision + 1) r.born))
       (sym store_is) (delete_done v k over r known may is at)
 
   -- ---- a release
 
-  pub release-unserved : (v : ℕ) (k : KeyView) (over : ℕ) → served c.flags v ≡ false → Ends bound (Stands m c) log (release_commit (revision log + 1) (state m log) v k over) unserved
+  pub release-unserved : (v : ℕ) (k : KeyView) (over : ℕ) → served c.flags v ≡ false → EndsAsDecided bound (Stands m c) log (release_commit (revision log + 1) (state m log) v k over) unserved
   release-unserved v k over is = ends-unserved m c log stands v (at_number over (find k (state m log).objects) (removes (Release k over))) is
 
   pub release-gone : (v : ℕ) (k : KeyView) (over : ℕ) → served c.flags v ≡ true → option_map record_of (find_record item_key k c.store.items) ≡ None
-      → Ends bound (Stands m c) log (release_commit (revision log + 1) (state m log) v k over) gone
+      → EndsAsDecided bound (Stands m c) log (release_commit (revision log + 1) (state m log) v k over) gone
   release-gone v k over may is = ends-gone m c log stands v k over (removes (Release k over)) may is
 
   pub release-newer : (v : ℕ) (k : KeyView) (over : ℕ) (r : Record) → served c.flags v ≡ true → option_map record_of (find_record item_key k c.store.items) ≡ Some r → (r.rv ≡ over → ⊥)
-      → Ends bound (Stands m c) log (release_commit (revision log + 1) (state m log) v k over) (newer r.rv)
+      → EndsAsDecided bound (Stands m c) log (release_commit (revision log + 1) (state m log) v k over) (newer r.rv)
   release-newer v k over r may is other = ends-newer m c log stands v k over (removes (Release k over)) r may is other
 
   release_done : (v : ℕ) (k : KeyView) (over : ℕ) (r : Record) → KnownAt m log k over IsEnding → served c.flags v ≡ true
       → option_map record_of (find_record item_key k c.store.items) ≡ Some r → r.rv ≡ over
-      → Ends bound (Stands m (dropped c k)) log (release_commit (revision log + 1) (state m log) v k over) (done (c.revision + 1) r.born)
+      → EndsAsDecided bound (Stands m (dropped c k)) log (release_commit (revision log + 1) (state m log) v k over) (done (c.revision + 1) r.born)
   release_done v k over r known may is at =
       let a = at-number m c log stands k over r is at in
       removed_done v k over (Release k over) r a may
@@ -88,7 +88,7 @@ module _ (m : Meaning) (c : CoreView) (log : List Item) (stands : Stands m c log
 
   pub release-removed : (v : ℕ) (k : KeyView) (over : ℕ) (r : Record) (s : StoreView) → KnownAt m log k over IsEnding → served c.flags v ≡ true
       → option_map record_of (find_record item_key k c.store.items) ≡ Some r → r.rv ≡ over → s ≡ removed (c.revision + 1) k c.store
-      → Ends bound (Stands m (record c { revision = c.revision + 1; store = s })) log (release_commit (revision log + 1) (state m log) v k over) (done (c.revision + 1) r.born)
+      → EndsAsDecided bound (Stands m (record c { revision = c.revision + 1; store = s })) log (release_commit (revision log + 1) (state m log) v k over) (done (c.revision + 1) r.born)
   release-removed v k over r s known may is at store_is =
-      subst (λ (t : StoreView). Ends bound (Stands m (record c { revision = c.revision + 1; store = t })) log (release_commit (revision log + 1) (state m log) v k over) (done (c.revision + 1) r.born))
+      subst (λ (t : StoreView). EndsAsDecided bound (Stands m (record c { revision = c.revision + 1; store = t })) log (release_commit (revision log + 1) (state m log) v k over) (done (c.revision + 1) r.born))
       (sym store_is) (release_done v k over r known may is at)

@@ -18,13 +18,13 @@ use Rattle.api_calls.specs.State.{served, next_number, revision, state}
 use Rattle.api_calls.specs.Room.{lacking_chunks}
 use Rattle.api_calls.specs.Legal.{MayReplace, MayMark}
 use Rattle.api_calls.specs.Growth.{next_number-revision}
-use Rattle.api_calls.specs.Ends.{WriteEnd, done, kept, unserved, gone, newer, storage_moved, full, Decision, says, enters, Ends, bound}
+use Rattle.api_calls.specs.Ends.{WriteEnd, done, kept, unserved, gone, newer, storage_moved, full, Decision, says, enters, EndsAsDecided, bound}
 use Rattle.api_calls.specs.Writes.{replace_commit, mark_commit, with_room, if_storage, at_number}
 use Rattle.turn_state.specs.declared.seen.Prepared.{Prepared}
 use Rattle.turn_state.specs.View.{CoreView}
-use Rattle.turn_state.specs.Keeps.{Keeps, IsText}
+use Rattle.turn_state.specs.Keeps.{KeepsObject, IsText}
 use Rattle.turn_state.specs.Stands.{Stands}
-use Rattle.turn_state.specs.Prepared.{Prepares, KnownAt, Replacing, Marking, FitsAt, record_for}
+use Rattle.turn_state.specs.Prepared.{PreparesValue, KnownAt, Replacing, Marking, FitsAt, record_for}
 use Rattle.turn_state.specs.Pairing.{find-key, updated-put, pairs-chunks, looked-some}
 use Rattle.turn_state.specs.Growing.{Puts, written, written-stands}
 use Rattle.turn_state.specs.Deciding.{unless-done, unless-full, said, entered, unequal, served_at, AtNumber, ends-unserved, ends-gone, ends-newer, at-number, decides-next, storage-same}
@@ -82,21 +82,21 @@ module _ (m : Meaning) (c : CoreView) (log : List Item) (stands : Stands m c log
       if_storage (state m log) p.at (with_room (revision log + 1) e.born (entry (Replace p.key over h p.weight)) (lacking_chunks c.limits (state m log).objects e.weight p.weight))
 
   pub replace-unserved : (v : ℕ) (p : Prepared) (over : ℕ) (h : ObjectView) → served c.flags v ≡ false
-      → Ends bound (Stands m c) log (replace_commit c.limits (revision log + 1) (state m log) v p.at p.key over h p.weight) unserved
+      → EndsAsDecided bound (Stands m c) log (replace_commit c.limits (revision log + 1) (state m log) v p.at p.key over h p.weight) unserved
   replace-unserved v p over h is = ends-unserved m c log stands v (at_number over (find p.key (state m log).objects) (replaces p over h)) is
 
   pub replace-gone : (v : ℕ) (p : Prepared) (over : ℕ) (h : ObjectView) → served c.flags v ≡ true → option_map record_of (find_record item_key p.key c.store.items) ≡ None
-      → Ends bound (Stands m c) log (replace_commit c.limits (revision log + 1) (state m log) v p.at p.key over h p.weight) gone
+      → EndsAsDecided bound (Stands m c) log (replace_commit c.limits (revision log + 1) (state m log) v p.at p.key over h p.weight) gone
   replace-gone v p over h may is = ends-gone m c log stands v p.key over (replaces p over h) may is
 
   pub replace-newer : (v : ℕ) (p : Prepared) (over : ℕ) (h : ObjectView) (r : Record) → served c.flags v ≡ true
       → option_map record_of (find_record item_key p.key c.store.items) ≡ Some r → (r.rv ≡ over → ⊥)
-      → Ends bound (Stands m c) log (replace_commit c.limits (revision log + 1) (state m log) v p.at p.key over h p.weight) (newer r.rv)
+      → EndsAsDecided bound (Stands m c) log (replace_commit c.limits (revision log + 1) (state m log) v p.at p.key over h p.weight) (newer r.rv)
   replace-newer v p over h r may is other = ends-newer m c log stands v p.key over (replaces p over h) r may is other
 
   pub replace-moved : (v : ℕ) (p : Prepared) (over : ℕ) (h : ObjectView) (r : Record) → served c.flags v ≡ true
       → option_map record_of (find_record item_key p.key c.store.items) ≡ Some r → r.rv ≡ over → (p.at ≡ c.flags.storage → ⊥)
-      → Ends bound (Stands m c) log (replace_commit c.limits (revision log + 1) (state m log) v p.at p.key over h p.weight) (storage_moved c.flags.storage)
+      → EndsAsDecided bound (Stands m c) log (replace_commit c.limits (revision log + 1) (state m log) v p.at p.key over h p.weight) (storage_moved c.flags.storage)
   replace-moved v p over h r may is at other =
       let a = at-number m c log stands p.key over r is at in
       said (Stands m c) log (served_at (state m log) v p.key over (replaces p over h)) (storage_moved c.flags.storage)
@@ -121,12 +121,12 @@ module _ (m : Meaning) (c : CoreView) (log : List Item) (stands : Stands m c log
 
   pub replace-full : (v : ℕ) (p : Prepared) (over : ℕ) (h : ObjectView) (r : Record) (room : Room) → served c.flags v ≡ true
       → option_map record_of (find_record item_key p.key c.store.items) ≡ Some r → r.rv ≡ over → p.at ≡ c.flags.storage → store.lacking_chunks c.store r.weight p.weight ≡ Some room
-      → Ends bound (Stands m c) log (replace_commit c.limits (revision log + 1) (state m log) v p.at p.key over h p.weight) (full room)
+      → EndsAsDecided bound (Stands m c) log (replace_commit c.limits (revision log + 1) (state m log) v p.at p.key over h p.weight) (full room)
   replace-full v p over h r room may is at same lacks =
       let a = at-number m c log stands p.key over r is at in
       said (Stands m c) log (served_at (state m log) v p.key over (replaces p over h)) (full room) (replace_decides v p over h r (Some room) a may same lacks) stands
 
-  replace_puts : (p : Prepared) (over : ℕ) (h : ObjectView) (r : Record) (a : AtNumber m c log p.key over r) → Prepares m p h → KnownAt m log p.key over (Replacing p h)
+  replace_puts : (p : Prepared) (over : ℕ) (h : ObjectView) (r : Record) (a : AtNumber m c log p.key over r) → PreparesValue m p h → KnownAt m log p.key over (Replacing p h)
       → p.at ≡ c.flags.storage → store.lacking_chunks c.store r.weight p.weight ≡ None → Puts m c log (record_for p) c.migrations (Replace p.key over h p.weight)
   replace_puts p over h r a prepares known same lacks =
       let storage : p.at ≡ (state m log).flags.storage = same ∙ ap (λ f. f.storage) stands.present.flags in
@@ -145,7 +145,7 @@ module _ (m : Meaning) (c : CoreView) (log : List Item) (stands : Stands m c log
         born = born_or (find p.key (state m log).objects) (next_number log);
         weight = p.weight;
       } in
-      let keeps : Keeps m (new_item (c.revision + 1) (record_for p) (Some a.item)) object = record {
+      let keeps : KeepsObject m (new_item (c.revision + 1) (record_for p) (Some a.item)) object = record {
         key = refl;
         number = next;
         at = storage;
@@ -159,15 +159,15 @@ module _ (m : Meaning) (c : CoreView) (log : List Item) (stands : Stands m c log
         may = may;
         effect = refl;
         past = refl;
-        keeps = subst (λ (o : Option RecordItem). Keeps m (new_item (c.revision + 1) (record_for p) o) object) (sym a.found) keeps;
+        keeps = subst (λ (o : Option RecordItem). KeepsObject m (new_item (c.revision + 1) (record_for p) o) object) (sym a.found) keeps;
         migrations = refl;
         limit = refl;
         plan_is = stands.present.plan;
       }
 
-  pub replace-done : (v : ℕ) (p : Prepared) (over : ℕ) (h : ObjectView) (r : Record) → Prepares m p h → KnownAt m log p.key over (Replacing p h) → served c.flags v ≡ true
+  pub replace-done : (v : ℕ) (p : Prepared) (over : ℕ) (h : ObjectView) (r : Record) → PreparesValue m p h → KnownAt m log p.key over (Replacing p h) → served c.flags v ≡ true
       → option_map record_of (find_record item_key p.key c.store.items) ≡ Some r → r.rv ≡ over → p.at ≡ c.flags.storage → store.lacking_chunks c.store r.weight p.weight ≡ None
-      → Ends bound (Stands m (written c (record_for p) c.migrations)) log (replace_commit c.limits (revision log + 1) (state m log) v p.at p.key over h p.weight) (done (c.revision + 1) r.born)
+      → EndsAsDecided bound (Stands m (written c (record_for p) c.migrations)) log (replace_commit c.limits (revision log + 1) (state m log) v p.at p.key over h p.weight) (done (c.revision + 1) r.born)
   replace-done v p over h r prepares known may is at same lacks =
       let a = at-number m c log stands p.key over r is at in
       entered (Stands m (written c (record_for p) c.migrations)) log (served_at (state m log) v p.key over (replaces p over h)) (done (c.revision + 1) r.born) (entry (Replace p.key over h p.weight))
@@ -179,22 +179,22 @@ module _ (m : Meaning) (c : CoreView) (log : List Item) (stands : Stands m c log
   pub replace-refused_full : (v : ℕ) (p : Prepared) (over : ℕ) (h : ObjectView) (r : Record) (room : Room) (s : StoreView) → served c.flags v ≡ true
       → option_map record_of (find_record item_key p.key c.store.items) ≡ Some r → r.rv ≡ over → p.at ≡ c.flags.storage
       → put_end (Some over) p.weight (find_record item_key p.key c.store.items) c.store ≡ Full room → s ≡ c.store
-      → Ends bound (Stands m (record c { store = s })) log (replace_commit c.limits (revision log + 1) (state m log) v p.at p.key over h p.weight) (full room)
+      → EndsAsDecided bound (Stands m (record c { store = s })) log (replace_commit c.limits (revision log + 1) (state m log) v p.at p.key over h p.weight) (full room)
   replace-refused_full v p over h r room s may is at same end store_is =
       let lacks = unless-full (store.lacking_chunks c.store r.weight p.weight) room
       (sym (put-at over p.weight (find_record item_key p.key c.store.items) r c.store is at) ∙ end) in
-      subst (λ (t : StoreView). Ends bound (Stands m (record c { store = t })) log (replace_commit c.limits (revision log + 1) (state m log) v p.at p.key over h p.weight) (full room))
+      subst (λ (t : StoreView). EndsAsDecided bound (Stands m (record c { store = t })) log (replace_commit c.limits (revision log + 1) (state m log) v p.at p.key over h p.weight) (full room))
       (sym store_is) (replace-full v p over h r room may is at same lacks)
 
-  pub replace-written : (v : ℕ) (p : Prepared) (over : ℕ) (h : ObjectView) (r : Record) (s : StoreView) → Prepares m p h → KnownAt m log p.key over (Replacing p h) → served c.flags v ≡ true
+  pub replace-written : (v : ℕ) (p : Prepared) (over : ℕ) (h : ObjectView) (r : Record) (s : StoreView) → PreparesValue m p h → KnownAt m log p.key over (Replacing p h) → served c.flags v ≡ true
       → option_map record_of (find_record item_key p.key c.store.items) ≡ Some r → r.rv ≡ over → p.at ≡ c.flags.storage
       → put_end (Some over) p.weight (find_record item_key p.key c.store.items) c.store ≡ Done → s ≡ with_new (c.revision + 1) (record_for p) c.store
-      → Ends bound (Stands m (record c { revision = c.revision + 1; store = s })) log (replace_commit c.limits (revision log + 1) (state m log) v p.at p.key over h p.weight) (done (c.revision + 1) r.born)
+      → EndsAsDecided bound (Stands m (record c { revision = c.revision + 1; store = s })) log (replace_commit c.limits (revision log + 1) (state m log) v p.at p.key over h p.weight) (done (c.revision + 1) r.born)
   replace-written v p over h r s prepares known may is at same end store_is =
       let room = unless-done (store.lacking_chunks c.store r.weight p.weight)
       (sym (put-at over p.weight (find_record item_key p.key c.store.items) r c.store is at) ∙ end) in
       subst
-      (λ (t : StoreView). Ends bound (Stands m (record c { revision = c.revision + 1; store = t })) log (replace_commit c.limits (revision log + 1) (state m log) v p.at p.key over h p.weight) (done (c.revision + 1) r.born))
+      (λ (t : StoreView). EndsAsDecided bound (Stands m (record c { revision = c.revision + 1; store = t })) log (replace_commit c.limits (revision log + 1) (state m log) v p.at p.key over h p.weight) (done (c.revision + 1) r.born))
       (sym store_is) (replace-done v p over h r prepares known may is at same room)
 
   -- ---- a mark
@@ -203,28 +203,28 @@ module _ (m : Meaning) (c : CoreView) (log : List Item) (stands : Stands m c log
   marks at k over stamp e = if_storage (state m log) at (enters (kept (revision log + 1) e.born) (entry (Mark k over stamp)))
 
   pub mark-unserved : (v at : ℕ) (k : KeyView) (over : ℕ) (stamp : List ℕ) → served c.flags v ≡ false
-      → Ends bound (Stands m c) log (mark_commit (revision log + 1) (state m log) v at k over stamp) unserved
+      → EndsAsDecided bound (Stands m c) log (mark_commit (revision log + 1) (state m log) v at k over stamp) unserved
   mark-unserved v at k over stamp is = ends-unserved m c log stands v (at_number over (find k (state m log).objects) (marks at k over stamp)) is
 
   pub mark-gone : (v at : ℕ) (k : KeyView) (over : ℕ) (stamp : List ℕ) → served c.flags v ≡ true → option_map record_of (find_record item_key k c.store.items) ≡ None
-      → Ends bound (Stands m c) log (mark_commit (revision log + 1) (state m log) v at k over stamp) gone
+      → EndsAsDecided bound (Stands m c) log (mark_commit (revision log + 1) (state m log) v at k over stamp) gone
   mark-gone v at k over stamp may is = ends-gone m c log stands v k over (marks at k over stamp) may is
 
   pub mark-newer : (v at : ℕ) (k : KeyView) (over : ℕ) (stamp : List ℕ) (r : Record) → served c.flags v ≡ true
       → option_map record_of (find_record item_key k c.store.items) ≡ Some r → (r.rv ≡ over → ⊥)
-      → Ends bound (Stands m c) log (mark_commit (revision log + 1) (state m log) v at k over stamp) (newer r.rv)
+      → EndsAsDecided bound (Stands m c) log (mark_commit (revision log + 1) (state m log) v at k over stamp) (newer r.rv)
   mark-newer v at k over stamp r may is other = ends-newer m c log stands v k over (marks at k over stamp) r may is other
 
   pub mark-moved : (v at : ℕ) (k : KeyView) (over : ℕ) (stamp : List ℕ) (r : Record) → served c.flags v ≡ true
       → option_map record_of (find_record item_key k c.store.items) ≡ Some r → r.rv ≡ over → (at ≡ c.flags.storage → ⊥)
-      → Ends bound (Stands m c) log (mark_commit (revision log + 1) (state m log) v at k over stamp) (storage_moved c.flags.storage)
+      → EndsAsDecided bound (Stands m c) log (mark_commit (revision log + 1) (state m log) v at k over stamp) (storage_moved c.flags.storage)
   mark-moved v at k over stamp r may is here other =
       let a = at-number m c log stands k over r is here in
       said (Stands m c) log (served_at (state m log) v k over (marks at k over stamp)) (storage_moved c.flags.storage)
       (decides-next m c log stands v k over (marks at k over stamp) r a may
       ∙ storage_other at (enters (kept (revision log + 1) a.object.born) (entry (Mark k over stamp))) other) stands
 
-  mark_puts : (p : Prepared) (over : ℕ) (h : ObjectView) (stamp : List ℕ) (r : Record) (a : AtNumber m c log p.key over r) → Prepares m p h
+  mark_puts : (p : Prepared) (over : ℕ) (h : ObjectView) (stamp : List ℕ) (r : Record) (a : AtNumber m c log p.key over r) → PreparesValue m p h
       → KnownAt m log p.key over (Marking h stamp) → p.at ≡ c.flags.storage → p.weight ≡ a.item.weight
       → Puts m c log (record_for p) c.migrations (Mark p.key over stamp)
   mark_puts p over h stamp r a prepares known same weight =
@@ -241,7 +241,7 @@ module _ (m : Meaning) (c : CoreView) (log : List Item) (stands : Stands m c log
         stored = prepares.text.stored;
         same = λ honest. prepares.text.same honest ∙ (known a.object a.there a.at_number honest).2;
       } in
-      let keeps : Keeps m (new_item (c.revision + 1) (record_for p) (Some a.item)) object = record {
+      let keeps : KeepsObject m (new_item (c.revision + 1) (record_for p) (Some a.item)) object = record {
         key = sym key;
         number = next;
         at = storage;
@@ -256,15 +256,15 @@ module _ (m : Meaning) (c : CoreView) (log : List Item) (stands : Stands m c log
         effect = ap (λ (es : List Stored). record (state m log) { objects = es })
             (updated-put (marked_at (next_number log) (state m log).flags.storage stamp) p.key (state m log).objects a.object key a.there);
         past = refl;
-        keeps = subst (λ (o : Option RecordItem). Keeps m (new_item (c.revision + 1) (record_for p) o) object) (sym a.found) keeps;
+        keeps = subst (λ (o : Option RecordItem). KeepsObject m (new_item (c.revision + 1) (record_for p) o) object) (sym a.found) keeps;
         migrations = refl;
         limit = refl;
         plan_is = stands.present.plan;
       }
 
-  mark_done : (v : ℕ) (p : Prepared) (over : ℕ) (h : ObjectView) (stamp : List ℕ) (r : Record) → Prepares m p h → KnownAt m log p.key over (Marking h stamp) → served c.flags v ≡ true
+  mark_done : (v : ℕ) (p : Prepared) (over : ℕ) (h : ObjectView) (stamp : List ℕ) (r : Record) → PreparesValue m p h → KnownAt m log p.key over (Marking h stamp) → served c.flags v ≡ true
       → option_map record_of (find_record item_key p.key c.store.items) ≡ Some r → r.rv ≡ over → p.at ≡ c.flags.storage → p.weight ≡ r.weight
-      → Ends bound (Stands m (written c (record_for p) c.migrations)) log (mark_commit (revision log + 1) (state m log) v p.at p.key over stamp) (kept (c.revision + 1) r.born)
+      → EndsAsDecided bound (Stands m (written c (record_for p) c.migrations)) log (mark_commit (revision log + 1) (state m log) v p.at p.key over stamp) (kept (c.revision + 1) r.born)
   mark_done v p over h stamp r prepares known may is at same weight =
       let a = at-number m c log stands p.key over r is at in
       entered (Stands m (written c (record_for p) c.migrations)) log (served_at (state m log) v p.key over (marks p.at p.key over stamp)) (kept (c.revision + 1) r.born) (entry (Mark p.key over stamp))
@@ -276,16 +276,16 @@ module _ (m : Meaning) (c : CoreView) (log : List Item) (stands : Stands m c log
       (mark_puts p over h stamp r a prepares known same (weight ∙ ap (λ (q : Record). q.weight) (sym a.told))))
 
   pub mark-written : (v : ℕ) (p : Prepared) (k : KeyView) (over : ℕ) (h : ObjectView) (stamp : List ℕ) (r : Record) (s : StoreView) → FitsAt k over p (find_record item_key k c.store.items)
-      → Prepares m p h → KnownAt m log k over (Marking h stamp)
+      → PreparesValue m p h → KnownAt m log k over (Marking h stamp)
       → served c.flags v ≡ true → option_map record_of (find_record item_key k c.store.items) ≡ Some r → r.rv ≡ over → p.at ≡ c.flags.storage
       → s ≡ with_new (c.revision + 1) (record_for p) c.store
-      → Ends bound (Stands m (record c { revision = c.revision + 1; store = s })) log (mark_commit (revision log + 1) (state m log) v p.at k over stamp) (kept (c.revision + 1) r.born)
+      → EndsAsDecided bound (Stands m (record c { revision = c.revision + 1; store = s })) log (mark_commit (revision log + 1) (state m log) v p.at k over stamp) (kept (c.revision + 1) r.born)
   mark-written v p k over h stamp r s fits prepares known may is at same store_is =
       let (key, weight) = fits-told k over p (find_record item_key k c.store.items) r fits is at in
       subst
-      (λ (t : StoreView). Ends bound (Stands m (record c { revision = c.revision + 1; store = t })) log (mark_commit (revision log + 1) (state m log) v p.at k over stamp) (kept (c.revision + 1) r.born))
+      (λ (t : StoreView). EndsAsDecided bound (Stands m (record c { revision = c.revision + 1; store = t })) log (mark_commit (revision log + 1) (state m log) v p.at k over stamp) (kept (c.revision + 1) r.born))
       (sym store_is)
       (subst
       (λ (q : KeyView). KnownAt m log q over (Marking h stamp) → option_map record_of (find_record item_key q c.store.items) ≡ Some r
-      → Ends bound (Stands m (written c (record_for p) c.migrations)) log (mark_commit (revision log + 1) (state m log) v p.at q over stamp) (kept (c.revision + 1) r.born))
+      → EndsAsDecided bound (Stands m (written c (record_for p) c.migrations)) log (mark_commit (revision log + 1) (state m log) v p.at q over stamp) (kept (c.revision + 1) r.born))
       key (λ known_of is_of. mark_done v p over h stamp r prepares known_of may is_of at same weight) known is)

@@ -12,9 +12,9 @@ use Rattle.api_calls.specs.Meaning.{Meaning}
 use Rattle.api_calls.specs.Versions.{AreFlags}
 use Rattle.api_calls.specs.Item.{Item, entry, SetVersions, Trim, StartMigration}
 use Rattle.api_calls.specs.State.{State, has, joined, next_number, state}
-use Rattle.api_calls.specs.Laws.{IsSound}
+use Rattle.api_calls.specs.Laws.{IsSoundState}
 use Rattle.api_calls.specs.Ends as ends
-use Rattle.api_calls.specs.Ends.{Ends, bound, says, Decision}
+use Rattle.api_calls.specs.Ends.{EndsAsDecided, bound, says, Decision}
 use Rattle.api_calls.specs.Settings.{same_flags, set_decision, first_unknown, first_held, trim_decision, start_decision}
 use Rattle.api_calls.specs.SettingGuards.{set-guard, trim-guard, start-guard}
 use Rattle.record_store.specs.Standing.{item_at, first_held as first_standing}
@@ -35,12 +35,12 @@ module _ (m : Meaning) (c : CoreView) (log : List Item) (st : Stands m c log) wh
   entered_number r next = let number = number-stand m c log st in omega (arith, number, next)
 
   -- nothing is entered: the core stays
-  said : {A : Type 0} (d : Decision A) (a b : A) → d ≡ says b → a ≡ b → Ends bound (Stands m c) log d a
-  said {A} d a b is same = subst (λ (e : Decision A). Ends bound (Stands m c) log e a) (sym is) (same, st)
+  said : {A : Type 0} (d : Decision A) (a b : A) → d ≡ says b → a ≡ b → EndsAsDecided bound (Stands m c) log d a
+  said {A} d a b is same = subst (λ (e : Decision A). EndsAsDecided bound (Stands m c) log e a) (sym is) (same, st)
 
   -- ---- flags
 
-  pub set-unchanged : (f : Flags) → same_flags f c.flags ≡ true → Ends bound (Stands m c) log (set_decision s f) (ends.unchanged c.stored)
+  pub set-unchanged : (f : Flags) → same_flags f c.flags ≡ true → EndsAsDecided bound (Stands m c) log (set_decision s f) (ends.unchanged c.stored)
   set-unchanged f same =
       said (set_decision s f) (ends.unchanged c.stored) (ends.unchanged s.stored)
       (set-same s f (ap (same_flags f) (sym st.present.flags) ∙ same)) (ap ends.unchanged st.present.stored)
@@ -49,9 +49,9 @@ module _ (m : Meaning) (c : CoreView) (log : List Item) (st : Stands m c log) wh
   abbrev pub moved : ℕ → MigrationsView
   moved v = if nat_eq v c.flags.storage then c.migrations else moves.after_fail c.migrations
 
-  pub set-entered : (f : Flags) (r : ℕ) (ss : List ℕ) (ms : MigrationsView) → IsSound s → AreFlags m.count f → same_flags f c.flags ≡ false
+  pub set-entered : (f : Flags) (r : ℕ) (ss : List ℕ) (ms : MigrationsView) → IsSoundState s → AreFlags m.count f → same_flags f c.flags ≡ false
       → r ≡ c.revision + 1 → ss ≡ joined c.stored f.storage → ms ≡ moved f.storage
-      → Ends bound (Stands m (record c { flags = f; stored = ss; revision = r; migrations = ms })) log (set_decision s f) (ends.set ss)
+      → EndsAsDecided bound (Stands m (record c { flags = f; stored = ss; revision = r; migrations = ms })) log (set_decision s f) (ends.set ss)
   set-entered f r ss ms sound flags other next ss_is ms_is =
       let differ : same_flags f s.flags ≡ false = ap (same_flags f) (sym st.present.flags) ∙ other in
       let is = set-done s f differ in
@@ -60,7 +60,7 @@ module _ (m : Meaning) (c : CoreView) (log : List Item) (st : Stands m c log) wh
       let after : ms ≡ after_storage f.storage s (migrations_of c.limits s) =
       ms_is ∙ ap (λ (v : ℕ). if nat_eq f.storage v then c.migrations else moves.after_fail c.migrations) (ap (λ (g : Flags). g.storage) st.present.flags)
       ∙ ap (λ (v : MigrationsView). after_storage f.storage s v) (migrations-stand m c log st) in
-      subst (λ (d : Decision ends.SetEnd). Ends bound (Stands m (record c { flags = f; stored = ss; revision = r; migrations = ms })) log d (ends.set ss)) (sym is) (
+      subst (λ (d : Decision ends.SetEnd). EndsAsDecided bound (Stands m (record c { flags = f; stored = ss; revision = r; migrations = ms })) log d (ends.set ss)) (sym is) (
         ap ends.set list,
         stands-still m c log (entry (SetVersions f)) f ss r ms st
             (set-guard m c.limits s f (entry (SetVersions f)) flags (ap (λ (d : Decision ends.SetEnd). d.item) is))
@@ -70,7 +70,7 @@ module _ (m : Meaning) (c : CoreView) (log : List Item) (st : Stands m c log) wh
 
   -- ---- the stored list
 
-  pub trim-unknown_end : (keep : List ℕ) (v : ℕ) → first_unknown c.stored keep ≡ Some v → Ends bound (Stands m c) log (trim_decision s keep) (ends.unknown v)
+  pub trim-unknown_end : (keep : List ℕ) (v : ℕ) → first_unknown c.stored keep ≡ Some v → EndsAsDecided bound (Stands m c) log (trim_decision s keep) (ends.unknown v)
   trim-unknown_end keep v is =
       said (trim_decision s keep) (ends.unknown v) (ends.unknown v)
       (trim-unknown s keep v (ap (λ (xs : List ℕ). first_unknown xs keep) (sym st.present.stored) ∙ is)) refl
@@ -95,7 +95,7 @@ module _ (m : Meaning) (c : CoreView) (log : List Item) (st : Stands m c log) wh
   held_now keep = held_from c.flags.storage (unkept keep c.stored) (first_standing item_at item_key (until c.flags.storage (unkept keep c.stored)) c.store.items)
 
   pub trim-held_end : (keep : List ℕ) (v : ℕ) (k : Option KeyView) → first_unknown c.stored keep ≡ None → Some (v, k) ≡ held_now keep
-      → Ends bound (Stands m c) log (trim_decision s keep) (ends.still_stored v k)
+      → EndsAsDecided bound (Stands m c) log (trim_decision s keep) (ends.still_stored v k)
   trim-held_end keep v k none held =
       said (trim_decision s keep) (ends.still_stored v k) (ends.still_stored v k)
       (trim-held s keep (v, k) (known keep none) (sym (trim-first keep) ∙ sym held)) refl
@@ -104,19 +104,19 @@ module _ (m : Meaning) (c : CoreView) (log : List Item) (st : Stands m c log) wh
   all_kept keep = all-unkept keep s.stored ∙ ap (λ (xs : List ℕ). nat_eq (length (unkept keep xs)) 0) (sym st.present.stored)
 
   pub trim-unchanged : (keep : List ℕ) → first_unknown c.stored keep ≡ None → None ≡ held_now keep → nat_eq (length (unkept keep c.stored)) 0 ≡ true
-      → Ends bound (Stands m c) log (trim_decision s keep) (ends.untrimmed c.flags c.stored)
+      → EndsAsDecided bound (Stands m c) log (trim_decision s keep) (ends.untrimmed c.flags c.stored)
   trim-unchanged keep none free all =
       said (trim_decision s keep) (ends.untrimmed c.flags c.stored) (ends.untrimmed s.flags s.stored)
       (trim-same s keep (known keep none) (sym (trim-first keep) ∙ sym free) (all_kept keep ∙ all))
       (ap (λ (f : Flags). ends.untrimmed f c.stored) st.present.flags ∙ ap (λ (xs : List ℕ). ends.untrimmed s.flags xs) st.present.stored)
 
-  pub trim-entered : (keep : List ℕ) (r : ℕ) (ss : List ℕ) → IsSound s → first_unknown c.stored keep ≡ None → None ≡ held_now keep → nat_eq (length (unkept keep c.stored)) 0 ≡ false
+  pub trim-entered : (keep : List ℕ) (r : ℕ) (ss : List ℕ) → IsSoundState s → first_unknown c.stored keep ≡ None → None ≡ held_now keep → nat_eq (length (unkept keep c.stored)) 0 ≡ false
       → r ≡ c.revision + 1 → ss ≡ filter (has keep) c.stored
-      → Ends bound (Stands m (record c { stored = ss; revision = r })) log (trim_decision s keep) (ends.trimmed c.flags ss)
+      → EndsAsDecided bound (Stands m (record c { stored = ss; revision = r })) log (trim_decision s keep) (ends.trimmed c.flags ss)
   trim-entered keep r ss sound none free some next ss_is =
       let is = trim-done s keep (known keep none) (sym (trim-first keep) ∙ sym free) (all_kept keep ∙ some) in
       let list : ss ≡ filter (has keep) s.stored = ss_is ∙ ap (λ (xs : List ℕ). filter (has keep) xs) st.present.stored in
-      subst (λ (d : Decision ends.TrimEnd). Ends bound (Stands m (record c { stored = ss; revision = r })) log d (ends.trimmed c.flags ss)) (sym is) (
+      subst (λ (d : Decision ends.TrimEnd). EndsAsDecided bound (Stands m (record c { stored = ss; revision = r })) log d (ends.trimmed c.flags ss)) (sym is) (
         ap (λ (f : Flags). ends.trimmed f ss) st.present.flags ∙ ap (λ (xs : List ℕ). ends.trimmed s.flags xs) list,
         stands-still m c log (entry (Trim (filter (has keep) s.stored))) c.flags ss r c.migrations st
             (trim-guard m c.limits s keep (entry (Trim (filter (has keep) s.stored))) sound (ap (λ (d : Decision ends.TrimEnd). d.item) is))
@@ -127,9 +127,9 @@ module _ (m : Meaning) (c : CoreView) (log : List Item) (st : Stands m c log) wh
   -- ---- the start of a migration
 
   pub start-entered : (name : List ℕ) (target r : ℕ) (ms : MigrationsView) → Decided c.limits (next_number log) s name (start.Done target) ms → r ≡ c.revision + 1
-      → Ends bound (Stands m (record c { revision = r; migrations = ms })) log (start_decision c.limits s name) (ends.started target)
+      → EndsAsDecided bound (Stands m (record c { revision = r; migrations = ms })) log (start_decision c.limits s name) (ends.started target)
   start-entered name target r ms p next =
-      subst (λ (d : Decision ends.StartEnd). Ends bound (Stands m (record c { revision = r; migrations = ms })) log d (ends.started target)) (sym p.decision) (
+      subst (λ (d : Decision ends.StartEnd). EndsAsDecided bound (Stands m (record c { revision = r; migrations = ms })) log d (ends.started target)) (sym p.decision) (
         refl,
         stands-still m c log (entry (StartMigration name)) c.flags c.stored r ms st
             (start-guard m c.limits s name (entry (StartMigration name)) (ap (λ (d : Decision ends.StartEnd). d.item) p.decision))
@@ -138,7 +138,7 @@ module _ (m : Meaning) (c : CoreView) (log : List Item) (st : Stands m c log) wh
       )
 
   pub start-refused : (name : List ℕ) (end : StartEnd) (ms : MigrationsView) → Stays c.limits s name end ms
-      → Ends bound (Stands m (record c { migrations = ms })) log (start_decision c.limits s name) (start_end end)
+      → EndsAsDecided bound (Stands m (record c { migrations = ms })) log (start_decision c.limits s name) (start_end end)
   start-refused name end ms p =
-      subst (λ (d : Decision ends.StartEnd). Ends bound (Stands m (record c { migrations = ms })) log d (start_end end)) (sym p.decision)
+      subst (λ (d : Decision ends.StartEnd). EndsAsDecided bound (Stands m (record c { migrations = ms })) log d (start_end end)) (sym p.decision)
       (refl, stands-same m c log ms st p.same)

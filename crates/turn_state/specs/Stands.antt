@@ -7,7 +7,7 @@ use Rattle.api_calls.specs.State.{State, revision, state}
 use Rattle.api_calls.specs.Legal.{legal}
 use Rattle.api_calls.specs.Snap.{floor, window}
 use Rattle.turn_state.specs.View.{CoreView}
-use Rattle.turn_state.specs.Keeps.{Keeps, KeepsPast}
+use Rattle.turn_state.specs.Keeps.{KeepsObject, KeepsPast}
 
 -- flags, stored list, migrations, plan and records are those of a state
 pub record IsPresent (m : Meaning) (c : CoreView) (s : State) : Type 0 where
@@ -15,7 +15,7 @@ pub record IsPresent (m : Meaning) (c : CoreView) (s : State) : Type 0 where
   pub stored : c.stored ≡ s.stored
   pub migrations : c.migrations.items ≡ s.migrations
   pub plan : c.migrations.plan ≡ s.plan
-  pub records : AllPair (Keeps m) c.store.items s.objects
+  pub records : AllPair (KeepsObject m) c.store.items s.objects
 
 -- the window has a record of each object that was superseded by an entry above the list's floor, in their order, and nothing else
 pub record IsPast (m : Meaning) (c : CoreView) (log : List Item) : Type 0 where

@@ -15,7 +15,7 @@ use Rattle.api_calls.specs.Legal.{guard}
 use Rattle.api_calls.specs.Snap.{Past, by_number, past_weight, item_past, superseded}
 use Rattle.api_calls.specs.Growth.{next_number-more, next_number-revision, state-more, legal-more, superseded-more}
 use Rattle.turn_state.specs.View.{CoreView}
-use Rattle.turn_state.specs.Keeps.{Keeps, KeepsPast}
+use Rattle.turn_state.specs.Keeps.{KeepsObject, KeepsPast}
 use Rattle.turn_state.specs.Stands.{IsPresent, Stands}
 use Rattle.turn_state.specs.WorkRows.{row_of, rows_of, migrations_of}
 
@@ -28,7 +28,7 @@ migrations-stand m c log st = λ i. record { items = st.present.migrations i; pl
 abbrev pub item_row : RecordItem → Row
 item_row x = record { key = x.key; at = x.at; rv = x.rv }
 
-pub rows-pair : (m : Meaning) (xs : List RecordItem) (es : List Stored) → AllPair (Keeps m) xs es → map item_row xs ≡ rows_of es
+pub rows-pair : (m : Meaning) (xs : List RecordItem) (es : List Stored) → AllPair (KeepsObject m) xs es → map item_row xs ≡ rows_of es
 rows-pair m [] [] p = refl
 rows-pair m (x ∷ xs) (e ∷ es) p =
     let row : item_row x ≡ row_of e = λ i. record { key = p.0.key i; at = p.0.at i; rv = p.0.number i } in
@@ -66,7 +66,7 @@ stands-still m c log i f ss r ms st g leaves number later f_is ss_is ms_is = rec
     stored = ss_is;
     migrations = ap (λ (v : MigrationsView). v.items) ms_is;
     plan = ap (λ (v : MigrationsView). v.plan) ms_is;
-    records = subst (λ (es : List Stored). AllPair (Keeps m) c.store.items es) (sym leaves.objects) st.present.records;
+    records = subst (λ (es : List Stored). AllPair (KeepsObject m) c.store.items es) (sym leaves.objects) st.present.records;
   });
   past = record {
     window = subst (λ (ps : List Past). AllPair (KeepsPast m) c.store.window (newest past_weight c.limits ps)) (sym same) st.past.window;

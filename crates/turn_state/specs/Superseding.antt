@@ -12,7 +12,7 @@ use Rattle.api_calls.specs.Objects.{Stored}
 use Rattle.api_calls.specs.State.{next_number, state}
 use Rattle.api_calls.specs.Snap.{Past, past, item_past, superseded, by_number, past_weight, floor, window}
 use Rattle.api_calls.specs.Growth.{superseded-more}
-use Rattle.turn_state.specs.Keeps.{Keeps, KeepsPast}
+use Rattle.turn_state.specs.Keeps.{KeepsObject, KeepsPast}
 
 append-none : (ps : List Past) → ps ++ [] ≡ ps
 append-none [] = refl
@@ -35,7 +35,7 @@ window-same m limits log i none =
 -- an item that supersedes an object: the store's record of it goes into the window
 pub window-more : (m : Meaning) (limits : Limits) (log : List Item) (i : Item) (s : StoreView) (now : ℕ) (x : RecordItem) (e : Stored)
     → s.limits ≡ limits → AllPair (KeepsPast m) s.window (window limits m log) → s.floor ≡ floor limits m log
-    → now ≡ next_number log → Keeps m x e → item_past (next_number log) i (state m log) ≡ past (next_number log) (Some e)
+    → now ≡ next_number log → KeepsObject m x e → item_past (next_number log) i (state m log) ≡ past (next_number log) (Some e)
     → AllPair (KeepsPast m) (newest old_weight s.limits (s.window ++ old now x ∷ [])) (window limits m (log ++ i ∷ []))
     × (floor_from old_by old_weight s.limits s.floor (s.window ++ old now x ∷ []) ≡ floor limits m (log ++ i ∷ []))
 window-more m limits log i s now x e limits_are olds floor_is number keeps past_is = (windows, floors)

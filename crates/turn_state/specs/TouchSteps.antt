@@ -27,16 +27,16 @@ use Rattle.api_calls.specs.Work.{Work, Turn, work_of, is_ready, touch_decision}
 use Rattle.api_calls.specs.WorkGuards.{touch-guard}
 use Rattle.turn_state.specs.declared.seen.Prepared.{Prepared}
 use Rattle.turn_state.specs.View.{CoreView}
-use Rattle.turn_state.specs.Keeps.{Keeps, IsFound}
+use Rattle.turn_state.specs.Keeps.{KeepsObject, IsFound}
 use Rattle.turn_state.specs.Stands.{Stands}
-use Rattle.turn_state.specs.Prepared.{Prepares, KnownAt, FitsAt, record_for}
+use Rattle.turn_state.specs.Prepared.{PreparesValue, KnownAt, FitsAt, record_for}
 use Rattle.turn_state.specs.Pairing.{find-key, updated-put, pairs-find}
 use Rattle.turn_state.specs.Growing.{Puts, written, written-stands}
 use Rattle.turn_state.specs.WorkRows.{row_of, told, elsewhere-rows, work_of-told}
 use Rattle.turn_state.specs.Touches.{touch-missed, touch-done, work_of-target}
 use Rattle.turn_state.specs.Steps.{item_row, migrations-stand, rows-stand, number-stand}
 use Rattle.turn_state.specs.Ready.{is_ready_item, IsFirst, IsNext}
-use Rattle.turn_state.specs.Turned.{Turned}
+use Rattle.turn_state.specs.Turned.{WorkerTurned}
 
 -- ---- what is known of a record that is ready
 
@@ -132,10 +132,10 @@ module _ (m : Meaning) (c : CoreView) (log : List Item) (st : Stands m c log) wh
       ∙ ap (λ (v : ℕ). is_ready_item rv at v (find_record item_key k c.store.items)) same ∙ is
 
   pub touch-missed_end : (claim : Option ℕ) (t : ℕ) (k : KeyView) (rv at : ℕ) → Some t ≡ option_map (λ w. w.target) (moves.work_of claim c.migrations)
-      → is_ready_item rv at t (find_record item_key k c.store.items) ≡ false → Turned (Stands m c) log (touch_decision n s claim k rv at) missed claim
+      → is_ready_item rv at t (find_record item_key k c.store.items) ≡ false → WorkerTurned (Stands m c) log (touch_decision n s claim k rv at) missed claim
   touch-missed_end claim t k rv at has ready =
       let w = work_is claim t has in
-      subst (λ (u : Turn). Turned (Stands m c) log u missed claim) (sym (touch-missed n s claim k rv at w.work w.held (ready_is w.work t k rv at false w.target ready)))
+      subst (λ (u : Turn). WorkerTurned (Stands m c) log u missed claim) (sym (touch-missed n s claim k rv at w.work w.held (ready_is w.work t k rv at false w.target ready)))
       (record { ends = (refl, st); claim = refl })
 
   -- the first object of the claim's range that stands elsewhere has the key
@@ -151,18 +151,18 @@ module _ (m : Meaning) (c : CoreView) (log : List Item) (st : Stands m c log) wh
           let same : row_of e ≡ f.row = cc in
           (e, is, ap (λ (r : Row). r.key) same ∙ f.under)
 
-  found : (k : KeyView) (x : RecordItem) (o : Option Stored) → IsFound m (Some x) o → find k s.objects ≡ o → (e : Stored) × (find k s.objects ≡ Some e) × Keeps m x e
+  found : (k : KeyView) (x : RecordItem) (o : Option Stored) → IsFound m (Some x) o → find k s.objects ≡ o → (e : Stored) × (find k s.objects ≡ Some e) × KeepsObject m x e
   found k x None f is = absurd f
   found k x (Some e) f is = (e, is, f)
 
   pub touch-done_end : (claim : Option ℕ) (t : ℕ) (p : Prepared) (rv : ℕ) (h : ObjectView) (ms : MigrationsView)
       → Some t ≡ option_map (λ w. w.target) (moves.work_of claim c.migrations)
       → is_ready_item rv p.at t (find_record item_key p.key c.store.items) ≡ true
-      → Prepares m p h → KnownAt m log p.key rv (λ e. h ≡ e.h)
+      → PreparesValue m p h → KnownAt m log p.key rv (λ e. h ≡ e.h)
       → FitsAt p.key rv p (find_record item_key p.key c.store.items)
       → IsNext (moves.work_of claim c.migrations) p.key c.store.items (find_record item_key p.key c.store.items)
       → ms ≡ moves.after_pass (moves.work_of claim c.migrations) p.key c.migrations
-      → Turned (Stands m (written c (record_for p) ms)) log (touch_decision n s claim p.key rv p.at) (touched (c.revision + 1)) claim
+      → WorkerTurned (Stands m (written c (record_for p) ms)) log (touch_decision n s claim p.key rv p.at) (touched (c.revision + 1)) claim
   touch-done_end claim t p rv h ms has ready prepares known fits next ms_is =
       let w = work_is claim t has in
       let r = ready-item rv p.at t (find_record item_key p.key c.store.items) ready in
@@ -187,7 +187,7 @@ module _ (m : Meaning) (c : CoreView) (log : List Item) (st : Stands m c log) wh
         effect = ap (λ (es : List Stored). record s { objects = es; plan = pass_key w.work.claim p.key s.plan })
             (updated-put (moved (next_number log) (target_of s)) p.key s.objects f.0 (find-key p.key s.objects f.0 f.1) f.1);
         past = refl;
-        keeps = subst (λ (o : Option RecordItem). Keeps m (new_item (c.revision + 1) (record_for p) o) (moved (next_number log) (target_of s) f.0)) (sym r.there) (record {
+        keeps = subst (λ (o : Option RecordItem). KeepsObject m (new_item (c.revision + 1) (record_for p) o) (moved (next_number log) (target_of s) f.0)) (sym r.there) (record {
           key = sym (find-key p.key s.objects f.0 f.1);
           number = sym (number-stand m c log st);
           at = r.prepared ∙ sym target;
@@ -203,7 +203,7 @@ module _ (m : Meaning) (c : CoreView) (log : List Item) (st : Stands m c log) wh
         limit = ap (λ (v : MigrationsView). v.limit) plan_after;
         plan_is = ap (λ (v : MigrationsView). v.plan) plan_after ∙ ap (pass_key w.work.claim p.key) st.present.plan;
       } in
-      subst (λ (u : Turn). Turned (Stands m (written c (record_for p) ms)) log u (touched (c.revision + 1)) claim) (sym decided) (record {
+      subst (λ (u : Turn). WorkerTurned (Stands m (written c (record_for p) ms)) log u (touched (c.revision + 1)) claim) (sym decided) (record {
         ends = (ap (λ (k : ℕ). touched (k + 1)) st.revision, written-stands m c log (record_for p) ms (Touch p.key w.work.claim) st puts);
         claim = refl;
       })

@@ -13,7 +13,7 @@ use Rattle.api_calls.specs.Objects.{Stored}
 use Rattle.api_calls.specs.State.{State, has}
 use Rattle.api_calls.specs.Ends.{trimmed, untrimmed, unknown, still_stored, says, enters}
 use Rattle.api_calls.specs.Settings.{first_unknown, first_at, hold_of, held_or, first_held, trim_free, trim_known, trim_decision}
-use Rattle.turn_state.specs.Keeps.{Keeps}
+use Rattle.turn_state.specs.Keeps.{KeepsObject}
 
 abbrev pub object_at : Stored → ℕ
 object_at e = e.at
@@ -89,7 +89,7 @@ all-unkept keep (v ∷ vs) = by (has keep v) (all-unkept keep vs)
     by false more = grind (arith, nat_tests)
 
 -- records that pair with objects tell the same
-pairs-first_at : (m : Meaning) (v : ℕ) (xs : List RecordItem) (es : List Stored) → AllPair (Keeps m) xs es → first_seen item_at item_key v xs ≡ first_seen object_at object_key v es
+pairs-first_at : (m : Meaning) (v : ℕ) (xs : List RecordItem) (es : List Stored) → AllPair (KeepsObject m) xs es → first_seen item_at item_key v xs ≡ first_seen object_at object_key v es
 pairs-first_at m v [] [] p = refl
 pairs-first_at m v (x ∷ xs) (e ∷ es) p =
     let more = pairs-first_at m v xs es p.1 in
@@ -99,7 +99,7 @@ pairs-first_at m v (x ∷ xs) (e ∷ es) p =
 pairs-first_at m v [] (e ∷ es) p = absurd p
 pairs-first_at m v (x ∷ xs) [] p = absurd p
 
-pub pairs-first_held : (m : Meaning) (vs : List ℕ) (xs : List RecordItem) (es : List Stored) → AllPair (Keeps m) xs es
+pub pairs-first_held : (m : Meaning) (vs : List ℕ) (xs : List RecordItem) (es : List Stored) → AllPair (KeepsObject m) xs es
     → first_standing item_at item_key vs xs ≡ first_standing object_at object_key vs es
 pairs-first_held m [] xs es p = refl
 pairs-first_held m (v ∷ vs) xs es p =

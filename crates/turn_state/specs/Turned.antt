@@ -4,7 +4,7 @@ use Rattle.migrate_core.specs.declared.ends.StartEnd.{StartEnd}
 use Rattle.migrate_core.specs.declared.ends.StartEnd.TheVariants as start
 use Rattle.api_calls.specs.Item.{Item}
 use Rattle.api_calls.specs.Ends as ends
-use Rattle.api_calls.specs.Ends.{Ends, bound}
+use Rattle.api_calls.specs.Ends.{EndsAsDecided, bound}
 use Rattle.api_calls.specs.Work.{Turn}
 use Rattle.turn_state.specs.declared.ends.SetEnd.{SetEnd}
 use Rattle.turn_state.specs.declared.ends.SetEnd.TheVariants as set
@@ -14,8 +14,8 @@ use Rattle.turn_state.specs.declared.ends.TurnEnd.{TurnEnd}
 use Rattle.turn_state.specs.declared.ends.TurnEnd.TheVariants as turn
 
 -- as it is decided, and with the claim that is decided
-pub record Turned (stands : List Item → Type 0) (log : List Item) (t : Turn) (end : ends.TurnEnd) (left : Option ℕ) : Type 0 where
-  pub ends : Ends bound stands log t.decision end
+pub record WorkerTurned (stands : List Item → Type 0) (log : List Item) (t : Turn) (end : ends.TurnEnd) (left : Option ℕ) : Type 0 where
+  pub ends : EndsAsDecided bound stands log t.decision end
   pub claim : left ≡ t.claim
 
 -- ---- the revision afterwards: what is entered has the next number

@@ -9,7 +9,7 @@ use Rattle.api_calls.specs.Meaning.{Meaning}
 use Rattle.api_calls.specs.Item.{Item, entry, note, Claim, RangeDone, GiveBack, MarkSucceeded}
 use Rattle.api_calls.specs.State.{State, next_number, revision, state}
 use Rattle.api_calls.specs.Legal.{guard}
-use Rattle.api_calls.specs.Ends.{TurnEnd, idle, claimed, prepare, range_done, finished, Ends, bound, says, enters}
+use Rattle.api_calls.specs.Ends.{TurnEnd, idle, claimed, prepare, range_done, finished, EndsAsDecided, bound, says, enters}
 use Rattle.api_calls.specs.Work.{Work, Turn, work_of, turn_decision, give_back_of, give_back_decision}
 use Rattle.api_calls.specs.WorkGuards.{MayFinish, turn-guard, give_back-guard}
 use Rattle.turn_state.specs.View.{CoreView}
@@ -17,7 +17,7 @@ use Rattle.turn_state.specs.Stands.{Stands}
 use Rattle.turn_state.specs.WorkRows.{migrations_of, told}
 use Rattle.turn_state.specs.Works.{Advanced, advance-prepare, advance-done, advance-lost, Taken, Marked, Rests}
 use Rattle.turn_state.specs.Steps.{stands-still, stands-same, number-stand}
-use Rattle.turn_state.specs.Turned.{Turned}
+use Rattle.turn_state.specs.Turned.{WorkerTurned}
 
 module _ (m : Meaning) (c : CoreView) (log : List Item) (st : Stands m c log) where
   abbrev s : State
@@ -37,20 +37,20 @@ module _ (m : Meaning) (c : CoreView) (log : List Item) (st : Stands m c log) wh
   guarded w t i finish is item = turn-guard m c.limits n s w i finish (ap (λ (u : Turn). u.decision.item) is ∙ item)
 
   -- from the decision, which is known, to a turn that ended so
-  turned : (stands : List Item → Type 0) (d t : Turn) (end : TurnEnd) (claim : Option ℕ) → d ≡ t → Turned stands log t end claim → Turned stands log d end claim
-  turned stands d t end claim is h = subst (λ (u : Turn). Turned stands log u end claim) (sym is) h
+  turned : (stands : List Item → Type 0) (d t : Turn) (end : TurnEnd) (claim : Option ℕ) → d ≡ t → WorkerTurned stands log t end claim → WorkerTurned stands log d end claim
+  turned stands d t end claim is h = subst (λ (u : Turn). WorkerTurned stands log u end claim) (sym is) h
 
   -- ---- with a claim
 
   pub turn-prepare : (w : Option ℕ) (k : KeyView) (rv : ℕ) (ms : MigrationsView) → Advanced c.limits s w (advance.Prepare k rv) ms
-      → Turned (WithMigrations ms) log (turn_decision n s w) (prepare k rv) w
+      → WorkerTurned (WithMigrations ms) log (turn_decision n s w) (prepare k rv) w
   turn-prepare w k rv ms a =
       let p = advance-prepare c.limits n s w k rv ms a in
       turned (WithMigrations ms) (turn_decision n s w) (record { decision = says (prepare k rv); claim = w }) (prepare k rv) w p.decision
       (record { ends = (refl, stands-same m c log ms st p.same); claim = refl })
 
   pub turn-done : (w : Option ℕ) (ms : MigrationsView) → MayFinish s → Advanced c.limits s w advance.Done ms
-      → Turned (WithMigrations ms) log (turn_decision n s w) range_done None
+      → WorkerTurned (WithMigrations ms) log (turn_decision n s w) range_done None
   turn-done w ms finish a =
       let p = advance-done c.limits n s w ms a in
       turned (WithMigrations ms) (turn_decision n s w) (record { decision = enters range_done (note (RangeDone p.claim)); claim = None }) range_done None p.decision (record {
@@ -72,7 +72,7 @@ module _ (m : Meaning) (c : CoreView) (log : List Item) (st : Stands m c log) wh
   -- ---- without a claim
 
   pub turn-claimed : (w : Option ℕ) (ms : MigrationsView) → MayFinish s → Taken c.limits n s ms w
-      → Turned (WithMigrations ms) log (turn_decision n s None) claimed w
+      → WorkerTurned (WithMigrations ms) log (turn_decision n s None) claimed w
   turn-claimed w ms finish p =
       turned (WithMigrations ms) (turn_decision n s None) (record { decision = enters claimed (note (Claim (s.plan.last + 1))); claim = w }) claimed w p.decision (record {
         ends = (
@@ -85,7 +85,7 @@ module _ (m : Meaning) (c : CoreView) (log : List Item) (st : Stands m c log) wh
       })
 
   pub turn-finished : (r : ℕ) (ms : MigrationsView) → MayFinish s → r ≡ c.revision + 1 → Marked c.limits n s ms
-      → Turned (Stands m (record c { revision = r; migrations = ms })) log (turn_decision n s None) (finished r) None
+      → WorkerTurned (Stands m (record c { revision = r; migrations = ms })) log (turn_decision n s None) (finished r) None
   turn-finished r ms finish next p =
       let number : r ≡ n = next ∙ ap (λ (k : ℕ). k + 1) st.revision in
       turned (Stands m (record c { revision = r; migrations = ms })) (turn_decision n s None) (record { decision = enters (finished n) (entry MarkSucceeded); claim = None }) (finished r) None p.decision (record {
@@ -98,7 +98,7 @@ module _ (m : Meaning) (c : CoreView) (log : List Item) (st : Stands m c log) wh
         claim = refl;
       })
 
-  pub turn-idle : (ms : MigrationsView) → Rests c.limits n s ms → Turned (WithMigrations ms) log (turn_decision n s None) idle None
+  pub turn-idle : (ms : MigrationsView) → Rests c.limits n s ms → WorkerTurned (WithMigrations ms) log (turn_decision n s None) idle None
   turn-idle ms p =
       turned (WithMigrations ms) (turn_decision n s None) (record { decision = says idle; claim = None }) idle None p.decision
       (record { ends = (refl, stands-same m c log ms st p.same); claim = refl })
@@ -107,11 +107,11 @@ module _ (m : Meaning) (c : CoreView) (log : List Item) (st : Stands m c log) wh
 
   pub given-back : (w : Option ℕ) (was : Bool) (ms : MigrationsView) → was ≡ is_some (option_map told (work_of w s))
       → ms ≡ moves.after_give_back (option_map told (work_of w s)) (migrations_of c.limits s)
-      → Ends bound (WithMigrations ms) log (give_back_decision s w) was
+      → EndsAsDecided bound (WithMigrations ms) log (give_back_decision s w) was
   given-back w was ms was_is ms_is = by (work_of w s) refl was_is ms_is
     where
       by : (o : Option Work) → work_of w s ≡ o → was ≡ is_some (option_map told o) → ms ≡ moves.after_give_back (option_map told o) (migrations_of c.limits s)
-          → Ends bound (WithMigrations ms) log (give_back_of o) was
+          → EndsAsDecided bound (WithMigrations ms) log (give_back_of o) was
       by None held was_is ms_is = (was_is, stands-same m c log ms st ms_is)
       by (Some v) held was_is ms_is = (
         was_is,

@@ -40,18 +40,18 @@ advanced limits s c a v after rs v_is rs_is answer plan =
     }
 
 -- something is to be prepared: nothing changes, and the worker keeps its claim
-pub record Prepares (limits : Limits) (n : ℕ) (s : State) (c : Option ℕ) (k : KeyView) (rv : ℕ) (after : MigrationsView) : Type 0 where
+pub record PreparesNext (limits : Limits) (n : ℕ) (s : State) (c : Option ℕ) (k : KeyView) (rv : ℕ) (after : MigrationsView) : Type 0 where
   pub decision : turn_decision n s c ≡ record { decision = says (prepare k rv); claim = c }
   pub same : after ≡ migrations_of limits s
 
 pub advance-prepare : (limits : Limits) (n : ℕ) (s : State) (c : Option ℕ) (k : KeyView) (rv : ℕ) (after : MigrationsView)
-    → Advanced limits s c (advance.Prepare k rv) after → Prepares limits n s c k rv after
+    → Advanced limits s c (advance.Prepare k rv) after → PreparesNext limits n s c k rv after
 advance-prepare limits n s c k rv after a = by a.work a.of_claim a.answer a.plan
   where
     with_first : (w : Work) (o : Option Stored) → work_of c s ≡ Some w → elsewhere w.span w.target s.objects ≡ o
         → advance.Prepare k rv ≡ moves.next_step (option_map row_of o)
         → after ≡ moves.after_step w.claim (option_map row_of o) (migrations_of limits s)
-        → Prepares limits n s c k rv after
+        → PreparesNext limits n s c k rv after
     with_first w None held first answer plan = cc
     with_first w (Some e) held first answer plan =
         let key : k ≡ e.key = cc in
@@ -62,7 +62,7 @@ advance-prepare limits n s c k rv after a = by a.work a.of_claim a.answer a.plan
         }
 
     by : (o : Option Work) → work_of c s ≡ o → advance.Prepare k rv ≡ moves.advance_end (option_map told o) (rows_of s.objects)
-        → after ≡ moves.after_advance (option_map told o) (rows_of s.objects) (migrations_of limits s) → Prepares limits n s c k rv after
+        → after ≡ moves.after_advance (option_map told o) (rows_of s.objects) (migrations_of limits s) → PreparesNext limits n s c k rv after
     by None held answer plan = cc
     by (Some w) held answer plan =
         let first = elsewhere-rows w.span w.target s.objects in

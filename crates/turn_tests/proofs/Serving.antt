@@ -10,7 +10,7 @@ use Rattle.turn_cell.specs.Turns.{addition}
 use Rattle.turn_cell.specs.Laws.{items_of-append}
 use Rattle.turn_tests.specs.declared.counter.AddEnd.{AddEnd}
 use Rattle.turn_tests.specs.Counts.{IsReply, entered_by}
-use Rattle.turn_tests.specs.Calls.{Serves, Answers}
+use Rattle.turn_tests.specs.Calls.{ServesAsCounter, AnswersAsCounter}
 
 -- what is left of a list that has no more items of a pass has none
 none_more : (n : ℕ) (xs ys : List Logged) → items_of n (xs ++ ys) ≡ items_of n xs → items_of n ys ≡ []
@@ -23,13 +23,13 @@ none_more n xs ys e =
     empty (x ∷ zs) z = absurd (omega arith)
 
 module _ {B : Type 0} (limit : ℕ) (v : View B) where
-  pub serves_none : (p : List Logged) → Serves limit v p [] [] p
+  pub serves_none : (p : List Logged) → ServesAsCounter limit v p [] [] p
   serves_none p = ([], sym (append-nil p), λ n h. refl)
 
   -- the list q goes on as log, with items of others alone
-  pub serves_snoc : (p q log z : List Logged) (xs : List ℕ) (rs : List AddEnd) (x : ℕ) (r : AddEnd) → Serves limit v p xs rs q
+  pub serves_snoc : (p q log z : List Logged) (xs : List ℕ) (rs : List AddEnd) (x : ℕ) (r : AddEnd) → ServesAsCounter limit v p xs rs q
       → (rest : List Logged) × (q ++ rest ≡ log) → ((n : ℕ) → In n (numbers_of v) → items_of n log ≡ items_of n q)
-      → IsReply limit log x r → z ≡ log ++ addition v log (entered_by r x) → Serves limit v p (xs ++ x ∷ []) (rs ++ r ∷ []) z
+      → IsReply limit log x r → z ≡ log ++ addition v log (entered_by r x) → ServesAsCounter limit v p (xs ++ x ∷ []) (rs ++ r ∷ []) z
   serves_snoc p q log z [] [] x r served on none_new reply is =
       let others : List Logged = served.0 ++ on.0 in
       let all : log ≡ p ++ others = sym on.1 ∙ (ap (λ xs. xs ++ on.0) served.1 ∙ append_assoc p served.0 on.0) in (
@@ -37,7 +37,7 @@ module _ {B : Type 0} (limit : ℕ) (v : View B) where
         (λ n h. let tail : items_of n on.0 ≡ [] = none_more n q on.0 (ap (items_of n) on.1 ∙ none_new n h) in
             items_of-append n served.0 on.0 ∙ ((λ i. served.2 n h i ++ tail i) ∙ refl)),
         subst (λ (xs : List Logged). IsReply limit xs x r) all reply,
-        subst (λ (xs : List Logged). Serves limit v (xs ++ addition v xs (entered_by r x)) [] [] z) all
+        subst (λ (xs : List Logged). ServesAsCounter limit v (xs ++ addition v xs (entered_by r x)) [] [] z) all
             ([], is ∙ sym (append-nil (log ++ addition v log (entered_by r x))), λ n h. refl),
       )
   serves_snoc p q log z [] (s ∷ rs) x r served on none_new reply is = absurd served
@@ -50,8 +50,8 @@ module _ {B : Type 0} (limit : ℕ) (v : View B) where
   )
 
   -- the same by the contract of one call
-  pub serves_more : (u z : View B) (xs : List ℕ) (rs : List AddEnd) (x : ℕ) (r : AddEnd) → u ≡ set_stage v u.seen Rest → Serves limit v v.seen xs rs u.seen → Answers limit u z x r
-      → (z ≡ set_stage v z.seen Rest) × Serves limit v v.seen (xs ++ x ∷ []) (rs ++ r ∷ []) z.seen
+  pub serves_more : (u z : View B) (xs : List ℕ) (rs : List AddEnd) (x : ℕ) (r : AddEnd) → u ≡ set_stage v u.seen Rest → ServesAsCounter limit v v.seen xs rs u.seen → AnswersAsCounter limit u z x r
+      → (z ≡ set_stage v z.seen Rest) × ServesAsCounter limit v v.seen (xs ++ x ∷ []) (rs ++ r ∷ []) z.seen
   serves_more u z xs rs x r same served answers =
       let log : List Logged = answers.0 in
       let t = answers.1 in

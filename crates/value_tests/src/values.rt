@@ -1,7 +1,7 @@
 ghost use Rattle.std.specs.Prelude.{◌≤◌};
 
 use kj_value::{
-    JFields, JItems, JVal, JsonFault, MAX_LEVELS, Stamp, TextList, TextMap, Txt, copy, depth,
+    JFields, JItems, JVal, JsonFault, MAX_JSON_LEVELS, Stamp, TextList, TextMap, Txt, copy, depth,
     one_reading, one_text, read, reading_depth, same, sound, text_reads, write,
 };
 use std::alloc::Global;
@@ -9,7 +9,7 @@ use std::process::Abort;
 use std::test::Fail;
 
 fn fault(alloc: Global, text: &[u8], levels: u32) -> Option<JsonFault>
-    requires { levels ≤ MAX_LEVELS }
+    requires { levels ≤ MAX_JSON_LEVELS }
 {
     match read(alloc, text, levels) {
         Ok(_) => None,
@@ -30,19 +30,19 @@ fn nested(alloc: Global, levels: usize) -> Result<Vec<u8>, Fail> {
 }
 
 fn refused(rt: &impl Abort, alloc: Global, text: &[u8], levels: u32, want: JsonFault)
-    requires { levels ≤ MAX_LEVELS }
+    requires { levels ≤ MAX_JSON_LEVELS }
 {
     assert_eq!(rt; fault(alloc, text, levels), Some(want));
 }
 
 fn accepted(rt: &impl Abort, alloc: Global, text: &[u8], levels: u32)
-    requires { levels ≤ MAX_LEVELS }
+    requires { levels ≤ MAX_JSON_LEVELS }
 {
     assert_eq!(rt; fault(alloc, text, levels), None);
 }
 
 fn text_of(alloc: Global, v: &JVal) -> Result<Txt, Fail> {
-    if depth(v) > MAX_LEVELS {
+    if depth(v) > MAX_JSON_LEVELS {
         return Err(Fail::from("deep"));
     }
     Ok(write(alloc, v)?)

@@ -3,10 +3,10 @@ use Rattle.std.proofs.Common.{◌≡◌, ◌∙◌, ℕ, ◌≤◌, ◌<◌, Lis
 use Rattle.std.specs.Prelude.{IsUtf8}
 use Rattle.serde_json.specs.Data as serde
 use Rattle.kj_value.specs.Json.{Json, depth}
-use Rattle.kj_value.specs.Sound.{IsSound}
+use Rattle.kj_value.specs.Sound.{IsSoundJson}
 use Rattle.kj_value.specs.Text.{text_of}
 use Rattle.kj_value.specs.Reading.{Reads, json_of}
-use Rattle.kj_value.specs.Fault.{IsRefused}
+use Rattle.kj_value.specs.Fault.{IsRefusedJson}
 use Rattle.kj_value.specs.declared.reading.JsonFault.TheVariants.{NotJson, TooDeep, NotWhole}
 use Rattle.kube_meta.specs.View.{ObjectView}
 use Rattle.kube_meta.specs.Document.{document}
@@ -28,7 +28,7 @@ pub record IsKept (v : ℕ) (bytes : List ℕ) (h : ObjectView) : Type 0 where
 deeper : (bytes : List ℕ) (m n : ℕ) (j : Json) → Reads bytes m j → m ≤ n → Reads bytes n j
 deeper bytes m n j r le = (r.0, r.1, omega (arith, r.2, le), r.3)
 
-pub kept : (v : ℕ) (bytes : List ℕ) (h : ObjectView) → ((j : Json) → IsSound j → depth j ≤ 100 → IsUtf8 (text_of j) → Reads (text_of j) (depth j) j)
+pub kept : (v : ℕ) (bytes : List ℕ) (h : ObjectView) → ((j : Json) → IsSoundJson j → depth j ≤ 100 → IsUtf8 (text_of j) → Reads (text_of j) (depth j) j)
     → IsStored two_names v h bytes → IsKept v bytes h
 kept v bytes h text_reads s =
     let p = s.pairs.parts in
@@ -48,16 +48,16 @@ kept v bytes h text_reads s =
     }
 
 -- what reads isn't refused
-pub never_not_json : (bytes : List ℕ) (j : Json) → Reads bytes 64 j → IsRefused bytes 64 NotJson → ⊥
+pub never_not_json : (bytes : List ℕ) (j : Json) → Reads bytes 64 j → IsRefusedJson bytes 64 NotJson → ⊥
 never_not_json bytes j r n = n r.0 r.1
 
-pub never_too_deep : (bytes : List ℕ) (j : Json) → Reads bytes 64 j → IsRefused bytes 64 TooDeep → ⊥
+pub never_too_deep : (bytes : List ℕ) (j : Json) → Reads bytes 64 j → IsRefusedJson bytes 64 TooDeep → ⊥
 never_too_deep bytes j r n =
     let same : n.0 ≡ r.0 = one_data bytes n.0 r.0 n.1 r.1 in
     let deep : 64 < serde.depth r.0 = subst (λ (d : serde.Data). 64 < serde.depth d) same n.2 in
     omega (arith, deep, r.2)
 
-pub never_not_whole : (bytes : List ℕ) (j : Json) → Reads bytes 64 j → IsRefused bytes 64 NotWhole → ⊥
+pub never_not_whole : (bytes : List ℕ) (j : Json) → Reads bytes 64 j → IsRefusedJson bytes 64 NotWhole → ⊥
 never_not_whole bytes j r n =
     let same : n.0 ≡ r.0 = one_data bytes n.0 r.0 n.1 r.1 in
     some_none r.0 j r.3 (ap json_of (sym same) ∙ n.3)

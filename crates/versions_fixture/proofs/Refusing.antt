@@ -8,10 +8,10 @@ use Rattle.api_calls.specs.Versions.{Refused}
 use Rattle.api_calls.specs.declared.versions.Admitted.{Admitted}
 use Rattle.api_calls.specs.declared.versions.AdmitFault.{AdmitFault}
 use Rattle.api_calls.specs.declared.versions.AdmitFault.TheVariants as fault
-use Rattle.versions_fixture.specs.Definition.{IsFault, IsInvalid, Refuses}
+use Rattle.versions_fixture.specs.Definition.{IsFault, IsInvalid, FixtureRefuses}
 
 pub refused_by : (r : Request) (name field : List ℕ) (rule : Rule) (f : AdmitFault) → IsFault name field rule f
-    → ((cause : CauseView) → cause ≡ record { field = field; rule = rule } → IsInvalid r name cause) → Refused (Refuses r) ⊥ f
+    → ((cause : CauseView) → cause ≡ record { field = field; rule = rule } → IsInvalid r name cause) → Refused (FixtureRefuses r) ⊥ f
 refused_by r name field rule (fault.BadRequest why) is h = absurd is
 refused_by r name field rule (fault.Invalid given cause) is h =
     subst (λ (n : List ℕ). IsInvalid r n (cause_of cause)) (sym is.0) (h (cause_of cause) is.1)

@@ -8,7 +8,7 @@ use Rattle.std.proofs.lemmas.List.Sums.{AllPass-from_list_all}
 use Rattle.std.proofs.lemmas.Str.Ascii.{IsAscii-from_all}
 use Rattle.kube_meta.specs.Names.{is_name, is_namespace}
 use Rattle.versions_fixture.specs.Parts.{PartsView}
-use Rattle.versions_fixture.specs.Definition.{IsWhole}
+use Rattle.versions_fixture.specs.Definition.{IsFixtureHub}
 use Rattle.versions_fixture.specs.Example.{example}
 
 abbrev pub parts : PartsView
@@ -35,7 +35,7 @@ placed : is_namespace (codes "default") ≡ true
 unfolding is_namespace
 placed = refl
 
-pub whole : IsWhole example
+pub whole : IsFixtureHub example
 whole = record {
   parts = parts;
   is = refl;

@@ -3,7 +3,7 @@ use Rattle.std.specs.Prelude.{◌≡◌, ℕ, ◌<◌, ◌≤◌, max, true, fal
 use Rattle.kj_value.specs.Json.{Json}
 use Rattle.kj_value.specs.Text.{quoted}
 use Rattle.kj_value.specs.Reading.{Reads}
-use Rattle.kj_value.specs.Fault.{IsRefused}
+use Rattle.kj_value.specs.Fault.{IsRefusedJson}
 use Rattle.kj_value.specs.declared.reading.JsonFault.TheVariants.{NotJson, TooDeep, NotWhole}
 use Rattle.kj_value.specs.declared.rule.Rule.{Rule}
 use Rattle.kj_value.specs.declared.rule.Rule.TheVariants as rule
@@ -28,7 +28,7 @@ abbrev pub weight_of : PartsView → ℕ
 weight_of p = max (chunks (measure (object_at V1 p))) (chunks (measure (object_at V1beta1 p)))
 
 -- a hub value: an object with a name in a namespace
-pub record IsWhole (h : ObjectView) : Type 0 where
+pub record IsFixtureHub (h : ObjectView) : Type 0 where
   pub parts : PartsView
   pub is : h ≡ object_at V1 parts
   pub named : is_name parts.name ≡ true
@@ -88,19 +88,19 @@ IsFault name field broken (fault.Invalid given cause) = (given.bytes ≡ name) �
 IsFault name field broken fault.Tool = ⊥
 IsFault name field broken fault.NoMemory = ⊥
 
-abbrev pub Refuses : Request → Fault → Type 0
-Refuses r (bad_request not_json) = IsRefused r.bytes OBJECT_LEVELS NotJson
-Refuses r (bad_request too_deep) = IsRefused r.bytes OBJECT_LEVELS TooDeep
-Refuses r (bad_request not_whole) = IsRefused r.bytes OBJECT_LEVELS NotWhole
-Refuses r (bad_request not_object) = IsOther r
-Refuses r (bad_request wrong_version) = ⊥
-Refuses r (bad_request wrong_kind) = ⊥
-Refuses r (bad_request wrong_namespace) = ⊥
-Refuses r (bad_request wrong_name) = ⊥
-Refuses r (bad_request (bad_query parameter)) = ⊥
-Refuses r (bad_request bad_token) = ⊥
-Refuses r (bad_request bad_options) = ⊥
-Refuses r (invalid name cause) = IsInvalid r name cause
+abbrev pub FixtureRefuses : Request → Fault → Type 0
+FixtureRefuses r (bad_request not_json) = IsRefusedJson r.bytes OBJECT_LEVELS NotJson
+FixtureRefuses r (bad_request too_deep) = IsRefusedJson r.bytes OBJECT_LEVELS TooDeep
+FixtureRefuses r (bad_request not_whole) = IsRefusedJson r.bytes OBJECT_LEVELS NotWhole
+FixtureRefuses r (bad_request not_object) = IsOther r
+FixtureRefuses r (bad_request wrong_version) = ⊥
+FixtureRefuses r (bad_request wrong_kind) = ⊥
+FixtureRefuses r (bad_request wrong_namespace) = ⊥
+FixtureRefuses r (bad_request wrong_name) = ⊥
+FixtureRefuses r (bad_request (bad_query parameter)) = ⊥
+FixtureRefuses r (bad_request bad_token) = ⊥
+FixtureRefuses r (bad_request bad_options) = ⊥
+FixtureRefuses r (invalid name cause) = IsInvalid r name cause
 
 -- ---- flags and stored versions
 
@@ -163,7 +163,7 @@ unfoldable pub keeping : Version → List ℕ
 keeping V1 = codes "{\"status\":{\"storedVersions\":[\"v1\"]}}"
 keeping V1beta1 = codes "{\"status\":{\"storedVersions\":[\"v1beta1\"]}}"
 
-pub record Keeps (bytes kept : List ℕ) : Type 0 where
+pub record FixtureKeeps (bytes kept : List ℕ) : Type 0 where
   pub version : ℕ
   pub known : version < 2
   pub body : bytes ≡ keeping (version_at version)
@@ -187,13 +187,13 @@ two_names = record {
   group = group;
   kind = kind;
   list_kind = list_kind;
-  whole = IsWhole;
+  whole = IsFixtureHub;
   pair = AreOne;
   admits = Admits;
-  refuses = Refuses;
+  refuses = FixtureRefuses;
   sets = Sets;
   refuses_flags = λ bytes f. IsNone setting bytes f;
-  keeps = Keeps;
+  keeps = FixtureKeeps;
   refuses_keep = λ bytes f. IsNone keeping bytes f;
   shown = shown;
   show_room = SHOW_ROOM;

@@ -7,7 +7,7 @@ use Rattle.std.specs.Cmp.Lexicographic.{slice_cmp}
 use Rattle.std.specs.BTreeMap.{is_at}
 use Rattle.std.proofs.lemmas.Cmp.{nat_list_cmp_total}
 use Rattle.kj_value.specs.Json.{Json, whole, text, object, Members, member, members_of, depth, members_depth}
-use Rattle.kj_value.specs.Sound.{IsSound, AreRising, ComesFirst}
+use Rattle.kj_value.specs.Sound.{IsSoundJson, AreRising, ComesFirst}
 use Rattle.kj_value.specs.Fields.{Pairs, field, with_field, NamesRise}
 use Rattle.kube_meta.specs.Document.{optional, some_text, some_generation, metadata, document}
 use Rattle.versions_fixture.specs.Parts.{PartsView, meta_at, body_at, object_at, api_version, kind, field_name}
@@ -223,7 +223,7 @@ depth-document v p = rw (document-fields v p) (depth-over v (members_of (metadat
 
 abbrev IsSoundOption : Option Json → Type 0
 IsSoundOption None = Unit {0}
-IsSoundOption (Some j) = IsSound j
+IsSoundOption (Some j) = IsSoundJson j
 
 abbrev AreSoundOptions : Table → Type 0
 AreSoundOptions [] = Unit {0}
@@ -269,11 +269,11 @@ rising-metadata p h = subst (λ (es : Pairs). AreRising (members_of es)) (sym (m
     (rising-given (table p) (refl, (refl, (refl, (refl, (tt, tt)))))
     (sound-text p.created, (sound-text p.deleted, (sound-generation p.generation h, (sound-some_text p.name, (sound-some_text p.namespace, tt))))))
 
-sound-over : (v : Version) (ms : Members) (value : Option (List ℕ)) → AreRising ms → IsSound (object (members_of (over v (object ms) value)))
+sound-over : (v : Version) (ms : Members) (value : Option (List ℕ)) → AreRising ms → IsSoundJson (object (members_of (over v (object ms) value)))
 sound-over V1 ms None h = (refl, tt, (refl, tt, (tt, h, tt)))
 sound-over V1 ms (Some x) h = (refl, tt, (refl, tt, (refl, tt, (tt, h, tt))))
 sound-over V1beta1 ms None h = (refl, tt, (refl, tt, (tt, h, tt)))
 sound-over V1beta1 ms (Some x) h = (refl, tt, (refl, tt, (refl, tt, (tt, h, tt))))
 
-pub sound-document : (v : Version) (p : PartsView) → FitsSigned w64 p.generation → IsSound (document (object_at v p))
+pub sound-document : (v : Version) (p : PartsView) → FitsSigned w64 p.generation → IsSoundJson (document (object_at v p))
 sound-document v p h = rw (document-fields v p) (sound-over v (members_of (metadata (meta_at p))) p.value (rising-metadata p h))

@@ -18,7 +18,7 @@ use Rattle.api_calls.specs.declared.flags.Flags.{Flags}
 use Rattle.api_calls.specs.declared.versions.TheConstants.{OBJECT_LEVELS}
 use Rattle.versions_fixture.specs.Parts.{PartsView, body_at, meta_at, object_at, bare, version_at, version_name}
 use Rattle.versions_fixture.specs.Documents.{depth-document, sound-document, document_name, document_value}
-use Rattle.versions_fixture.specs.Definition.{IsWhole, Submits, placed, Admits, no_name, no_number, too_heavy, IsInvalid, Refuses, storing, setting, Sets, keeping, Keeps, IsNone, two_names, weight_of}
+use Rattle.versions_fixture.specs.Definition.{IsFixtureHub, Submits, placed, Admits, no_name, no_number, too_heavy, IsInvalid, FixtureRefuses, storing, setting, Sets, keeping, FixtureKeeps, IsNone, two_names, weight_of}
 use Rattle.versions_fixture.specs.declared.admission.TheConstants.{MOST_CHUNKS}
 use Rattle.versions_fixture.specs.declared.parts.Version.{Version}
 use Rattle.versions_fixture.specs.declared.parts.Version.TheVariants.{V1, V1beta1}
@@ -103,7 +103,7 @@ stands v p named in_place stamps = record {
 }
 
 -- a hub value's parts
-pub parts_legal : (h : ObjectView) (q : PartsView) → (w : IsWhole h) → h ≡ object_at V1 q
+pub parts_legal : (h : ObjectView) (q : PartsView) → (w : IsFixtureHub h) → h ≡ object_at V1 q
     → (is_name q.name ≡ true) × (is_namespace q.namespace ≡ true) × AreStamps q.created q.deleted q.generation
 parts_legal h q w e =
     subst (λ (p : PartsView). (is_name p.name ≡ true) × (is_namespace p.namespace ≡ true) × AreStamps p.created p.deleted p.generation)
@@ -267,7 +267,7 @@ excludes_invalid r h e name cause a i =
 pub some_none : (d : serde.Data) (j : Json) → json_of d ≡ Some j → json_of d ≡ None → ⊥
 some_none d j p q = let e : Some j ≡ None = sym p ∙ q in cc
 
-excludes : (r : Request) (h : ObjectView) (e : Option ℕ) (f : Fault) → Admits r h e → Refuses r f → ⊥
+excludes : (r : Request) (h : ObjectView) (e : Option ℕ) (f : Fault) → Admits r h e → FixtureRefuses r f → ⊥
 excludes r h e (bad_request not_json) a n = n a.submits.0 a.submits.1
 excludes r h e (bad_request too_deep) a n =
     let same : n.0 ≡ a.submits.0 = one_data r.bytes n.0 a.submits.0 n.1 a.submits.1 in
@@ -289,7 +289,7 @@ excludes r h e (invalid name cause) a n = excludes_invalid r h e name cause a n
 
 -- a document of the form is admitted, or breaks a rule
 submitted_decided : (r : Request) (name : List ℕ) (value : Option (List ℕ)) → IsRequest two_names r → Submits r name value
-    → ((h : ObjectView) (e : Option ℕ) → Admits r h e → ⊥) → ((f : Fault) → Refuses r f → ⊥) → ⊥
+    → ((h : ObjectView) (e : Option ℕ) → Admits r h e → ⊥) → ((f : Fault) → FixtureRefuses r f → ⊥) → ⊥
 submitted_decided r name value is submits never_admitted never_refused =
     by_tests (is_name name) r.name (nat_lt MOST_CHUNKS (weight_of (placed r.ns name value))) refl refl refl
   where
@@ -317,7 +317,7 @@ submitted_decided r name value is submits never_admitted never_refused =
 
 -- a body that reads as a value
 value_decided : (r : Request) (j : Json) → IsRequest two_names r → Reads r.bytes OBJECT_LEVELS j
-    → ((h : ObjectView) (e : Option ℕ) → Admits r h e → ⊥) → ((f : Fault) → Refuses r f → ⊥) → ⊥
+    → ((h : ObjectView) (e : Option ℕ) → Admits r h e → ⊥) → ((f : Fault) → FixtureRefuses r f → ⊥) → ⊥
 value_decided r j is reads never_admitted never_refused =
     never_refused (bad_request not_object) (record {
       value = j;
@@ -327,7 +327,7 @@ value_decided r j is reads never_admitted never_refused =
     })
 
 data_decided : (r : Request) (d : serde.Data) → IsRequest two_names r → IsReading r.bytes d
-    → ((h : ObjectView) (e : Option ℕ) → Admits r h e → ⊥) → ((f : Fault) → Refuses r f → ⊥) → ⊥
+    → ((h : ObjectView) (e : Option ℕ) → Admits r h e → ⊥) → ((f : Fault) → FixtureRefuses r f → ⊥) → ⊥
 data_decided r d is reading never_admitted never_refused =
     by_tests (nat_le (serde.depth d) OBJECT_LEVELS) (json_of d) refl refl
   where
@@ -343,7 +343,7 @@ data_decided r d is reading never_admitted never_refused =
         value_decided r j is (d, reading, within, q) never_admitted never_refused
 
 complete : (r : Request) → IsRequest two_names r
-    → ((h : ObjectView) (e : Option ℕ) → Admits r h e → ⊥) → ((f : Fault) → Refuses r f → ⊥) → ⊥
+    → ((h : ObjectView) (e : Option ℕ) → Admits r h e → ⊥) → ((f : Fault) → FixtureRefuses r f → ⊥) → ⊥
 complete r is never_admitted never_refused =
     never_refused (bad_request not_json) (λ d reading. data_decided r d is reading never_admitted never_refused)
 
@@ -408,11 +408,11 @@ decides_flags = record {
   complete = λ bytes never_sets never_refused. never_refused (bad_request not_object) (record { fault = refl; other = sets_any bytes never_sets });
 }
 
-keeps_any : (bytes : List ℕ) → ((vs : List ℕ) → Keeps bytes vs → ⊥) → (v : Version) → bytes ≡ keeping v → ⊥
+keeps_any : (bytes : List ℕ) → ((vs : List ℕ) → FixtureKeeps bytes vs → ⊥) → (v : Version) → bytes ≡ keeping v → ⊥
 keeps_any bytes never V1 e = never (0 ∷ []) (record { version = 0; known = lit< tt; body = e; versions = refl })
 keeps_any bytes never V1beta1 e = never (1 ∷ []) (record { version = 1; known = lit< tt; body = e; versions = refl })
 
-pub decides_keep : DecidesBodies (List ℕ) Keeps (λ bytes f. IsNone keeping bytes f)
+pub decides_keep : DecidesBodies (List ℕ) FixtureKeeps (λ bytes f. IsNone keeping bytes f)
 decides_keep = record {
   one = λ bytes a b p q. p.versions ∙ ap (λ (v : ℕ). v ∷ []) (one_version keeping keepings_differ p.version q.version p.known q.known (sym p.body ∙ q.body)) ∙ sym q.versions;
   one_fault = λ bytes f g p q. p.fault ∙ sym q.fault;

@@ -8,7 +8,7 @@ use Rattle.api_calls.specs.Versions.{StandsAt, Stand, IgnoresStamps, NamesDiffer
 use Rattle.api_calls.specs.declared.versions.AdmitFault.{AdmitFault}
 use Rattle.api_calls.specs.declared.versions.AdmitFault.TheVariants as fault
 use Rattle.versions_fixture.specs.Parts.{PartsView, object_at, version_at}
-use Rattle.versions_fixture.specs.Definition.{Refuses, two_names}
+use Rattle.versions_fixture.specs.Definition.{FixtureRefuses, two_names}
 use Rattle.versions_fixture.specs.Laws as laws
 use Rattle.versions_fixture.specs.declared.parts.Version.TheVariants.{V1}
 
@@ -105,7 +105,7 @@ stored_unknown v h bytes s = record {
   utf8 = s.utf8;
 }
 
-pub refused_so : (r : Request) (rose : Type 0) (f : AdmitFault) → Refused (Refuses r) ⊥ f → Refused (λ g. Unit {0}) rose f
+pub refused_so : (r : Request) (rose : Type 0) (f : AdmitFault) → Refused (FixtureRefuses r) ⊥ f → Refused (λ g. Unit {0}) rose f
 refused_so r rose (fault.BadRequest why) h = tt
 refused_so r rose (fault.Invalid name cause) h = tt
 refused_so r rose fault.Tool h = absurd h

@@ -7,7 +7,7 @@ ghost use Rattle.kube_meta.specs.View.{object_of};
 ghost use Rattle.api_calls.specs.Meaning.{Weighs};
 ghost use Rattle.api_calls.specs.Versions.{Refused, request_of};
 ghost use Rattle.versions_fixture.specs.Parts.{bare, object_at, parts_of};
-ghost use Rattle.versions_fixture.specs.Definition.{Admits, IsFault, Refuses, Submits, two_names};
+ghost use Rattle.versions_fixture.specs.Definition.{Admits, IsFault, FixtureRefuses, Submits, two_names};
 
 use crate::parts::{Parts, Version, made, weight, written};
 use crate::reading::parts_in;
@@ -65,7 +65,7 @@ fn entered(alloc: Global, input: &Incoming<'_>, p: &Parts<'_>) -> Result<Admitte
     requires submits { Submits (request_of input.now) p.now.name.now (option_map (λ s. s.now) p.now.value) }
     ensures ok { IfOk result (λ a. Admits (request_of input.now) (object_of a.hub) a.expected) }
     ensures weight { IfOk result (λ a. Weighs two_names (object_of a.hub) a.weight) }
-    ensures refused { IfErr result (Refused (Refuses (request_of input.now)) ⊥) }
+    ensures refused { IfErr result (Refused (FixtureRefuses (request_of input.now)) ⊥) }
 {
     if !name_ok(p.name) {
         return Err(invalid(alloc, p.name, "metadata.name", Rule::Name)?);
@@ -99,7 +99,7 @@ pub fn admitted(alloc: Global, input: &Incoming<'_>) -> Result<Admitted, AdmitFa
     requires ns { is_namespace input.now.ns.now ≡ true }
     ensures ok { IfOk result (λ a. Admits (request_of input.now) (object_of a.hub) a.expected) }
     ensures weight { IfOk result (λ a. Weighs two_names (object_of a.hub) a.weight) }
-    ensures refused { IfErr result (Refused (Refuses (request_of input.now)) ⊥) }
+    ensures refused { IfErr result (Refused (FixtureRefuses (request_of input.now)) ⊥) }
 {
     let version = Version::at(input.version);
     let v = match read(alloc, input.bytes, OBJECT_LEVELS) {

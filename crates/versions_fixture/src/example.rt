@@ -3,14 +3,14 @@ ghost use Rattle.std.specs.Prelude.{◌≡◌, ◌∷◌, []};
 ghost use Rattle.kj_value.specs.Text.{text_of};
 ghost use Rattle.api_calls.specs.Documents.{AreOffered, group_document};
 ghost use Rattle.api_calls.specs.Legal.{IsLegal};
-ghost use Rattle.versions_fixture.specs.Definition.{AreOne, IsWhole, storing, two_names};
+ghost use Rattle.versions_fixture.specs.Definition.{AreOne, IsFixtureHub, storing, two_names};
 ghost use Rattle.versions_fixture.specs.Example.{example, example_group, example_stored};
 ghost use Rattle.versions_fixture.specs.History.{history, narrow};
 
 /// There is a hub value, with its forms at both versions: no promise of the definition is empty. The function does
 /// nothing, and its clauses are the facts.
 pub fn has_an_object()
-    ensures whole { IsWhole example }
+    ensures whole { IsFixtureHub example }
     ensures hub { AreOne 0 example example }
     ensures stored { AreOne 1 example example_stored }
 {}

@@ -4,7 +4,7 @@ ghost use Rattle.kj_value.specs.Json.{depth};
 ghost use Rattle.kube_meta.specs.Document.{document};
 ghost use Rattle.kube_meta.specs.View.{ObjectView, object_of};
 ghost use Rattle.api_calls.specs.Versions.{IsStored};
-ghost use Rattle.versions_fixture.specs.Definition.{AreOne, IsWhole, two_names};
+ghost use Rattle.versions_fixture.specs.Definition.{AreOne, IsFixtureHub, two_names};
 ghost use Rattle.versions_fixture.specs.Unknown.{AreNear};
 
 use crate::parts::{Version, made};
@@ -16,7 +16,7 @@ use std::alloc::Global;
 
 /// The object at a version.
 pub fn hub_form(alloc: Global, v: u8, hub: &Object) -> Result<Object, ConvFault>
-    requires { IsWhole (object_of hub.now) }
+    requires { IsFixtureHub (object_of hub.now) }
     ensures ok { IfOk result (λ x. AreOne v (object_of hub.now) (object_of x)) }
     ensures levels { IfOk result (λ x. depth (document (object_of x)) ≤ OBJECT_LEVELS) }
     ensures err { IsErrOf result ConvFault.Tool → ⊥ }
@@ -27,7 +27,7 @@ pub fn hub_form(alloc: Global, v: u8, hub: &Object) -> Result<Object, ConvFault>
 
 /// The object at a version without the hub value's value.
 pub fn bare_form(alloc: Global, v: u8, hub: &Object) -> Result<Object, ConvFault>
-    requires { IsWhole (object_of hub.now) }
+    requires { IsFixtureHub (object_of hub.now) }
     ensures near { IfOk result (λ x. AreNear v (object_of hub.now) (object_of x)) }
     ensures levels { IfOk result (λ x. depth (document (object_of x)) ≤ OBJECT_LEVELS) }
     ensures err { IsErrOf result ConvFault.Tool → ⊥ }

@@ -2,7 +2,7 @@
 ghost use Rattle.std.specs.Prelude.{◌≡◌, ◌+◌, ◌<◌, ◌≤◌, ◌++◌, ◌∷◌, [], IfOk, IfErr, length, MatchOption, codes, slice_index_or, false, ◌==◌};
 ghost use Rattle.api_calls.specs.Versions.{AreFlags, IsStoredList, Refused, versions_of};
 ghost use Rattle.versions_fixture.specs.Parts.{version_at};
-ghost use Rattle.versions_fixture.specs.Definition.{IsNone, Keeps, Sets, before_storage, before_stored, before_v1, before_v1beta1, behind_stored, flag_text, flags_text, keeping, name_text, names_text, setting, shown, storing};
+ghost use Rattle.versions_fixture.specs.Definition.{IsNone, FixtureKeeps, Sets, before_storage, before_stored, before_v1, before_v1beta1, behind_stored, flag_text, flags_text, keeping, name_text, names_text, setting, shown, storing};
 
 use crate::parts::Version;
 use api_calls::{AdmitFault, Flags, StoredList, Why};
@@ -70,7 +70,7 @@ fn only(version: u8) -> StoredList
 
 /// The versions that a body keeps.
 pub fn keep_in(bytes: &[u8]) -> Result<StoredList, AdmitFault>
-    ensures ok { IfOk result (λ s. Keeps bytes.now (versions_of s)) }
+    ensures ok { IfOk result (λ s. FixtureKeeps bytes.now (versions_of s)) }
     ensures legal { IfOk result (IsStoredList 2) }
     ensures refused { IfErr result (Refused (IsNone keeping bytes.now) ⊥) }
 {

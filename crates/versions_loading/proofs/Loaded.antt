@@ -4,7 +4,7 @@ use Rattle.std.specs.Prelude.{slice_get, slice_index_or, nat_lt, ◌-◌, ◌==�
 use Rattle.std.proofs.lemmas.Bool.Decides.{Decides-eqb, Decides-ltb}
 use Rattle.std.proofs.lemmas.Option.{slice_get-get_or, slice_get_within, get_or_from_slice_get}
 use Rattle.struct_schema.specs.Shape.{Shape}
-use Rattle.hub_cells.specs.declared.allowed.TheConstants.{MAX_LEVELS}
+use Rattle.hub_cells.specs.declared.allowed.TheConstants.{STORED_LEVELS}
 use Rattle.hub_cells.specs.Level.{Name}
 use Rattle.hub_cells.specs.Fit.{Fit}
 use Rattle.hub_rules.specs.Rule.{Rules, inner_depth}
@@ -27,7 +27,7 @@ use Rattle.versions_loading.proofs.Tables.{ruled_sound}
 
 -- ---- room
 
-pub ruled_room : ((n : ℕ) (s h : Shape) (rs : Rules) → n + inner_depth rs < MAX_LEVELS → HasRoom (fit_of n s h rs)) → (f : Fit) → IsRuled f → HasRoom f
+pub ruled_room : ((n : ℕ) (s h : Shape) (rs : Rules) → n + inner_depth rs < STORED_LEVELS → HasRoom (fit_of n s h rs)) → (f : Fit) → IsRuled f → HasRoom f
 ruled_room law f r = subst HasRoom (sym r.is) (law 0 f.spoke f.hub r.rules (omega arith))
 
 -- ---- the hub

@@ -2,7 +2,7 @@
 ghost use Rattle.std.specs.Prelude.{◌≡◌, IfOk, IfErr};
 ghost use Rattle.crd_loading.specs.View.{LoadedView};
 ghost use Rattle.crd_loading.specs.Load.{Loads};
-ghost use Rattle.crd_loading.specs.Told.{Refuses};
+ghost use Rattle.crd_loading.specs.Told.{RefusesLoading};
 ghost use Rattle.versions_loading.specs.Set.{set_of};
 
 use crate::naming::name_spokes;
@@ -27,7 +27,7 @@ fn held(alloc: Global, loaded: Loaded) -> Result<LoadedVersions, NoMemory>
 pub fn load_versions(alloc: Global, crd: &[u8], rules: &[u8]) -> Result<LoadedVersions, LoadFault>
     ensures loaded { IfOk result
         (λ s. (l : LoadedView) × Loads crd.now rules.now l × (s ≡ set_of l)) }
-    ensures refused { IfErr result (Refuses crd.now rules.now) }
+    ensures refused { IfErr result (RefusesLoading crd.now rules.now) }
 {
     let loaded = load(alloc, crd, rules)?;
     Ok(held(alloc, loaded)?)

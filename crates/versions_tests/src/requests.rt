@@ -2,7 +2,7 @@
 use crate::loaded::shared;
 use crate::spelled::spelled;
 use api_calls::{AdmitFault, Admitted, Incoming, NoTool, Versions};
-use kj_value::{MAX_LEVELS, Txt, depth, write};
+use kj_value::{MAX_JSON_LEVELS, Txt, depth, write};
 use kube_meta::{namespace_ok, write_object};
 use std::alloc::Global;
 use std::process::Abort;
@@ -62,7 +62,7 @@ pub(crate) fn refused(alloc: Global, fault: &AdmitFault) -> Result<Txt, Fail> {
 // The text of the hub value, with the request's number behind it where there is one.
 fn admitted(alloc: Global, admitted: &Admitted) -> Result<Txt, Fail> {
     let document = write_object(alloc, &admitted.hub)?;
-    if depth(&document) > MAX_LEVELS {
+    if depth(&document) > MAX_JSON_LEVELS {
         return Err("too deep".into());
     }
     let text = write(alloc, &document)?;

@@ -1,5 +1,5 @@
 use kj_value::{
-    JFields, JItems, JVal, MAX_LEVELS, NoMemory, Stamp, TextList, TextMap, Txt, depth, write,
+    JFields, JItems, JVal, MAX_JSON_LEVELS, NoMemory, Stamp, TextList, TextMap, Txt, depth, write,
 };
 use kube_meta::{Meta, Object, write_object};
 use object_measure::measure_within;
@@ -114,7 +114,7 @@ fn crontab(alloc: Global, meta: Meta, body: JFields) -> Result<Object, NoMemory>
 
 fn written_bytes(alloc: Global, o: &Object) -> Result<u64, Fail> {
     let document = write_object(alloc, o)?;
-    if depth(&document) > MAX_LEVELS {
+    if depth(&document) > MAX_JSON_LEVELS {
         return Err(Fail::from("too deep"));
     }
     let text = write(alloc, &document)?;

@@ -1,9 +1,10 @@
 ghost use Rattle.std.specs.Prelude.{◌≡◌, IfOk, IfSome, option_map};
 ghost use Rattle.kube_meta.specs.View.{object_of, meta_of, stamp_bytes};
-ghost use Rattle.object_reading.specs.Written.{IsMoment, IsWhole};
+ghost use Rattle.object_reading.specs.Written.{IsMoment, IsWritable};
 
 use kj_value::{
-    JFields, JItems, JVal, MAX_LEVELS, NoMemory, Stamp, TextList, TextMap, Txt, depth, read, write,
+    JFields, JItems, JVal, MAX_JSON_LEVELS, NoMemory, Stamp, TextList, TextMap, Txt, depth, read,
+    write,
 };
 use kube_meta::{Meta, Object, write_object};
 use object_reading::{
@@ -308,7 +309,7 @@ fn label_values(rt: HostRuntime) -> Result<(), Fail> {
 
 fn text(alloc: Global, o: &Object) -> Result<Txt, Fail> {
     let document = write_object(alloc, o)?;
-    if depth(&document) > MAX_LEVELS {
+    if depth(&document) > MAX_JSON_LEVELS {
         return Err(Fail::from("too deep"));
     }
     Ok(write(alloc, &document)?)
@@ -382,7 +383,7 @@ fn full_meta(alloc: Global) -> Result<Meta, NoMemory>
 }
 
 fn crontab(alloc: Global) -> Result<Object, NoMemory>
-    ensures { IfOk result (λ o. IsWhole (object_of o)) }
+    ensures { IfOk result (λ o. IsWritable (object_of o)) }
 {
     let mut body = JFields::new(alloc);
     body.set(Txt::of(alloc, "host")?, JVal::Text(Txt::of(alloc, "h")?))?;
@@ -395,7 +396,7 @@ fn crontab(alloc: Global) -> Result<Object, NoMemory>
 }
 
 fn written_and_read(alloc: Global, o: &Object) -> Result<Object, NoMemory>
-    requires { IsWhole (object_of o.now) }
+    requires { IsWritable (object_of o.now) }
     ensures { IfOk result (λ p. object_of p ≡ object_of o.now) }
 {
     read_written(alloc, write_object(alloc, o)?)

@@ -1,5 +1,5 @@
 use kj_value::{
-    JFields, JItems, JVal, MAX_LEVELS, NoMemory, Stamp, TextList, TextMap, Txt, depth, write,
+    JFields, JItems, JVal, MAX_JSON_LEVELS, NoMemory, Stamp, TextList, TextMap, Txt, depth, write,
 };
 use kube_meta::{
     Key, KeySpot, Meta, NAME_BYTES, NAMESPACE_BYTES, NameSpot, Object, name_ok, namespace_ok,
@@ -175,7 +175,7 @@ fn crontab(alloc: Global, meta: Meta) -> Result<Object, NoMemory> {
 
 fn text(alloc: Global, o: &Object) -> Result<Txt, Fail> {
     let document = write_object(alloc, o)?;
-    if depth(&document) > MAX_LEVELS {
+    if depth(&document) > MAX_JSON_LEVELS {
         return Err(Fail::from("too deep"));
     }
     Ok(write(alloc, &document)?)

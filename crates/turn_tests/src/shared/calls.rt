@@ -6,7 +6,7 @@ ghost use Rattle.turn_cell.specs.declared.view.Stage.TheVariants.{Rest};
 ghost use mathlib.Core.List.{IsPrefix};
 ghost use Rattle.api_calls.specs.Item.{Logged};
 ghost use Rattle.turn_tests.specs.Counts.{adding, amounts, total_of, entered_by};
-ghost use Rattle.turn_tests.specs.Calls.{Answers, Serves};
+ghost use Rattle.turn_tests.specs.Calls.{AnswersAsCounter, ServesAsCounter};
 
 use super::{Pass, SharedCounter};
 use crate::cell::Cell;
@@ -92,7 +92,7 @@ impl SharedCounter {
     pub fn add<R: Wait>(&self, rt: &R, pass: &mut Pass, x: u64) -> AddEnd
         requires own { pass.old.turn.seat.table_id ≡ self.now.turn.table.shared.table_id }
         ensures own { pass.new.turn.seat.table_id ≡ pass.old.turn.seat.table_id }
-        ensures answer { (limit : ℕ) → pass.old.turn.seat.me.0.base ≡ Some limit → Answers limit pass.old.turn.seat.me.0 pass.new.turn.seat.me.0 x result }
+        ensures answer { (limit : ℕ) → pass.old.turn.seat.me.0.base ≡ Some limit → AnswersAsCounter limit pass.old.turn.seat.me.0 pass.new.turn.seat.me.0 x result }
     {
         let mut cell = self.turn.take(rt, &mut pass.turn);
         let end = cell.counter.add(x);
@@ -105,7 +105,7 @@ impl SharedCounter {
     pub fn double<R: Wait>(&self, rt: &R, pass: &mut Pass) -> AddEnd
         requires own { pass.old.turn.seat.table_id ≡ self.now.turn.table.shared.table_id }
         ensures own { pass.new.turn.seat.table_id ≡ pass.old.turn.seat.table_id }
-        ensures answer { (limit : ℕ) → pass.old.turn.seat.me.0.base ≡ Some limit → (first : List Logged) × IsPrefix pass.old.turn.seat.me.0.seen first × IsPrefix first pass.new.turn.seat.me.0.seen × Answers limit pass.old.turn.seat.me.0 pass.new.turn.seat.me.0 (total_of first) result }
+        ensures answer { (limit : ℕ) → pass.old.turn.seat.me.0.base ≡ Some limit → (first : List Logged) × IsPrefix pass.old.turn.seat.me.0.seen first × IsPrefix first pass.new.turn.seat.me.0.seen × AnswersAsCounter limit pass.old.turn.seat.me.0 pass.new.turn.seat.me.0 (total_of first) result }
     {
         let x = self.total(rt, pass);
         self.add(rt, pass, x)
@@ -123,7 +123,7 @@ impl SharedCounter {
         ensures own { pass.new.turn.seat.table_id ≡ pass.old.turn.seat.table_id }
         ensures served { IfOk result (λ ends. (limit : ℕ) → pass.old.turn.seat.me.0.base ≡ Some limit
             → (pass.new.turn.seat.me.0 ≡ set_stage pass.old.turn.seat.me.0 pass.new.turn.seat.me.0.seen Rest)
-            × Serves limit pass.old.turn.seat.me.0 pass.old.turn.seat.me.0.seen xs.now ends.items pass.new.turn.seat.me.0.seen) }
+            × ServesAsCounter limit pass.old.turn.seat.me.0 pass.old.turn.seat.me.0.seen xs.now ends.items pass.new.turn.seat.me.0.seen) }
     {
         let mut ends = Vec::with_capacity(alloc, xs.len())?;
         for x in xs {

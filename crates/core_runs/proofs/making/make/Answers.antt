@@ -1,5 +1,5 @@
 use Rattle.std.proofs.Common.{◌+◌, refl, sym, subst}
-use Rattle.api_calls.specs.Ends.{Ends, bound}
+use Rattle.api_calls.specs.Ends.{EndsAsDecided, bound}
 use Rattle.api_calls.specs.State.{revision, state}
 use Rattle.api_calls.specs.Work.{touch_decision}
 use Rattle.api_calls.specs.Writes.{create_commit, mark_commit, replace_commit}
@@ -67,7 +67,7 @@ pub returns-in-Create-clause-turn : goal.returns-in-Create-clause-turn
 returns-in-Create-clause-turn g c = λ log h stamp st known.
     let k = subst (IsKnown (g.V.Versions.meaning c.args.core.now.versions) log h stamp) c.in-Create.is known in
     subst
-    (λ a. Ends bound (StandsFor g.V.Versions.meaning c.commit_create.new.self) log
+    (λ a. EndsAsDecided bound (StandsFor g.V.Versions.meaning c.commit_create.new.self) log
     (decided (g.V.Versions.meaning c.args.core.now.versions) c.args.core.now.view.limits log h stamp a)
     (wrote (create_end c.commit_create.result)))
     (sym c.in-Create.is)
@@ -79,7 +79,7 @@ pub returns-in-Replace-clause-turn : goal.returns-in-Replace-clause-turn
 returns-in-Replace-clause-turn g c = λ log h stamp st known.
     let k = subst (IsKnown (g.V.Versions.meaning c.args.core.now.versions) log h stamp) c.in-Replace.is known in
     subst
-    (λ a. Ends bound (StandsFor g.V.Versions.meaning c.commit_replace.new.self) log
+    (λ a. EndsAsDecided bound (StandsFor g.V.Versions.meaning c.commit_replace.new.self) log
     (decided (g.V.Versions.meaning c.args.core.now.versions) c.args.core.now.view.limits log h stamp a)
     (wrote (replace_end c.commit_replace.result)))
     (sym c.in-Replace.is)
@@ -91,7 +91,7 @@ pub returns-in-Mark-clause-turn : goal.returns-in-Mark-clause-turn
 returns-in-Mark-clause-turn g c = λ log h stamp st known.
     let k = subst (IsKnown (g.V.Versions.meaning c.args.core.now.versions) log h stamp) c.in-Mark.is known in
     subst
-    (λ a. Ends bound (StandsFor g.V.Versions.meaning c.commit_delete-in-Mark.new.self) log
+    (λ a. EndsAsDecided bound (StandsFor g.V.Versions.meaning c.commit_delete-in-Mark.new.self) log
     (decided (g.V.Versions.meaning c.args.core.now.versions) c.args.core.now.view.limits log h stamp a)
     (wrote (delete_end c.commit_delete-in-Mark.result)))
     (sym c.in-Mark.is)
@@ -103,7 +103,7 @@ pub returns-in-Touch-clause-turn : goal.returns-in-Touch-clause-turn
 returns-in-Touch-clause-turn g c = λ log h stamp st known.
     let k = subst (IsKnown (g.V.Versions.meaning c.args.core.now.versions) log h stamp) c.in-Touch.is known in
     subst
-    (λ a. Ends bound (StandsFor g.V.Versions.meaning c.migration_turn-end-in-Touch.new.self) log
+    (λ a. EndsAsDecided bound (StandsFor g.V.Versions.meaning c.migration_turn-end-in-Touch.new.self) log
     (decided (g.V.Versions.meaning c.args.core.now.versions) c.args.core.now.view.limits log h stamp a)
     (worked (turn_end c.migration_turn-end-in-Touch.result) c.migration_turn-end-in-Touch.new.w.claim))
     (sym c.in-Touch.is)

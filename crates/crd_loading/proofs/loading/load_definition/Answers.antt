@@ -1,7 +1,7 @@
 use Rattle.std.proofs.Common.{inr, subst}
 use Rattle.kj_value.specs.Seen.{json}
 use Rattle.crd_reading.specs.First.{first_refusal}
-use Rattle.crd_reading.specs.Told.{Names as NamesRefusal}
+use Rattle.crd_reading.specs.Told.{NamesDefinitionFault as NamesRefusal}
 use Rattle.crd_reading.specs.declared.reading.DefinitionFault.{DefinitionFault}
 use Rattle.crd_loading.proofs.Fits.{definition_is}
 use Rattle.crd_loading.proofs.loading.load_definition.Goals as goal

@@ -1,7 +1,7 @@
 use Rattle.std.proofs.lemmas.Result.{err_from_is_err_and}
 use Rattle.kube_meta.specs.View.{object_of}
 use Rattle.api_calls.specs.Versions.{request_of}
-use Rattle.crd_meaning.specs.Refusal.{Refuses}
+use Rattle.crd_meaning.specs.Refusal.{RefusesRequest}
 use Rattle.hub_admission.specs.NoHub.{HasNoHub}
 use Rattle.crd_versions.proofs.Refusing.{refused_as, no_hub}
 use Rattle.crd_versions.proofs.admission.admitted.Goals as goal
@@ -13,4 +13,4 @@ returns-in_err-weighed-clause-refused c =
     let x = object_of c.in_ok-passed.passed.object in
     let p = err_from_is_err_and c.from_residual-in_err-weighed.result c.from_residual-in_err-weighed.ensures.1 in
     rw (p.1, p.2)
-    (refused_as (HasNoHub d r.version x) (Refuses d r) (no_hub d r x c.in_ok-passed.passed.expected c.in_ok-passed.ensures.passes) _ c.in_err-weighed.ensures.refused)
+    (refused_as (HasNoHub d r.version x) (RefusesRequest d r) (no_hub d r x c.in_ok-passed.passed.expected c.in_ok-passed.ensures.passes) _ c.in_err-weighed.ensures.refused)

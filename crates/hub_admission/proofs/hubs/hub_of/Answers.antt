@@ -3,7 +3,7 @@ use Rattle.std.specs.Prelude.{slice_get, IfErr}
 use Rattle.kube_meta.specs.declared.object.Object.{Object}
 use Rattle.kube_meta.specs.View.{ObjectView, object_of}
 use Rattle.crd_reading.specs.View.{DefinitionView}
-use Rattle.crd_reading.specs.Whole.{IsWhole}
+use Rattle.crd_reading.specs.Whole.{IsWholeDefinition}
 use Rattle.spoke_laws.specs.Spokes.{Spokes}
 use Rattle.spoke_laws.specs.Place.{StandsAt, Settles}
 use Rattle.spoke_laws.specs.Settling.{SettlesAtHub}
@@ -54,7 +54,7 @@ returns-in-Some-clause-hub c =
     let all = c.spokes-in-Some.result.now in
     let same : all ≡ d.spokes = c.spokes-in-Some.ensures.value in
     let place : slice_get all.items c.in-Some.p ≡ Some s = subst (λ (a : Spokes). slice_get a.items c.in-Some.p ≡ Some s) (sym same) at.1 in
-    let whole : IsWhole d.view = subst (λ (w : DefinitionView). IsWhole w) c.definition.ensures.value c.versions.ensures.whole in
+    let whole : IsWholeDefinition d.view = subst (λ (w : DefinitionView). IsWholeDefinition w) c.definition.ensures.value c.versions.ensures.whole in
     if_both (λ (h : Object). GoesOver all s x (object_of h)) (λ (h : Object). IsWholeHub all (object_of h)) (λ (h : Object). IsHubOf d c.args.v x (object_of h)) c.to_hub.result (
     λ h g w.
     let over : GoesOver d.spokes s x (object_of h) = subst (λ (a : Spokes). GoesOver a s x (object_of h)) same g in

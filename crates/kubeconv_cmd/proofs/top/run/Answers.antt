@@ -3,7 +3,7 @@ use Rattle.std.specs.Io.KnownBytes.{append_known}
 use Rattle.edge_io.specs.Causes.{Rose}
 use Rattle.kubeconv_cmd.specs.Lines.{Line, Texts}
 use Rattle.kubeconv_cmd.specs.Serving.{Converses}
-use Rattle.kubeconv_cmd.specs.Refusal.{Refuses, RefusesSome, IsServed}
+use Rattle.kubeconv_cmd.specs.Refusal.{RefusesCommandLine, RefusesSome, IsServed}
 use Rattle.kubeconv_cmd.specs.Ends.{line_of}
 use Rattle.kubeconv_cmd.proofs.Ending.{talks, held, told_ends, exactly, refuses, refusal, read_failed, write_failed}
 use Rattle.kubeconv_cmd.proofs.top.run.Goals as goal

@@ -1,5 +1,5 @@
 use Rattle.std.proofs.Common.{subst}
-use Rattle.kj_value.specs.Fault.{IsRefused}
+use Rattle.kj_value.specs.Fault.{IsRefusedJson}
 use Rattle.kj_value.specs.declared.reading.JsonFault.{JsonFault}
 use Rattle.object_forms.proofs.Texts.{reads, never_not_json, never_too_deep, never_not_whole}
 use Rattle.object_forms.proofs.reading.read_form.Goals as goal
@@ -12,17 +12,17 @@ read_written-requires c =
 pub unreachable-requires : goal.unreachable-requires
 unreachable-requires c =
     let r = reads c.requires.0 c.args.bytes.now c.text_reads.ensures c.requires.1 in
-    never_not_json c.args.bytes.now _ r (subst (λ (f : JsonFault). IsRefused c.args.bytes.now 64 f) c.in-Err-NotJson.field-0-is c.in-Err-NotJson.ensures.err)
+    never_not_json c.args.bytes.now _ r (subst (λ (f : JsonFault). IsRefusedJson c.args.bytes.now 64 f) c.in-Err-NotJson.field-0-is c.in-Err-NotJson.ensures.err)
 
 pub unreachable-requires-in-Err-TooDeep : goal.unreachable-requires-in-Err-TooDeep
 unreachable-requires-in-Err-TooDeep c =
     let r = reads c.requires.0 c.args.bytes.now c.text_reads.ensures c.requires.1 in
-    never_too_deep c.args.bytes.now _ r (subst (λ (f : JsonFault). IsRefused c.args.bytes.now 64 f) c.in-Err-TooDeep.field-0-is c.in-Err-TooDeep.ensures.err)
+    never_too_deep c.args.bytes.now _ r (subst (λ (f : JsonFault). IsRefusedJson c.args.bytes.now 64 f) c.in-Err-TooDeep.field-0-is c.in-Err-TooDeep.ensures.err)
 
 pub unreachable-requires-in-Err-NotWhole : goal.unreachable-requires-in-Err-NotWhole
 unreachable-requires-in-Err-NotWhole c =
     let r = reads c.requires.0 c.args.bytes.now c.text_reads.ensures c.requires.1 in
-    never_not_whole c.args.bytes.now _ r (subst (λ (f : JsonFault). IsRefused c.args.bytes.now 64 f) c.in-Err-NotWhole.field-0-is c.in-Err-NotWhole.ensures.err)
+    never_not_whole c.args.bytes.now _ r (subst (λ (f : JsonFault). IsRefusedJson c.args.bytes.now 64 f) c.in-Err-NotWhole.field-0-is c.in-Err-NotWhole.ensures.err)
 
 pub returns-in-Ok : goal.returns-in-Ok
 returns-in-Ok c = λ x t.

@@ -3,7 +3,7 @@ use Rattle.kube_meta.specs.View.{ObjectView, object_of}
 use Rattle.object_reading.specs.Keeping.{KeepsRules}
 use Rattle.object_reading.specs.Parts.{parts_in, submitted}
 use Rattle.object_reading.specs.Refusal.{judged}
-use Rattle.object_reading.specs.Written.{IsWhole}
+use Rattle.object_reading.specs.Written.{IsWritable}
 use Rattle.object_reading.proofs.FromFields.{rules_read}
 use Rattle.object_reading.proofs.Holding.{none_holds}
 use Rattle.object_reading.proofs.reading.read_fields.Goals as goal
@@ -16,4 +16,4 @@ returns-clause-rules c =
 
 pub returns-clause-whole : goal.returns-clause-whole
 returns-clause-whole c =
-    subst IsWhole (sym c.submitted.ensures) (record { body = c.in_ok-o.ensures.body; created = tt; deleted = tt })
+    subst IsWritable (sym c.submitted.ensures) (record { body = c.in_ok-o.ensures.body; created = tt; deleted = tt })

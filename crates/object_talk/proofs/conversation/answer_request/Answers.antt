@@ -2,7 +2,7 @@ use Rattle.std.proofs.Common.{sym, rules, arith}
 use Rattle.http_wire.specs.Inboxes.{request_at}
 use Rattle.object_server.specs.Answered.{answer_of}
 use Rattle.object_server.specs.View.{base_of}
-use Rattle.object_talk.specs.Answering.{Answers}
+use Rattle.object_talk.specs.Answering.{AnswersInConversation}
 use Rattle.object_talk.proofs.Conversing.{answered_without}
 use Rattle.object_talk.proofs.conversation.answer_request.Goals as goal
 
@@ -11,7 +11,7 @@ pub answer-requires-clause-stamp : goal.answer-requires-clause-stamp
 answer-requires-clause-stamp g c = record { bytes = search rules; ascii = c.stamp.result.ascii; plain = c.stamp.ensures.plain }
 
 pub returns-clause-answer : goal.returns-clause-answer
-unfolding Answers
+unfolding AnswersInConversation
 returns-clause-answer g c = λ log stands.
     let made = c.answer.ensures.answer log (request_at c.args.inbox.now.bytes c.args.parts)
     (record { method = sym c.part.ensures; target = sym c.part-2.ensures; body = sym c.part-3.ensures }) stands in (

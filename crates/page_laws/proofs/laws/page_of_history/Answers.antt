@@ -8,14 +8,14 @@ use Rattle.api_calls.specs.Objects.{Stored}
 use Rattle.api_calls.specs.State.{state}
 use Rattle.api_calls.specs.Snap.{floor, snap, window}
 use Rattle.record_store.specs.View.{StoreView, items_at}
-use Rattle.page_laws.specs.Keeping.{IsSame, Keeps}
+use Rattle.page_laws.specs.Keeping.{IsSame, KeepsHistory}
 use Rattle.page_laws.proofs.Members.{Laws, rising, rising_then, members}
 use Rattle.page_laws.proofs.Pairs.{items_at-pair, page-pair}
 use Rattle.page_laws.proofs.Rebuilt.{objects_at-is}
 use Rattle.page_laws.proofs.laws.page_of_history.Goals as goal
 
 -- the records at a number are the objects of that number
-at_number : (text : Stored → List ℕ → Type 0) (limits : Limits) (m : Meaning) → Laws limits m → (log : List Item) (s : StoreView) (r : ℕ) → legal m limits log → Keeps text limits m log s → s.floor ≤ r
+at_number : (text : Stored → List ℕ → Type 0) (limits : Limits) (m : Meaning) → Laws limits m → (log : List Item) (s : StoreView) (r : ℕ) → legal m limits log → KeepsHistory text limits m log s → s.floor ≤ r
     → AllPair (IsSame text) (items_at r s) (snap m log r)
 at_number text limits m laws log s r l keeps known =
     let floor_known : floor limits m log ≤ r = subst (λ (f : ℕ). f ≤ r) keeps.known known in

@@ -10,7 +10,7 @@ use Rattle.crd_reading.specs.View.{VersionView}
 use Rattle.crd_meaning.specs.Definition.{version_at}
 use Rattle.crd_meaning.specs.Request.{rows}
 use Rattle.crd_meaning.specs.Admission.{IsFilling}
-use Rattle.crd_meaning.specs.Refusal.{Refuses}
+use Rattle.crd_meaning.specs.Refusal.{RefusesRequest}
 use Rattle.request_taking.specs.Steps.{IsFirst, BreaksRule}
 use Rattle.request_taking.proofs.Ready.{IsReady, taken_of, early_refused, broken_refused, passes, passed}
 use Rattle.request_taking.proofs.Refusing.{refused_more}
@@ -27,7 +27,7 @@ returns-in_err-before-clause-refused c =
     let r = request_of c.args.input.now in
     let es = c.in_ok-fields.fields in
     let p = err_from_is_err_and c.from_residual-in_err-before.result c.from_residual-in_err-before.ensures.1 in
-    rw (p.1, p.2) (refused_more (IsFirst (rows d r es)) (Refuses d r) c.in_err-before.field-0.0 (λ f h. early_refused d r es f c.in_ok-fields.ensures.reads h) c.in_err-before.ensures.refused)
+    rw (p.1, p.2) (refused_more (IsFirst (rows d r es)) (RefusesRequest d r) c.in_err-before.field-0.0 (λ f h. early_refused d r es f c.in_ok-fields.ensures.reads h) c.in_err-before.ensures.refused)
 
 pub returns-in_err-whole-clause-refused : goal.returns-in_err-whole-clause-refused
 returns-in_err-whole-clause-refused c =
@@ -39,7 +39,7 @@ returns-in_err-whole-clause-refused c =
     let e = c.in_ok-before.before.expected in
     let t = taken_of d r c.in_ok-fields.fields x e c.in_ok-fields.ensures.reads c.in_ok-before.ensures.nothing c.in_ok-before.ensures.object c.in_ok-before.ensures.number in
     let p = err_from_is_err_and c.from_residual-in_err-whole.result c.from_residual-in_err-whole.ensures.1 in
-    rw (p.1, p.2) (refused_more (BreaksRule s x) (Refuses d r) c.in_err-whole.field-0.0 (λ f h. broken_refused d r x e s f t same h) c.in_err-whole.ensures.refused)
+    rw (p.1, p.2) (refused_more (BreaksRule s x) (RefusesRequest d r) c.in_err-whole.field-0.0 (λ f h. broken_refused d r x e s f t same h) c.in_err-whole.ensures.refused)
 
 pub returns : goal.returns
 returns c =

@@ -5,7 +5,7 @@ use Rattle.schema_reading.specs.Words.{word}
 use Rattle.schema_reading.specs.Allowed.{items_allowed}
 use Rattle.schema_reading.specs.Visit.{Refusal}
 use Rattle.schema_reading.specs.Visits.{tries, part_visits}
-use Rattle.schema_reading.specs.Told.{Stops}
+use Rattle.schema_reading.specs.Told.{StopsSchemaReading}
 use Rattle.schema_reading.specs.declared.words.Keyword.TheVariants.{Items as ItemsWord}
 use Rattle.schema_reading.specs.declared.words.Scope.TheVariants.{Node}
 use Rattle.schema_reading.specs.declared.words.Part.TheVariants.{BeforeItems}
@@ -20,4 +20,4 @@ returns-in-Err c =
 pub returns-in-Ok : goal.returns-in-Ok
 returns-in-Ok c =
     let allowed : c.items_allowed.result ≡ (items_allowed c.args.kind (value_at (word ItemsWord) (members_of c.args.fields.now))) = c.items_allowed.ensures ∙ ap (items_allowed c.args.kind) c.value_at-v.ensures in
-    subst (λ (o : Option Refusal). MatchResult c.try_keyword.result (λ _. o ≡ None) (λ e. Stops o e)) (tried_second (part_visits BeforeItems (Node c.args.kind) (members_of c.args.fields.now)) ItemsWord c.items_allowed.result (items_allowed c.args.kind (value_at (word ItemsWord) (members_of c.args.fields.now))) (keywords-part BeforeItems (Node c.args.kind) (members_of c.args.fields.now)) (part_passes BeforeItems (Node c.args.kind) (members_of c.args.fields.now) c.in-Ok.ensures) allowed) c.try_keyword.ensures
+    subst (λ (o : Option Refusal). MatchResult c.try_keyword.result (λ _. o ≡ None) (λ e. StopsSchemaReading o e)) (tried_second (part_visits BeforeItems (Node c.args.kind) (members_of c.args.fields.now)) ItemsWord c.items_allowed.result (items_allowed c.args.kind (value_at (word ItemsWord) (members_of c.args.fields.now))) (keywords-part BeforeItems (Node c.args.kind) (members_of c.args.fields.now)) (part_passes BeforeItems (Node c.args.kind) (members_of c.args.fields.now) c.in-Ok.ensures) allowed) c.try_keyword.ensures

@@ -2,7 +2,7 @@ use Rattle.std.proofs.Common.{◌≡◌, Option, None, MatchResult, subst}
 use Rattle.kj_value.specs.Json.{members_of}
 use Rattle.schema_reading.specs.Visit.{Refusal}
 use Rattle.schema_reading.specs.Visits.{part_visits, meta_typed}
-use Rattle.schema_reading.specs.Told.{Stops}
+use Rattle.schema_reading.specs.Told.{StopsSchemaReading}
 use Rattle.schema_reading.specs.declared.words.Scope.TheVariants.{Meta}
 use Rattle.schema_reading.specs.declared.words.Part.TheVariants.{AnyBeforeType}
 use Rattle.schema_reading.proofs.Passing.{stops-first}
@@ -15,4 +15,4 @@ returns-in-Err c =
 
 pub returns-in-Ok : goal.returns-in-Ok
 returns-in-Ok c =
-    subst (λ (o : Option Refusal). MatchResult c.try_meta_type.result (λ _. o ≡ None) (λ e. Stops o e)) (second (part_visits AnyBeforeType Meta (members_of c.args.fields.now)) (meta_typed c.args.text.now (members_of c.args.fields.now)) (keywords-part AnyBeforeType Meta (members_of c.args.fields.now)) (part_passes AnyBeforeType Meta (members_of c.args.fields.now) c.in-Ok.ensures)) c.try_meta_type.ensures
+    subst (λ (o : Option Refusal). MatchResult c.try_meta_type.result (λ _. o ≡ None) (λ e. StopsSchemaReading o e)) (second (part_visits AnyBeforeType Meta (members_of c.args.fields.now)) (meta_typed c.args.text.now (members_of c.args.fields.now)) (keywords-part AnyBeforeType Meta (members_of c.args.fields.now)) (part_passes AnyBeforeType Meta (members_of c.args.fields.now) c.in-Ok.ensures)) c.try_meta_type.ensures

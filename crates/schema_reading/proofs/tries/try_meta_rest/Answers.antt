@@ -5,7 +5,7 @@ use Rattle.struct_schema.specs.Names.{value_at}
 use Rattle.schema_reading.specs.Words.{word}
 use Rattle.schema_reading.specs.Visit.{Refusal}
 use Rattle.schema_reading.specs.Visits.{tries, part_visits}
-use Rattle.schema_reading.specs.Told.{Stops}
+use Rattle.schema_reading.specs.Told.{StopsSchemaReading}
 use Rattle.schema_reading.specs.declared.words.Keyword.TheVariants.{Default}
 use Rattle.schema_reading.specs.declared.words.Scope.TheVariants.{Meta}
 use Rattle.schema_reading.specs.declared.words.Part.TheVariants.{AfterType}
@@ -19,4 +19,4 @@ returns-in-Err c =
 
 pub returns-in-Ok : goal.returns-in-Ok
 returns-in-Ok c =
-    subst (λ (o : Option Refusal). MatchResult c.try_keyword.result (λ _. o ≡ None) (λ e. Stops o e)) (tried_second (part_visits AfterType Meta (members_of c.args.fields.now)) Default c.is_absent-absent.result (is_none (value_at (word Default) (members_of c.args.fields.now))) (keywords-part AfterType Meta (members_of c.args.fields.now)) (part_passes AfterType Meta (members_of c.args.fields.now) c.in-Ok.ensures) c.is_absent-absent.ensures) c.try_keyword.ensures
+    subst (λ (o : Option Refusal). MatchResult c.try_keyword.result (λ _. o ≡ None) (λ e. StopsSchemaReading o e)) (tried_second (part_visits AfterType Meta (members_of c.args.fields.now)) Default c.is_absent-absent.result (is_none (value_at (word Default) (members_of c.args.fields.now))) (keywords-part AfterType Meta (members_of c.args.fields.now)) (part_passes AfterType Meta (members_of c.args.fields.now) c.in-Ok.ensures) c.is_absent-absent.ensures) c.try_keyword.ensures

@@ -12,7 +12,7 @@ use Rattle.schema_reading.specs.Words.{word}
 use Rattle.schema_reading.specs.ShapeRead.{bare_read, shapes_read}
 use Rattle.schema_reading.specs.Visit.{Refusal, first, after}
 use Rattle.schema_reading.specs.Visits.{inner_visits, map_visits}
-use Rattle.schema_reading.specs.Told.{Stops, Passes}
+use Rattle.schema_reading.specs.Told.{StopsSchemaReading, Passes}
 use Rattle.schema_reading.specs.declared.words.Keyword.TheVariants.{Properties}
 use Rattle.schema_reading.proofs.Found.{kept_in_order, pushed, skipped, shapes-kept, value_depth, inner_visits-none, inner_read-none, inner_read-some, map_read-some}
 use Rattle.schema_reading.proofs.Inner.{stops_inner, passes_inner, passes_none, stops_map, passes_map, stopped_node, stopped_meta, goes_node, goes_meta, GoesOn, From}
@@ -73,33 +73,33 @@ read_properties-returns-in-Ok-clause-walk t c =
 
 pub read_object-returns-in-Err-clause-walk : goal.read_object-returns-in-Err-clause-walk
 read_object-returns-in-Err-clause-walk t c =
-    subst (λ (q : Option NodeKind). Stops (first c.args.nodes.now (object_by q (bare_read c.args.root (members_of c.args.fields.now)) c.args.root c.args.depth (members_of c.args.fields.now))) c.in-Err.stop) c.node_kind-kind.ensures (stop_additional c.node_kind-kind.result (bare_read c.args.root (members_of c.args.fields.now)) c.args.root c.args.depth (members_of c.args.fields.now) c.args.nodes.now c.in-Err.stop c.in-Err.ensures)
+    subst (λ (q : Option NodeKind). StopsSchemaReading (first c.args.nodes.now (object_by q (bare_read c.args.root (members_of c.args.fields.now)) c.args.root c.args.depth (members_of c.args.fields.now))) c.in-Err.stop) c.node_kind-kind.ensures (stop_additional c.node_kind-kind.result (bare_read c.args.root (members_of c.args.fields.now)) c.args.root c.args.depth (members_of c.args.fields.now) c.args.nodes.now c.in-Err.stop c.in-Err.ensures)
 
 pub read_object-returns-in-Err-read_inner-clause-walk : goal.read_object-returns-in-Err-read_inner-clause-walk
 read_object-returns-in-Err-read_inner-clause-walk t c =
-    subst (λ (q : Option NodeKind). Stops (first c.args.nodes.now (object_by q (bare_read c.args.root (members_of c.args.fields.now)) c.args.root c.args.depth (members_of c.args.fields.now))) c.in-Err-read_inner.stop) c.node_kind-kind.ensures (stop_inner c.node_kind-kind.result (bare_read c.args.root (members_of c.args.fields.now)) c.args.root c.args.depth (members_of c.args.fields.now) c.args.nodes.now c.in-Err-read_inner.stop c.in-Ok.ensures c.in-Err-read_inner.ensures.walk)
+    subst (λ (q : Option NodeKind). StopsSchemaReading (first c.args.nodes.now (object_by q (bare_read c.args.root (members_of c.args.fields.now)) c.args.root c.args.depth (members_of c.args.fields.now))) c.in-Err-read_inner.stop) c.node_kind-kind.ensures (stop_inner c.node_kind-kind.result (bare_read c.args.root (members_of c.args.fields.now)) c.args.root c.args.depth (members_of c.args.fields.now) c.args.nodes.now c.in-Err-read_inner.stop c.in-Ok.ensures c.in-Err-read_inner.ensures.walk)
 
 pub read_object-returns-in-Err-try_items-clause-walk : goal.read_object-returns-in-Err-try_items-clause-walk
 read_object-returns-in-Err-try_items-clause-walk t c =
-    subst (λ (q : Option NodeKind). Stops (first c.args.nodes.now (object_by q (bare_read c.args.root (members_of c.args.fields.now)) c.args.root c.args.depth (members_of c.args.fields.now))) c.in-Err-try_items.stop) c.node_kind-kind.ensures (stop_items c.node_kind-kind.result (bare_read c.args.root (members_of c.args.fields.now)) c.args.root c.args.depth (members_of c.args.fields.now) c.args.nodes.now c.read_inner.new.nodes c.in-Err-try_items.stop (pass_1 c.node_kind-kind.result (bare_read c.args.root (members_of c.args.fields.now)) c.args.root c.args.depth (members_of c.args.fields.now) c.args.nodes.now c.read_inner.new.nodes c.in-Ok.ensures c.in-Ok-read_inner.ensures.walk) c.in-Err-try_items.ensures)
+    subst (λ (q : Option NodeKind). StopsSchemaReading (first c.args.nodes.now (object_by q (bare_read c.args.root (members_of c.args.fields.now)) c.args.root c.args.depth (members_of c.args.fields.now))) c.in-Err-try_items.stop) c.node_kind-kind.ensures (stop_items c.node_kind-kind.result (bare_read c.args.root (members_of c.args.fields.now)) c.args.root c.args.depth (members_of c.args.fields.now) c.args.nodes.now c.read_inner.new.nodes c.in-Err-try_items.stop (pass_1 c.node_kind-kind.result (bare_read c.args.root (members_of c.args.fields.now)) c.args.root c.args.depth (members_of c.args.fields.now) c.args.nodes.now c.read_inner.new.nodes c.in-Ok.ensures c.in-Ok-read_inner.ensures.walk) c.in-Err-try_items.ensures)
 
 pub read_object-returns-in-Err-read_inner-2-clause-walk : goal.read_object-returns-in-Err-read_inner-2-clause-walk
 read_object-returns-in-Err-read_inner-2-clause-walk t c =
-    subst (λ (q : Option NodeKind). Stops (first c.args.nodes.now (object_by q (bare_read c.args.root (members_of c.args.fields.now)) c.args.root c.args.depth (members_of c.args.fields.now))) c.in-Err-read_inner-2.stop) c.node_kind-kind.ensures (stop_element c.node_kind-kind.result (bare_read c.args.root (members_of c.args.fields.now)) c.args.root c.args.depth (members_of c.args.fields.now) c.args.nodes.now c.read_inner.new.nodes c.in-Err-read_inner-2.stop (pass_1 c.node_kind-kind.result (bare_read c.args.root (members_of c.args.fields.now)) c.args.root c.args.depth (members_of c.args.fields.now) c.args.nodes.now c.read_inner.new.nodes c.in-Ok.ensures c.in-Ok-read_inner.ensures.walk) c.in-Ok-try_items.ensures c.in-Err-read_inner-2.ensures.walk)
+    subst (λ (q : Option NodeKind). StopsSchemaReading (first c.args.nodes.now (object_by q (bare_read c.args.root (members_of c.args.fields.now)) c.args.root c.args.depth (members_of c.args.fields.now))) c.in-Err-read_inner-2.stop) c.node_kind-kind.ensures (stop_element c.node_kind-kind.result (bare_read c.args.root (members_of c.args.fields.now)) c.args.root c.args.depth (members_of c.args.fields.now) c.args.nodes.now c.read_inner.new.nodes c.in-Err-read_inner-2.stop (pass_1 c.node_kind-kind.result (bare_read c.args.root (members_of c.args.fields.now)) c.args.root c.args.depth (members_of c.args.fields.now) c.args.nodes.now c.read_inner.new.nodes c.in-Ok.ensures c.in-Ok-read_inner.ensures.walk) c.in-Ok-try_items.ensures c.in-Err-read_inner-2.ensures.walk)
 
 pub read_object-returns-in-Err-try_type-clause-walk : goal.read_object-returns-in-Err-try_type-clause-walk
 read_object-returns-in-Err-try_type-clause-walk t c =
-    subst (λ (q : Option NodeKind). Stops (first c.args.nodes.now (object_by q (bare_read c.args.root (members_of c.args.fields.now)) c.args.root c.args.depth (members_of c.args.fields.now))) c.in-Err-try_type.stop) c.node_kind-kind.ensures (stop_type c.node_kind-kind.result (bare_read c.args.root (members_of c.args.fields.now)) c.args.root c.args.depth (members_of c.args.fields.now) c.args.nodes.now c.read_inner.new.nodes c.read_inner-2.new.nodes c.in-Err-try_type.stop (pass_1 c.node_kind-kind.result (bare_read c.args.root (members_of c.args.fields.now)) c.args.root c.args.depth (members_of c.args.fields.now) c.args.nodes.now c.read_inner.new.nodes c.in-Ok.ensures c.in-Ok-read_inner.ensures.walk) (pass_2 c.node_kind-kind.result (bare_read c.args.root (members_of c.args.fields.now)) c.args.root c.args.depth (members_of c.args.fields.now) c.read_inner.new.nodes c.read_inner-2.new.nodes c.in-Ok-try_items.ensures c.in-Ok-read_inner-2.ensures.walk) c.in-Err-try_type.ensures)
+    subst (λ (q : Option NodeKind). StopsSchemaReading (first c.args.nodes.now (object_by q (bare_read c.args.root (members_of c.args.fields.now)) c.args.root c.args.depth (members_of c.args.fields.now))) c.in-Err-try_type.stop) c.node_kind-kind.ensures (stop_type c.node_kind-kind.result (bare_read c.args.root (members_of c.args.fields.now)) c.args.root c.args.depth (members_of c.args.fields.now) c.args.nodes.now c.read_inner.new.nodes c.read_inner-2.new.nodes c.in-Err-try_type.stop (pass_1 c.node_kind-kind.result (bare_read c.args.root (members_of c.args.fields.now)) c.args.root c.args.depth (members_of c.args.fields.now) c.args.nodes.now c.read_inner.new.nodes c.in-Ok.ensures c.in-Ok-read_inner.ensures.walk) (pass_2 c.node_kind-kind.result (bare_read c.args.root (members_of c.args.fields.now)) c.args.root c.args.depth (members_of c.args.fields.now) c.read_inner.new.nodes c.read_inner-2.new.nodes c.in-Ok-try_items.ensures c.in-Ok-read_inner-2.ensures.walk) c.in-Err-try_type.ensures)
 
 pub read_object-returns-in-Err-read_properties-clause-walk : goal.read_object-returns-in-Err-read_properties-clause-walk
 read_object-returns-in-Err-read_properties-clause-walk t c =
-    subst (λ (q : Option NodeKind). Stops (first c.args.nodes.now (object_by q (bare_read c.args.root (members_of c.args.fields.now)) c.args.root c.args.depth (members_of c.args.fields.now))) c.in-Err-read_properties.stop) c.node_kind-kind.ensures (stop_map c.node_kind-kind.result (bare_read c.args.root (members_of c.args.fields.now)) c.args.root c.args.depth (members_of c.args.fields.now) c.args.nodes.now c.read_inner.new.nodes c.read_inner-2.new.nodes c.in-Err-read_properties.stop (pass_1 c.node_kind-kind.result (bare_read c.args.root (members_of c.args.fields.now)) c.args.root c.args.depth (members_of c.args.fields.now) c.args.nodes.now c.read_inner.new.nodes c.in-Ok.ensures c.in-Ok-read_inner.ensures.walk) (pass_2 c.node_kind-kind.result (bare_read c.args.root (members_of c.args.fields.now)) c.args.root c.args.depth (members_of c.args.fields.now) c.read_inner.new.nodes c.read_inner-2.new.nodes c.in-Ok-try_items.ensures c.in-Ok-read_inner-2.ensures.walk) c.in-Ok-try_type.ensures c.in-Err-read_properties.ensures.walk)
+    subst (λ (q : Option NodeKind). StopsSchemaReading (first c.args.nodes.now (object_by q (bare_read c.args.root (members_of c.args.fields.now)) c.args.root c.args.depth (members_of c.args.fields.now))) c.in-Err-read_properties.stop) c.node_kind-kind.ensures (stop_map c.node_kind-kind.result (bare_read c.args.root (members_of c.args.fields.now)) c.args.root c.args.depth (members_of c.args.fields.now) c.args.nodes.now c.read_inner.new.nodes c.read_inner-2.new.nodes c.in-Err-read_properties.stop (pass_1 c.node_kind-kind.result (bare_read c.args.root (members_of c.args.fields.now)) c.args.root c.args.depth (members_of c.args.fields.now) c.args.nodes.now c.read_inner.new.nodes c.in-Ok.ensures c.in-Ok-read_inner.ensures.walk) (pass_2 c.node_kind-kind.result (bare_read c.args.root (members_of c.args.fields.now)) c.args.root c.args.depth (members_of c.args.fields.now) c.read_inner.new.nodes c.read_inner-2.new.nodes c.in-Ok-try_items.ensures c.in-Ok-read_inner-2.ensures.walk) c.in-Ok-try_type.ensures c.in-Err-read_properties.ensures.walk)
 
 pub read_object-returns-in-Err-read_default-clause-walk : goal.read_object-returns-in-Err-read_default-clause-walk
 read_object-returns-in-Err-read_default-clause-walk t c =
     let bare : shape_of c.with_parts-bare.result ≡ (bare_read c.args.root (members_of c.args.fields.now)) = c.with_parts-bare.ensures ∙ same_parts _ _ _ _ _ _ _ _ (ap own c.in_ok-own.ensures) c.in-Ok-read_properties.ensures.read c.in-Ok-read_inner.ensures.read c.in-Ok-read_inner-2.ensures.read in
-    let last : Stops (first 0 (Last c.args.root (bare_read c.args.root (members_of c.args.fields.now)) (members_of c.args.fields.now))) c.in-Err-read_default.stop = subst (λ (s : Shape). Stops (first 0 (Last c.args.root s (members_of c.args.fields.now))) c.in-Err-read_default.stop) bare c.in-Err-read_default.ensures.walk in
-    subst (λ (q : Option NodeKind). Stops (first c.args.nodes.now (object_by q (bare_read c.args.root (members_of c.args.fields.now)) c.args.root c.args.depth (members_of c.args.fields.now))) c.in-Err-read_default.stop) c.node_kind-kind.ensures (stop_default c.node_kind-kind.result (bare_read c.args.root (members_of c.args.fields.now)) c.args.root c.args.depth (members_of c.args.fields.now) c.args.nodes.now c.read_inner.new.nodes c.read_inner-2.new.nodes c.read_properties.new.nodes c.in-Err-read_default.stop (pass_1 c.node_kind-kind.result (bare_read c.args.root (members_of c.args.fields.now)) c.args.root c.args.depth (members_of c.args.fields.now) c.args.nodes.now c.read_inner.new.nodes c.in-Ok.ensures c.in-Ok-read_inner.ensures.walk) (pass_2 c.node_kind-kind.result (bare_read c.args.root (members_of c.args.fields.now)) c.args.root c.args.depth (members_of c.args.fields.now) c.read_inner.new.nodes c.read_inner-2.new.nodes c.in-Ok-try_items.ensures c.in-Ok-read_inner-2.ensures.walk) c.in-Ok-try_type.ensures c.in-Ok-read_properties.ensures.walk last)
+    let last : StopsSchemaReading (first 0 (Last c.args.root (bare_read c.args.root (members_of c.args.fields.now)) (members_of c.args.fields.now))) c.in-Err-read_default.stop = subst (λ (s : Shape). StopsSchemaReading (first 0 (Last c.args.root s (members_of c.args.fields.now))) c.in-Err-read_default.stop) bare c.in-Err-read_default.ensures.walk in
+    subst (λ (q : Option NodeKind). StopsSchemaReading (first c.args.nodes.now (object_by q (bare_read c.args.root (members_of c.args.fields.now)) c.args.root c.args.depth (members_of c.args.fields.now))) c.in-Err-read_default.stop) c.node_kind-kind.ensures (stop_default c.node_kind-kind.result (bare_read c.args.root (members_of c.args.fields.now)) c.args.root c.args.depth (members_of c.args.fields.now) c.args.nodes.now c.read_inner.new.nodes c.read_inner-2.new.nodes c.read_properties.new.nodes c.in-Err-read_default.stop (pass_1 c.node_kind-kind.result (bare_read c.args.root (members_of c.args.fields.now)) c.args.root c.args.depth (members_of c.args.fields.now) c.args.nodes.now c.read_inner.new.nodes c.in-Ok.ensures c.in-Ok-read_inner.ensures.walk) (pass_2 c.node_kind-kind.result (bare_read c.args.root (members_of c.args.fields.now)) c.args.root c.args.depth (members_of c.args.fields.now) c.read_inner.new.nodes c.read_inner-2.new.nodes c.in-Ok-try_items.ensures c.in-Ok-read_inner-2.ensures.walk) c.in-Ok-try_type.ensures c.in-Ok-read_properties.ensures.walk last)
 
 pub read_object-returns-in-Ok-read_default-clause-walk : goal.read_object-returns-in-Ok-read_default-clause-walk
 read_object-returns-in-Ok-read_default-clause-walk t c =
@@ -109,7 +109,7 @@ read_object-returns-in-Ok-read_default-clause-walk t c =
 
 pub read_map-returns-in-Err-clause-walk : goal.read_map-returns-in-Err-clause-walk
 read_map-returns-in-Err-clause-walk t c =
-    subst (λ (o : Option Refusal). Stops o c.under_name.result) c.loop-f.invariant.refusal (stopped_meta c.args.root c.loop-f.nodes c.args.depth c.as_slice-f-items.result.now c.loop-f.f-index c.f-item.result c.in-Some.text.now c.as_str.result.now c.as_str-in-Err.result.now c.in-Err.stop c.under_name.result c.loop-f-test.true c.f-item.is c.in-Some.ensures c.as_str.ensures c.as_str-in-Err.ensures c.in-Err.ensures c.under_name.ensures)
+    subst (λ (o : Option Refusal). StopsSchemaReading o c.under_name.result) c.loop-f.invariant.refusal (stopped_meta c.args.root c.loop-f.nodes c.args.depth c.as_slice-f-items.result.now c.loop-f.f-index c.f-item.result c.in-Some.text.now c.as_str.result.now c.as_str-in-Err.result.now c.in-Err.stop c.under_name.result c.loop-f-test.true c.f-item.is c.in-Some.ensures c.as_str.ensures c.as_str-in-Err.ensures c.in-Err.ensures c.under_name.ensures)
 
 pub read_map-read_node-requires : goal.read_map-read_node-requires
 read_map-read_node-requires t c =
@@ -118,7 +118,7 @@ read_map-read_node-requires t c =
 
 pub read_map-returns-in-Err-read_node-clause-walk : goal.read_map-returns-in-Err-read_node-clause-walk
 read_map-returns-in-Err-read_node-clause-walk t c =
-    subst (λ (o : Option Refusal). Stops o c.under_name-in-Err-read_node.result) c.loop-f.invariant.refusal (stopped_node c.args.root c.loop-f.nodes c.args.depth c.as_slice-f-items.result.now c.loop-f.f-index c.f-item.result c.as_str.result.now c.as_str-in-Err-read_node.result.now c.in-Err-read_node.stop c.under_name-in-Err-read_node.result c.loop-f-test.true c.f-item.is c.in-None.ensures c.as_str.ensures c.as_str-in-Err-read_node.ensures c.in-Err-read_node.ensures.walk c.under_name-in-Err-read_node.ensures)
+    subst (λ (o : Option Refusal). StopsSchemaReading o c.under_name-in-Err-read_node.result) c.loop-f.invariant.refusal (stopped_node c.args.root c.loop-f.nodes c.args.depth c.as_slice-f-items.result.now c.loop-f.f-index c.f-item.result c.as_str.result.now c.as_str-in-Err-read_node.result.now c.in-Err-read_node.stop c.under_name-in-Err-read_node.result c.loop-f-test.true c.f-item.is c.in-None.ensures c.as_str.ensures c.as_str-in-Err-read_node.ensures c.in-Err-read_node.ensures.walk c.under_name-in-Err-read_node.ensures)
 
 pub read_map-push-requires : goal.read_map-push-requires
 read_map-push-requires t c =

@@ -1,6 +1,6 @@
 use Rattle.std.proofs.Common.{◌≡◌, ◌∙◌, ap, sym, subst}
 use Rattle.kj_value.specs.Seen.{json}
-use Rattle.kj_value.specs.Fault.{IsRefused}
+use Rattle.kj_value.specs.Fault.{IsRefusedJson}
 use Rattle.kj_value.specs.declared.reading.JsonFault.{JsonFault}
 use Rattle.kube_meta.specs.View.{ObjectView, object_of}
 use Rattle.kube_meta.specs.Document.{document}
@@ -18,19 +18,19 @@ pub unreachable-requires : goal.unreachable-requires
 unreachable-requires c =
     let k = kept c.args.v c.args.stored.now c.requires.0 c.text_reads.ensures c.requires.1 in
     never_not_json c.args.stored.now _ k.reads
-    (subst (λ (f : JsonFault). IsRefused c.args.stored.now 64 f) c.in-Err-NotJson.field-0-is c.in-Err-NotJson.ensures.err)
+    (subst (λ (f : JsonFault). IsRefusedJson c.args.stored.now 64 f) c.in-Err-NotJson.field-0-is c.in-Err-NotJson.ensures.err)
 
 pub unreachable-requires-in-Err-TooDeep : goal.unreachable-requires-in-Err-TooDeep
 unreachable-requires-in-Err-TooDeep c =
     let k = kept c.args.v c.args.stored.now c.requires.0 c.text_reads.ensures c.requires.1 in
     never_too_deep c.args.stored.now _ k.reads
-    (subst (λ (f : JsonFault). IsRefused c.args.stored.now 64 f) c.in-Err-TooDeep.field-0-is c.in-Err-TooDeep.ensures.err)
+    (subst (λ (f : JsonFault). IsRefusedJson c.args.stored.now 64 f) c.in-Err-TooDeep.field-0-is c.in-Err-TooDeep.ensures.err)
 
 pub unreachable-requires-in-Err-NotWhole : goal.unreachable-requires-in-Err-NotWhole
 unreachable-requires-in-Err-NotWhole c =
     let k = kept c.args.v c.args.stored.now c.requires.0 c.text_reads.ensures c.requires.1 in
     never_not_whole c.args.stored.now _ k.reads
-    (subst (λ (f : JsonFault). IsRefused c.args.stored.now 64 f) c.in-Err-NotWhole.field-0-is c.in-Err-NotWhole.ensures.err)
+    (subst (λ (f : JsonFault). IsRefusedJson c.args.stored.now 64 f) c.in-Err-NotWhole.field-0-is c.in-Err-NotWhole.ensures.err)
 
 pub unreachable-requires-in-None : goal.unreachable-requires-in-None
 unreachable-requires-in-None c =

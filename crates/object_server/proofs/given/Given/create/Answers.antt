@@ -10,7 +10,7 @@ use Rattle.turn_state.specs.Deciding.{served-same}
 use Rattle.object_server.specs.Answered.{decided}
 use Rattle.object_server.specs.Calls.{create}
 use Rattle.object_server.specs.Faults.{admission}
-use Rattle.object_server.specs.Replies.{Ends}
+use Rattle.object_server.specs.Replies.{EndsCall}
 use Rattle.object_server.specs.View.{base_of}
 use Rattle.object_server.proofs.Entering.{admitted_ends, fault_ends, refused_ends}
 use Rattle.object_server.proofs.Values.{means_at, moved}
@@ -40,7 +40,7 @@ returns-in_err-ready-clause-ends g c = λ log stands.
       log,
       stands,
       subst
-          (λ d. Ends (base_of g.V.Versions.meaning c.args.core.now) (g.V.Tool.Tool.faults c.args.tool.now < g.V.Tool.Tool.faults c.prepare.new.tool) c.args.stamp.text log (create (request_of c.args.input.now)) (decided d) log)
+          (λ d. EndsCall (base_of g.V.Versions.meaning c.args.core.now) (g.V.Tool.Tool.faults c.args.tool.now < g.V.Tool.Tool.faults c.prepare.new.tool) c.args.stamp.text log (create (request_of c.args.input.now)) (decided d) log)
           (sym p.1)
           (fault_ends (base_of g.V.Versions.meaning c.args.core.now) (g.V.Tool.Tool.faults c.args.tool.now < g.V.Tool.Tool.faults c.prepare.new.tool) c.args.stamp.text log (request_of c.args.input.now) may
           c.in_err-ready.field-0.0 (refusal_of p.0.refusal) (λ is. (let more = c.prepare.ensures.tool (c.in_err-ready.was ∙ ap Err is) in omega (arith, before, more))) p.2),

@@ -7,7 +7,7 @@ use Rattle.turn_cell.specs.Turns.{addition}
 use Rattle.turn_cell.specs.Laws.{prefix_trans}
 use Rattle.turn_cell.specs.Laws.{turns_join}
 use Rattle.turn_tests.specs.Counts.{entered_by}
-use Rattle.turn_tests.specs.Calls.{Answers}
+use Rattle.turn_tests.specs.Calls.{AnswersAsCounter}
 use Rattle.turn_tests.proofs.shared.SharedCounter.double.Goals as goal
 
 pub returns-clause-answer : goal.returns-clause-answer
@@ -23,9 +23,9 @@ returns-clause-answer g c limit is =
     let seen : w.seen ≡ first = ap (λ (q : View ℕ). q.seen) a.1.3 ∙ append-nil first in
     let z_seen : b.0 ++ addition w b.0 (entered_by r x) ≡ z.seen = sym (ap (λ (q : View ℕ). q.seen) b.1.3) in
     let on : IsPrefix first b.0 = subst (λ (xs : List Logged). IsPrefix xs b.0) seen b.1.0 in
-    let all : Answers limit v z x r = (b.0, turns_join v w z first b.0 (entered_by r x) a.1 b.1, b.2, b.3) in (
+    let all : AnswersAsCounter limit v z x r = (b.0, turns_join v w z first b.0 (entered_by r x) a.1 b.1, b.2, b.3) in (
       first,
       a.1.0,
       prefix_trans first b.0 z.seen on (addition w b.0 (entered_by r x), z_seen),
-      subst (λ (n : ℕ). Answers limit v z n r) a.2 all,
+      subst (λ (n : ℕ). AnswersAsCounter limit v z n r) a.2 all,
     )

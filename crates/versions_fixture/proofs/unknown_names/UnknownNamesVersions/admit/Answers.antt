@@ -5,7 +5,7 @@ use Rattle.kube_meta.specs.View.{object_of}
 use Rattle.kube_meta.specs.Document.{document}
 use Rattle.api_calls.specs.Meaning.{Weighs}
 use Rattle.api_calls.specs.Versions.{Refused, request_of}
-use Rattle.versions_fixture.specs.Definition.{Admits, Refuses, placed, two_names}
+use Rattle.versions_fixture.specs.Definition.{Admits, FixtureRefuses, placed, two_names}
 use Rattle.versions_fixture.specs.Laws.{weighs_some}
 use Rattle.versions_fixture.specs.Unknown.{unknown, not_honest, refused_so}
 use Rattle.versions_fixture.specs.declared.parts.Version.TheVariants.{V1}
@@ -30,5 +30,5 @@ returns-clause-levels c =
 
 pub returns-clause-refused : goal.returns-clause-refused
 returns-clause-refused c =
-    err_mapped c.admitted.result (Refused (Refuses (request_of c.args.input.now)) ⊥) (Refused (λ g. Unit {0}) _)
+    err_mapped c.admitted.result (Refused (FixtureRefuses (request_of c.args.input.now)) ⊥) (Refused (λ g. Unit {0}) _)
     (λ f h. refused_so (request_of c.args.input.now) _ f h) c.admitted.ensures.refused
