@@ -6,7 +6,7 @@ use Rattle.std.specs.Cmp.Lexicographic.{slice_cmp}
 use Rattle.std.proofs.lemmas.Map.Text.{is_eq-slice_cmp}
 use Rattle.kj_value.specs.Json.{Json, null, boolean, whole, text, list, object, Members, no_members, member}
 use Rattle.rule_reading.specs.Words.{word}
-use Rattle.rule_reading.specs.Path.{Path, here, in_name}
+use Rattle.struct_schema.specs.PathText.{Path, here, in_name}
 use Rattle.rule_reading.specs.Tried.{under_name, as_read}
 use Rattle.rule_reading.specs.Shapes.{at_name, read_in, field_read, ended, text_read}
 use Rattle.rule_reading.specs.SetRead.{Spoke, spokes_after}

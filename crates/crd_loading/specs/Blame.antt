@@ -1,6 +1,6 @@
 -- What is refused: its path as text, and a word.
 use Rattle.std.specs.Prelude.{ℕ, List, Option, None, Some, Result, Ok, Err}
-use Rattle.rule_reading.specs.Path.{Path}
+use Rattle.struct_schema.specs.PathText.{Path}
 use Rattle.hub_rules.specs.Refusal.{Fault}
 use Rattle.hub_rules.specs.Told.{path_text}
 use Rattle.crd_reading.specs.Words.{shape_word}

@@ -12,7 +12,7 @@ use Rattle.hub_rules.specs.Sound.{AreSoundRules}
 use Rattle.hub_rules.specs.declared.rules.TheConstants.{MAX_OBJECTS}
 use Rattle.hub_rules.specs.Refusal.{fit_fault}
 use Rattle.hub_fit.specs.Chosen.{fit_of}
-use Rattle.rule_reading.specs.Path.{Path}
+use Rattle.struct_schema.specs.PathText.{Path}
 use Rattle.rule_reading.specs.SetRead.{Spoke, set_read}
 use Rattle.crd_reading.specs.View.{VersionView}
 use Rattle.crd_loading.specs.Blame.{Blame, of_rules, of_fit}

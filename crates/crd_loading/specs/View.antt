@@ -3,7 +3,7 @@ use Rattle.std.specs.Prelude.{◌≡◌, ℕ, List, [], ◌∷◌, Option, None,
 use Rattle.kj_value.specs.Json.{Json}
 use Rattle.struct_schema.specs.Shape.{Shape}
 use Rattle.hub_cells.specs.Fit.{Fit}
-use Rattle.rule_reading.specs.Path.{Path}
+use Rattle.struct_schema.specs.PathText.{Path}
 use Rattle.rule_reading.specs.SetRead.{Spoke}
 use Rattle.crd_reading.specs.View.{VersionView, DefinitionView}
 use Rattle.crd_reading.specs.Whole.{IsWholeDefinition}

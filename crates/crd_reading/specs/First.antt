@@ -5,7 +5,7 @@ use Rattle.std.specs.Str.{bytes_eq}
 use Rattle.kj_value.specs.Json.{Json, Items, no_items, item}
 use Rattle.struct_schema.specs.Fault.{or_else, unless}
 use Rattle.struct_schema.specs.Path.{path_text}
-use Rattle.crd_reading.specs.Path.{Path}
+use Rattle.struct_schema.specs.PathText.{Path}
 use Rattle.schema_reading.specs.Visit as schema
 use Rattle.schema_reading.specs.Visits as schemas
 use Rattle.crd_reading.specs.Words.{spelled, shape_word}

@@ -8,7 +8,6 @@ pub mod Spelled
 pub mod Offered
 pub mod Accepted
 pub mod Whole
-pub mod Path
 pub mod Refusal
 pub mod Walk
 pub mod First

@@ -1,6 +1,6 @@
 -- What is refused of a document: its path and a word.
 use Rattle.std.specs.Prelude.{ℕ, List, Option, None, Some}
-use Rattle.crd_reading.specs.Path.{Path, here, in_name, in_item}
+use Rattle.struct_schema.specs.PathText.{Path, here, in_name, in_item}
 
 pub record Refusal : Type 0 where
   pub path : Path

@@ -9,7 +9,7 @@ use Rattle.kj_value.specs.declared.value.Field.{Field}
 use Rattle.hub_cells.specs.Level.{Name}
 use Rattle.hub_rules.specs.Rule.{Rule}
 use Rattle.hub_rules.specs.Sound.{IsScalar, AreScalars}
-use Rattle.rule_reading.specs.Path.{Path, in_item}
+use Rattle.struct_schema.specs.PathText.{Path, in_item}
 use Rattle.rule_reading.specs.Tried.{with_first, more, under_item}
 use Rattle.rule_reading.specs.Shapes.{pair_read, pairs_from}
 use Rattle.rule_reading.specs.RuleRead.{rule_size, rule_read, rules_from}

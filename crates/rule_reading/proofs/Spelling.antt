@@ -13,7 +13,7 @@ use Rattle.hub_cells.specs.Level.{Name}
 use Rattle.hub_rules.specs.Rule.{Rule, same, within, spoke_only, hub_only, split, table, scale, Rules, no_rules, rule, rules_of, rule_depth, inner_depth}
 use Rattle.hub_rules.specs.declared.rules.TheConstants.{MAX_OBJECTS}
 use Rattle.rule_reading.specs.Words.{word}
-use Rattle.rule_reading.specs.Path.{Path, here, in_name}
+use Rattle.struct_schema.specs.PathText.{Path, here, in_name}
 use Rattle.rule_reading.specs.Tried.{under_name, under_item, as_read, both, with_first, more}
 use Rattle.rule_reading.specs.Shapes.{field_at, at_name, named_value, read_in, field_read, beyond, ended, text_read, two_items, two_read, names_read, scalar_read, pair_read, pairs_from, pairs_read, is_factor, factor_of, factor_read}
 use Rattle.rule_reading.specs.RuleRead.{rule_size, rules_size, same_read, spoke_only_read, hub_only_read, split_read, table_read, scale_read, plain_read, within_by, rule_by, rule_read, within_read, rules_read, rules_from}

@@ -6,7 +6,7 @@ use Rattle.kj_value.specs.Json.{Json, null, boolean, whole, text, list, object, 
 use Rattle.hub_cells.specs.Level.{Name}
 use Rattle.hub_rules.specs.Rule.{Rule, within, rule_depth, inner_depth, rules_of}
 use Rattle.rule_reading.specs.Words.{word}
-use Rattle.rule_reading.specs.Path.{Path, here, in_name}
+use Rattle.struct_schema.specs.PathText.{Path, here, in_name}
 use Rattle.rule_reading.specs.Tried.{under_name, both}
 use Rattle.rule_reading.specs.Shapes.{field_at, at_name, named_value, read_in, field_read, beyond, ended, names_read}
 use Rattle.rule_reading.specs.RuleRead.{one_field, rule_size, rules_size, plain_read, rule_by, rule_read, within_by, within_read, rules_read}

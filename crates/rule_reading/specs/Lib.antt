@@ -1,5 +1,4 @@
 pub mod Words
-pub mod Path
 pub mod Tried
 pub mod Shapes
 pub mod SeenSet

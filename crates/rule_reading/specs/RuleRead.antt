@@ -7,7 +7,7 @@ use Rattle.hub_cells.specs.Level.{Name}
 use Rattle.hub_rules.specs.Sound.{IsSoundRule}
 use Rattle.hub_rules.specs.Rule.{Rule, same, within, spoke_only, hub_only, split, table, scale, Rules, no_rules, rule, rules_of, rule_depth}
 use Rattle.rule_reading.specs.Words.{word}
-use Rattle.rule_reading.specs.Path.{Path, here, in_name}
+use Rattle.struct_schema.specs.PathText.{Path, here, in_name}
 use Rattle.rule_reading.specs.Tried.{under_name, under_item, as_read, both, more}
 use Rattle.rule_reading.specs.Shapes.{field_at, at_name, field_read, beyond, ended, text_read, names_read, scalar_read, pairs_read, factor_read}
 use Rattle.rule_reading.specs.declared.words.Word.TheVariants as w

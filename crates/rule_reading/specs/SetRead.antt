@@ -5,7 +5,7 @@ use Rattle.kj_value.specs.Json.{Json, object, Members, no_members, member}
 use Rattle.hub_cells.specs.Level.{Name}
 use Rattle.hub_rules.specs.Rule.{Rule}
 use Rattle.rule_reading.specs.Words.{word}
-use Rattle.rule_reading.specs.Path.{Path, here}
+use Rattle.struct_schema.specs.PathText.{Path, here}
 use Rattle.rule_reading.specs.Tried.{under_name, as_read, more}
 use Rattle.rule_reading.specs.Shapes.{field_at, field_read, beyond, ended, text_read}
 use Rattle.rule_reading.specs.RuleRead.{rules_read}

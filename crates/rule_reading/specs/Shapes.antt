@@ -4,7 +4,7 @@ use Rattle.std.specs.Ordering.{nat_cmp, match_ordering}
 use Rattle.std.specs.Cmp.Lexicographic.{slice_cmp}
 use Rattle.kj_value.specs.Json.{Json, null, boolean, whole, text, list, object, Items, no_items, item, Members, no_members, member}
 use Rattle.hub_cells.specs.Level.{Name}
-use Rattle.rule_reading.specs.Path.{Path, here, in_name}
+use Rattle.struct_schema.specs.PathText.{Path, here, in_name}
 use Rattle.rule_reading.specs.Tried.{under_name, under_item, both, more}
 
 -- ---- names of an object

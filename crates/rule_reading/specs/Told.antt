@@ -3,7 +3,7 @@ use Rattle.std.specs.Prelude.{◌≡◌, List, Result, Ok, Err}
 use Rattle.kj_value.specs.Txt.{Bytes}
 use Rattle.hub_cells.specs.Level.{Name}
 use Rattle.hub_rules.specs.Rule.{Rule}
-use Rattle.rule_reading.specs.Path.{Path}
+use Rattle.struct_schema.specs.PathText.{Path}
 use Rattle.rule_reading.specs.declared.spot.Spot.{Spot}
 use Rattle.rule_reading.specs.declared.set.RuleSet.{RuleSet}
 use Rattle.rule_reading.specs.declared.set.RulesFault.{RulesFault}

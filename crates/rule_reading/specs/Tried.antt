@@ -1,6 +1,6 @@
 -- What reading a value gives: what it spells, or the path of the first thing that is refused in it.
 use Rattle.std.specs.Prelude.{ℕ, List, ◌∷◌, Result, Ok, Err}
-use Rattle.rule_reading.specs.Path.{Path, in_name, in_item}
+use Rattle.struct_schema.specs.PathText.{Path, in_name, in_item}
 
 abbrev pub Tried : Type 0 → Type 0
 Tried A = Result A Path

@@ -1,7 +1,7 @@
 //! The path of what is refused, built on the way out.
 ghost use Rattle.std.specs.Prelude.{◌≡◌, ◌++◌, IfOk, codes, decimal};
 ghost use Rattle.struct_schema.specs.Path.{point};
-ghost use Rattle.rule_reading.specs.Path.{here, in_name, in_item};
+ghost use Rattle.struct_schema.specs.PathText.{here, in_name, in_item};
 ghost use Rattle.rule_reading.specs.Told.{path_of};
 
 use kj_value::{NoMemory, Txt};

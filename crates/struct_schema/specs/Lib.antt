@@ -7,6 +7,7 @@ pub mod Names
 pub mod Keywords
 pub mod Valid
 pub mod Path
+pub mod PathText
 pub mod Fault
 pub mod Told
 pub mod Filled
