@@ -12,8 +12,8 @@ use Rattle.struct_schema.specs.Fault as check
 use Rattle.api_calls.specs.Cause.{CauseView}
 use Rattle.api_calls.specs.Meaning.{Fault}
 use Rattle.hub_cells.specs.Level.{Name}
-use Rattle.spoke_laws.specs.Spokes.{Spoke, slash, api_version}
-use Rattle.spoke_laws.specs.Whole.{IsWholeHub}
+use Rattle.keep_laws.specs.Spokes.{Spoke, slash, api_version}
+use Rattle.keep_laws.specs.WholeHub.{IsWholeHub}
 use Rattle.crd_meaning.specs.Definition.{Definition, Seat, at_hub, at_spoke, nowhere, spoke_seat, spoke_place, seat, version_at, IsLoaded}
 use Rattle.crd_meaning.specs.Objects.{PairsAt, IsFormAt}
 use Rattle.crd_meaning.specs.Admission.{IsFilling, LeftAt}

@@ -3,7 +3,7 @@ use Rattle.std.proofs.Common.{◌≡◌, ◌∙◌, ◌<◌, ℕ, zero, suc, Lis
 use Rattle.std.specs.Prelude.{slice_get, nat_lt, ◌-◌, ◌==◌, if◌then◌else◌}
 use Rattle.std.proofs.lemmas.Bool.Decides.{Decides-eqb, nat_tests}
 use Rattle.hub_cells.specs.Level.{Name, IsFresh, AreDistinct}
-use Rattle.spoke_laws.specs.Spokes.{Spoke, spoke_names}
+use Rattle.keep_laws.specs.Spokes.{Spoke, spoke_names}
 use Rattle.crd_meaning.specs.Definition.{Definition, at_hub, spoke_seat, spoke_place, seat, version_at, count_of, IsSeated, IsLoaded}
 
 -- ---- spokes have distinct names

@@ -8,8 +8,8 @@ use Rattle.object_reading.specs.Fields.{object_at}
 use Rattle.struct_schema.specs.Shape.{Shape}
 use Rattle.struct_schema.specs.Fault.{fault}
 use Rattle.hub_cells.specs.Level.{Name}
-use Rattle.spoke_laws.specs.Whole.{IsWholeHub}
-use Rattle.spoke_laws.specs.Over.{IsFirstBad}
+use Rattle.keep_laws.specs.WholeHub.{IsWholeHub}
+use Rattle.keep_laws.specs.Over.{IsFirstBad}
 use Rattle.crd_meaning.specs.Definition.{Definition, seat, version_at}
 use Rattle.crd_meaning.specs.Objects.{IsFormAt}
 use Rattle.crd_meaning.specs.Request.{meta_fields}

@@ -15,7 +15,7 @@ use Rattle.object_reading.specs.Refusal as reading
 use Rattle.api_calls.specs.Cause.{not_object}
 use Rattle.api_calls.specs.Meaning.{Fault, bad_request}
 use Rattle.crd_reading.specs.View.{VersionView}
-use Rattle.spoke_laws.specs.Spokes.{api_version}
+use Rattle.keep_laws.specs.Spokes.{api_version}
 use Rattle.crd_meaning.specs.Definition.{Definition, count_of, version_at}
 use Rattle.crd_meaning.specs.Request.{Judged, first_there, breaks, metadata_fault, given_name}
 

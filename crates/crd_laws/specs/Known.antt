@@ -1,10 +1,10 @@
 -- What the laws of a definition take of other crates, from this alone, that a text spells one list of entries.
-use Rattle.fitted_bodies.proofs.Fitted.{body_known, body_allowed, whole_body}
-use Rattle.fitted_bodies.proofs.Settled.{whole_settled}
+use Rattle.keep_laws.proofs.Fitted.{body_known, body_allowed, whole_body}
+use Rattle.keep_laws.proofs.Settled.{whole_settled}
 use Rattle.prune_default.proofs.Fillings.{one_value}
-use Rattle.spoke_laws.specs.Given.{OneList, Laws}
-use Rattle.spoke_laws.proofs.Pairs.{settled_of, one_object, one_hub_object}
-use Rattle.spoke_laws.proofs.Trips.{settles_one, settles_hub_one}
+use Rattle.keep_laws.specs.Given.{OneList, Laws}
+use Rattle.keep_laws.proofs.Pairs.{settled_of, one_object, one_hub_object}
+use Rattle.keep_laws.proofs.Trips.{settles_one, settles_hub_one}
 use Rattle.crd_meaning.specs.Given.{Given}
 
 pub laws : OneList → Laws

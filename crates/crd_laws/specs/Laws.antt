@@ -6,7 +6,7 @@ use Rattle.kube_meta.specs.View.{ObjectView}
 use Rattle.api_calls.specs.Meaning.{Request, Weighs}
 use Rattle.api_calls.specs.Versions.{AreFlags, StandsAt, Stand, IgnoresStamps, IsOneToOne, KeepsFinalizers, NamesDiffer, IsAdmitted, AdmitsWhole, Decides, RefusesUnread}
 use Rattle.crd_reading.specs.Accepted.{AreOffered}
-use Rattle.spoke_laws.specs.Given.{OneList}
+use Rattle.keep_laws.specs.Given.{OneList}
 use Rattle.crd_meaning.specs.Definition.{Definition, count_of, opening_of, IsLoaded}
 use Rattle.crd_meaning.specs.Meant.{Settings, meaning_of, meant}
 use Rattle.crd_meaning.proofs.Places as places

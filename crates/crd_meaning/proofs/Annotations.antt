@@ -17,11 +17,11 @@ use Rattle.object_reading.specs.Keeping.{KeepsRules, is_empty_or, is_none_or, is
 use Rattle.object_reading.specs.declared.finalizers.TheConstants.{FINALIZERS}
 use Rattle.kept_entries.specs.declared.entry.Entry.{Entry}
 use Rattle.hub_cells.specs.Level.{Name}
-use Rattle.spoke_laws.specs.Spokes.{Spoke, Spokes}
-use Rattle.spoke_laws.specs.Keys.{hub_key, KeyKind, plain, of_hub, of_spoke, of_none, key_kind}
-use Rattle.spoke_laws.specs.Notes.{noted, without_notes}
-use Rattle.spoke_laws.specs.Pair.{SpokeNotePair, NotePair, IsPairOf}
-use Rattle.spoke_laws.proofs.Keys.{KindSays, kind_says}
+use Rattle.keep_laws.specs.Spokes.{Spoke, Spokes}
+use Rattle.keep_laws.specs.Keys.{hub_key, KeyKind, plain, of_hub, of_spoke, of_none, key_kind}
+use Rattle.keep_laws.specs.Notes.{noted, without_notes}
+use Rattle.keep_laws.specs.Pair.{SpokeNotePair, NotePair, IsPairOf}
+use Rattle.keep_laws.proofs.Keys.{KindSays, kind_says}
 
 -- ---- maps of annotations
 

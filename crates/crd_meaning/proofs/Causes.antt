@@ -15,8 +15,8 @@ use Rattle.api_calls.specs.Readings.{IsFaulty, one_fault}
 use Rattle.api_calls.specs.Readings as reading
 use Rattle.api_calls.specs.declared.versions.TheConstants.{OBJECT_LEVELS}
 use Rattle.hub_cells.specs.Level.{Name}
-use Rattle.spoke_laws.specs.Spokes.{Spokes}
-use Rattle.spoke_laws.specs.Over.{IsFirstBad}
+use Rattle.keep_laws.specs.Spokes.{Spokes}
+use Rattle.keep_laws.specs.Over.{IsFirstBad}
 use Rattle.crd_meaning.specs.Definition.{Definition, IsLoaded}
 use Rattle.crd_meaning.specs.Request.{breaks, early, IsTaken}
 use Rattle.crd_meaning.specs.Admission.{schema_of, IsFilling, Passes, IsUnread}

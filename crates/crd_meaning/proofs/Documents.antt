@@ -10,7 +10,7 @@ use Rattle.kj_value.specs.Sound.{IsSoundJson, AreSoundItems, AreRising, ComesFir
 use Rattle.kj_value.specs.Fields.{Pairs, with_field, NamesRise, AreInOrder}
 use Rattle.kube_meta.specs.View.{Texts, MetaView, ObjectView}
 use Rattle.kube_meta.specs.Document.{optional, some_text, text_fields, some_texts, some_list, some_generation, metadata, document}
-use Rattle.spoke_laws.specs.Notes.{IsObject}
+use Rattle.keep_laws.specs.Notes.{IsObject}
 use Rattle.crd_meaning.specs.Objects.{IsMeta}
 
 -- ---- a field put at its place

@@ -1,8 +1,8 @@
 -- A whole object has one form at a version, and is the only one that has it.
 use Rattle.std.proofs.Common.{◌≡◌, ◌∙◌, ℕ, refl, sym}
 use Rattle.kube_meta.specs.View.{ObjectView}
-use Rattle.spoke_laws.specs.Spokes.{Spoke}
-use Rattle.spoke_laws.specs.Whole.{IsWholeHub}
+use Rattle.keep_laws.specs.Spokes.{Spoke}
+use Rattle.keep_laws.specs.WholeHub.{IsWholeHub}
 use Rattle.crd_meaning.specs.Definition.{Definition, Seat, at_hub, at_spoke, nowhere, seat, IsLoaded}
 use Rattle.crd_meaning.specs.Objects.{IsWholeValue, PairsAt, IsFormAt}
 use Rattle.crd_meaning.specs.Admission.{LeftAt}

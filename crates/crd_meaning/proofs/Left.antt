@@ -13,19 +13,19 @@ use Rattle.keep_laws.specs.Whole.{Held, Ready, IsWholeOnSide, IsPair}
 use Rattle.keep_laws.specs.Settle.{settled, converted}
 use Rattle.keep_laws.proofs.Dead.{converted_whole}
 use Rattle.keep_laws.proofs.Fields.{bytes_same}
-use Rattle.fitted_bodies.specs.Body.{IsBodyOf}
-use Rattle.spoke_laws.specs.Spokes.{Spoke, Spokes, IsDefinition, api_version}
-use Rattle.spoke_laws.specs.Keys.{spoke_key, KeyKind, plain, of_hub, of_spoke, of_none, key_kind}
-use Rattle.spoke_laws.specs.Notes.{noted, Spells, IsNoteOf, IsObject, with_entries}
-use Rattle.spoke_laws.specs.Pair.{SpokeNotePair, NotePair, IsPairOf}
-use Rattle.spoke_laws.specs.Settling.{IsJudged, SpokeNote, OtherNote, NoteAtSpoke, SettlesAtSpoke, living_entries, hub_body}
-use Rattle.spoke_laws.specs.Over.{SpokeNoteOver, NoteOver, GoesOver, IsRead, IsFirstBad}
-use Rattle.spoke_laws.specs.Given.{Laws}
-use Rattle.spoke_laws.proofs.Keys.{spoke_kind}
-use Rattle.spoke_laws.proofs.Levels.{spoke_pair, one_spoke}
-use Rattle.spoke_laws.proofs.Notes.{one_note}
-use Rattle.spoke_laws.proofs.Pairs.{ready, own_pair}
-use Rattle.spoke_laws.proofs.Judged.{allowed, settled_is}
+use Rattle.keep_laws.specs.FittedBody.{IsBodyOf}
+use Rattle.keep_laws.specs.Spokes.{Spoke, Spokes, IsDefinition, api_version}
+use Rattle.keep_laws.specs.Keys.{spoke_key, KeyKind, plain, of_hub, of_spoke, of_none, key_kind}
+use Rattle.keep_laws.specs.Notes.{noted, Spells, IsNoteOf, IsObject, with_entries}
+use Rattle.keep_laws.specs.Pair.{SpokeNotePair, NotePair, IsPairOf}
+use Rattle.keep_laws.specs.Settling.{IsJudged, SpokeNote, OtherNote, NoteAtSpoke, SettlesAtSpoke, living_entries, hub_body}
+use Rattle.keep_laws.specs.Over.{SpokeNoteOver, NoteOver, GoesOver, IsRead, IsFirstBad}
+use Rattle.keep_laws.specs.Given.{Laws}
+use Rattle.keep_laws.proofs.Keys.{spoke_kind}
+use Rattle.keep_laws.proofs.SpokeLevels.{spoke_pair, one_spoke}
+use Rattle.keep_laws.proofs.Notes.{one_note}
+use Rattle.keep_laws.proofs.Pairs.{ready, own_pair}
+use Rattle.keep_laws.proofs.Judged.{allowed, settled_is}
 use Rattle.crd_meaning.specs.Definition.{Definition, Seat, at_hub, at_spoke, nowhere, seat, count_of, IsLoaded}
 use Rattle.crd_meaning.specs.Objects.{IsWholeValue, PairsAt}
 use Rattle.crd_meaning.specs.Admission.{own_name, LeftAt, IsHubOf}

@@ -18,18 +18,18 @@ use Rattle.hub_cells.specs.Level.{Name}
 use Rattle.keep_laws.specs.Whole.{Held, IsWholeOnSide}
 use Rattle.keep_laws.specs.Settle.{converted}
 use Rattle.keep_laws.proofs.Dead.{converted_whole}
-use Rattle.spoke_laws.specs.Spokes.{Spoke, Spokes, IsDefinition, api_version}
-use Rattle.spoke_laws.specs.Keys.{hub_key, spoke_key}
-use Rattle.spoke_laws.specs.Notes.{Spells, note, IsNoteOf, IsObject, with_note, with_entries}
-use Rattle.spoke_laws.specs.Pair.{IsPairOf}
-use Rattle.spoke_laws.specs.Whole.{IsWholeHub}
-use Rattle.spoke_laws.specs.Given.{Laws}
-use Rattle.spoke_laws.proofs.Shallow.{whole_levels}
-use Rattle.spoke_laws.proofs.Levels.{whole_over}
-use Rattle.spoke_laws.proofs.Fitted.{hub_body_at}
-use Rattle.spoke_laws.proofs.Pairs.{whole_own, ready}
-use Rattle.spoke_laws.proofs.Judged.{allowed}
-use Rattle.spoke_laws.proofs.Forms.{form_pair}
+use Rattle.keep_laws.specs.Spokes.{Spoke, Spokes, IsDefinition, api_version}
+use Rattle.keep_laws.specs.Keys.{hub_key, spoke_key}
+use Rattle.keep_laws.specs.Notes.{Spells, note, IsNoteOf, IsObject, with_note, with_entries}
+use Rattle.keep_laws.specs.Pair.{IsPairOf}
+use Rattle.keep_laws.specs.WholeHub.{IsWholeHub}
+use Rattle.keep_laws.specs.Given.{Laws}
+use Rattle.keep_laws.proofs.Shallow.{whole_levels}
+use Rattle.keep_laws.proofs.SpokeLevels.{whole_over}
+use Rattle.keep_laws.proofs.SpokesFitted.{hub_body_at}
+use Rattle.keep_laws.proofs.Pairs.{whole_own, ready}
+use Rattle.keep_laws.proofs.Judged.{allowed}
+use Rattle.keep_laws.proofs.Forms.{form_pair}
 use Rattle.crd_meaning.specs.Definition.{Definition, Seat, at_hub, at_spoke, nowhere, seat, version_at, count_of, IsSeated, IsLoaded}
 use Rattle.crd_meaning.specs.Objects.{IsWholeValue, PairsAt, IsFormAt}
 use Rattle.crd_meaning.specs.Tables.{HasSoundTables}

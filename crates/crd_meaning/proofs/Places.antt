@@ -12,10 +12,10 @@ use Rattle.struct_schema.specs.Shape.{Shape}
 use Rattle.api_calls.specs.declared.versions.TheConstants.{OBJECT_LEVELS}
 use Rattle.hub_cells.specs.Side.{spoke, hub}
 use Rattle.hub_cells.specs.Fit.{IsClosedObject}
-use Rattle.fitted_bodies.specs.Body.{IsBody}
-use Rattle.spoke_laws.specs.Spokes.{api_version}
-use Rattle.spoke_laws.specs.Notes.{IsObject}
-use Rattle.spoke_laws.proofs.Fitted.{fits}
+use Rattle.keep_laws.specs.FittedBody.{IsBody}
+use Rattle.keep_laws.specs.Spokes.{api_version}
+use Rattle.keep_laws.specs.Notes.{IsObject}
+use Rattle.keep_laws.proofs.SpokesFitted.{fits}
 use Rattle.crd_meaning.specs.Definition.{Definition, Seat, at_hub, at_spoke, nowhere, seat, version_at, count_of, IsRoot, IsSeated, IsLoaded}
 use Rattle.crd_meaning.specs.Objects.{IsMeta, IsWholeValue, PairsAt}
 use Rattle.crd_meaning.specs.Meant.{Settings, meaning_of}

@@ -4,9 +4,9 @@ use Rattle.std.specs.Prelude.{slice_get, ◌==◌, if◌then◌else◌}
 use Rattle.std.proofs.lemmas.Bool.Decides.{Decides-eqb}
 use Rattle.kj_value.specs.Fields.{Pairs}
 use Rattle.hub_cells.specs.Side.{hub}
-use Rattle.fitted_bodies.specs.Body.{IsBodyOf}
-use Rattle.spoke_laws.specs.Spokes.{Spoke}
-use Rattle.spoke_laws.specs.Whole.{IsHubBody}
+use Rattle.keep_laws.specs.FittedBody.{IsBodyOf}
+use Rattle.keep_laws.specs.Spokes.{Spoke}
+use Rattle.keep_laws.specs.WholeHub.{IsHubBody}
 use Rattle.crd_meaning.specs.Definition.{Definition, at_hub, at_spoke, spoke_seat, spoke_place, seat}
 
 pub record Place (d : Definition) (s : Spoke) : Type 0 where

@@ -21,8 +21,8 @@ use Rattle.api_calls.specs.Meaning.{Request, Fault, bad_request, invalid}
 use Rattle.api_calls.specs.Versions.{IsAdmitted, AdmitsWhole, Decides, RefusesUnread}
 use Rattle.api_calls.specs.declared.versions.TheConstants.{OBJECT_LEVELS}
 use Rattle.hub_cells.specs.Level.{Name}
-use Rattle.spoke_laws.specs.Spokes.{Spokes}
-use Rattle.spoke_laws.specs.Notes.{without_notes}
+use Rattle.keep_laws.specs.Spokes.{Spokes}
+use Rattle.keep_laws.specs.Notes.{without_notes}
 use Rattle.crd_meaning.specs.Definition.{Definition, Seat, at_hub, at_spoke, nowhere, seat, IsLoaded}
 use Rattle.crd_meaning.specs.Objects.{PairsAt, IsFormAt}
 use Rattle.crd_meaning.specs.Request.{Judged, first_there, breaks, given_name, meta_fields, metadata_rows, number_rows, number_text, later_rows, is_named_so, version_row, kind_row, namespace_row, name_row, rows, early, placed, expected_of, number_path, IsTaken}

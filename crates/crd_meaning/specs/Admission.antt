@@ -9,9 +9,9 @@ use Rattle.struct_schema.specs.Filled.{Filled}
 use Rattle.struct_schema.specs.Fault.{fault}
 use Rattle.api_calls.specs.Meaning.{Request, measure}
 use Rattle.hub_cells.specs.Level.{Name}
-use Rattle.spoke_laws.specs.Spokes.{Spokes}
-use Rattle.spoke_laws.specs.Settling.{SettlesAtHub, SettlesAtSpoke}
-use Rattle.spoke_laws.specs.Over.{IsFirstBad}
+use Rattle.keep_laws.specs.Spokes.{Spokes}
+use Rattle.keep_laws.specs.Settling.{SettlesAtHub, SettlesAtSpoke}
+use Rattle.keep_laws.specs.Over.{IsFirstBad}
 use Rattle.crd_meaning.specs.declared.limits.TheConstants.{MAX_MEASURE}
 use Rattle.crd_meaning.specs.Definition.{Definition, Seat, at_hub, at_spoke, nowhere, seat, count_of, version_at}
 use Rattle.crd_meaning.specs.Objects.{IsWholeValue, IsFormAt}

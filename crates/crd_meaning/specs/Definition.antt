@@ -6,7 +6,7 @@ use Rattle.struct_schema.specs.Names.{property}
 use Rattle.struct_schema.specs.OwnDefaults.{HasOwnDefaults}
 use Rattle.struct_schema.specs.declared.kind.NodeKind.TheVariants.{Object}
 use Rattle.crd_reading.specs.View.{VersionView, DefinitionView}
-use Rattle.spoke_laws.specs.Spokes.{Spoke, Spokes, IsDefinition}
+use Rattle.keep_laws.specs.Spokes.{Spoke, Spokes, IsDefinition}
 use Rattle.crd_meaning.specs.Tables.{HasSoundTables}
 
 -- the hub's place among the versions, and the spokes, which are the other versions in their order

@@ -5,11 +5,11 @@ use Rattle.kj_value.specs.Sound.{IsSoundJson}
 use Rattle.kube_meta.specs.View.{ObjectView}
 use Rattle.struct_schema.specs.Shape.{Shape}
 use Rattle.struct_schema.specs.Filled.{Filled}
-use Rattle.spoke_laws.specs.Spokes.{Spoke, Spokes, IsDefinition}
-use Rattle.spoke_laws.specs.Notes.{IsObject}
-use Rattle.spoke_laws.specs.Pair.{IsPairOf}
-use Rattle.spoke_laws.specs.Whole.{IsWholeHub, IsSettledAt}
-use Rattle.spoke_laws.specs.Settling.{SettlesAtHub, SettlesAtSpoke}
+use Rattle.keep_laws.specs.Spokes.{Spoke, Spokes, IsDefinition}
+use Rattle.keep_laws.specs.Notes.{IsObject}
+use Rattle.keep_laws.specs.Pair.{IsPairOf}
+use Rattle.keep_laws.specs.WholeHub.{IsWholeHub, IsSettledAt}
+use Rattle.keep_laws.specs.Settling.{SettlesAtHub, SettlesAtSpoke}
 
 pub record Given : Type 0 where
   -- what is paired with a whole object is settled, and is the only one; and back

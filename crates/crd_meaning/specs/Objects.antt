@@ -7,10 +7,10 @@ use Rattle.kube_meta.specs.View.{MetaView, ObjectView}
 use Rattle.object_reading.specs.Keeping.{KeepsRules}
 use Rattle.api_calls.specs.Versions.{AreStamps}
 use Rattle.api_calls.specs.declared.versions.TheConstants.{OBJECT_LEVELS}
-use Rattle.spoke_laws.specs.Spokes.{Spokes}
-use Rattle.spoke_laws.specs.Notes.{IsObject}
-use Rattle.spoke_laws.specs.Pair.{IsPairOf}
-use Rattle.spoke_laws.specs.Whole.{IsWholeHub}
+use Rattle.keep_laws.specs.Spokes.{Spokes}
+use Rattle.keep_laws.specs.Notes.{IsObject}
+use Rattle.keep_laws.specs.Pair.{IsPairOf}
+use Rattle.keep_laws.specs.WholeHub.{IsWholeHub}
 use Rattle.crd_meaning.specs.Definition.{Definition, Seat, at_hub, at_spoke, nowhere, seat}
 
 -- the names of the labels rise, the owners are JSON values, and with the two levels that lead to them they are at most 64

@@ -16,7 +16,7 @@ use Rattle.object_reading.specs.Refusal as reading
 use Rattle.api_calls.specs.Cause.{not_object, wrong_version, wrong_kind, wrong_namespace, wrong_name}
 use Rattle.api_calls.specs.Meaning.{Request, Fault, bad_request, invalid}
 use Rattle.api_calls.specs.declared.versions.TheConstants.{OBJECT_LEVELS}
-use Rattle.spoke_laws.specs.Spokes.{api_version}
+use Rattle.keep_laws.specs.Spokes.{api_version}
 use Rattle.crd_meaning.specs.Definition.{Definition, version_at}
 
 -- ---- the paths of fields

@@ -9,9 +9,9 @@ ghost use Rattle.api_calls.specs.Meaning.{Fault, Request};
 ghost use Rattle.api_calls.specs.Versions.{AdmitsWhole, Decides, IgnoresStamps, IsOneToOne, KeepsFinalizers, RefusesUnread, Stand};
 ghost use Rattle.hub_cells.specs.Side.{spoke};
 ghost use Rattle.hub_cells.specs.Level.{Name};
-ghost use Rattle.fitted_bodies.specs.Body.{IsBodyOf};
-ghost use Rattle.spoke_laws.specs.Spokes.{Spoke, api_version};
-ghost use Rattle.spoke_laws.specs.Over.{GoesOver, IsFirstBad};
+ghost use Rattle.keep_laws.specs.FittedBody.{IsBodyOf};
+ghost use Rattle.keep_laws.specs.Spokes.{Spoke, api_version};
+ghost use Rattle.keep_laws.specs.Over.{GoesOver, IsFirstBad};
 ghost use Rattle.crd_meaning.specs.Definition.{Definition, IsLoaded, count_of, seat, at_spoke};
 ghost use Rattle.crd_meaning.specs.Objects.{IsWholeValue};
 ghost use Rattle.crd_meaning.specs.Request.{IsTaken};
@@ -20,8 +20,8 @@ ghost use Rattle.crd_meaning.specs.Refusal.{RefusesRequest};
 ghost use Rattle.crd_meaning.specs.Meant.{meant};
 ghost use Rattle.crd_meaning.specs.Given.{Given};
 
+use keep_laws::object_laws::{given, one_each, settling};
 use prune_default::one_filling;
-use spoke_laws::{given, one_each, settling};
 
 /// What other crates promise of pairs, of settled objects and of fillings, as one fact.
 pub fn known()

@@ -4,7 +4,7 @@ ghost use Rattle.kj_value.specs.Json.{depth};
 ghost use Rattle.kj_value.specs.Seen.{json};
 ghost use Rattle.api_calls.specs.Versions.{Refused};
 ghost use Rattle.api_calls.specs.declared.versions.TheConstants.{OBJECT_LEVELS};
-ghost use Rattle.spoke_laws.specs.Given.{OneList};
+ghost use Rattle.keep_laws.specs.Given.{OneList};
 ghost use Rattle.crd_reading.specs.Accepted.{AreOffered};
 ghost use Rattle.crd_meaning.specs.Definition.{IsLoaded, count_of};
 ghost use Rattle.crd_converting.specs.Converted.{IsConverted};

@@ -9,11 +9,11 @@ use Rattle.kept_entries.specs.declared.entry.Entry.{Entry}
 use Rattle.hub_cells.specs.Level.{Name}
 use Rattle.object_reading.specs.Labels.{is_annotation_key}
 use Rattle.object_reading.specs.Keeping.{is_annotation_pair}
-use Rattle.spoke_laws.specs.Spokes.{Spoke, Spokes}
-use Rattle.spoke_laws.specs.Keys.{hub_key, spoke_prefix, spoke_key, KeyKind, plain, of_hub, of_spoke, of_none, kind_among, key_kind}
-use Rattle.spoke_laws.specs.Notes.{noted}
-use Rattle.spoke_laws.specs.Settling.{IsJudged, OtherNote, SettlesAtHub}
-use Rattle.spoke_laws.specs.Over.{SpokeNoteOver, NoteOver, GoesOver}
+use Rattle.keep_laws.specs.Spokes.{Spoke, Spokes}
+use Rattle.keep_laws.specs.Keys.{hub_key, spoke_prefix, spoke_key, KeyKind, plain, of_hub, of_spoke, of_none, kind_among, key_kind}
+use Rattle.keep_laws.specs.Notes.{noted}
+use Rattle.keep_laws.specs.Settling.{IsJudged, OtherNote, SettlesAtHub}
+use Rattle.keep_laws.specs.Over.{SpokeNoteOver, NoteOver, GoesOver}
 use Rattle.crd_meaning.proofs.Annotations.{found, all_found}
 
 -- ---- whose annotation a key is of

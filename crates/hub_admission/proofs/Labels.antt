@@ -11,7 +11,7 @@ use Rattle.kube_meta.specs.Names.{hyphen, dot, is_label_byte, is_label, is_names
 use Rattle.kube_meta.specs.declared.key.TheConstants.{NAMESPACE_BYTES}
 use Rattle.object_reading.specs.Labels.{underscore, is_slash, is_alphanumeric, is_key_byte, is_key_name, is_prefix, has_slash, is_annotation_key}
 use Rattle.object_reading.specs.declared.labels.TheConstants.{KEY_NAME_BYTES}
-use Rattle.spoke_laws.specs.Keys.{spoke_prefix, spoke_key}
+use Rattle.keep_laws.specs.Keys.{spoke_prefix, spoke_key}
 use Rattle.hub_admission.proofs.Tests.{both, joined, not_true, alone}
 
 -- ---- one byte: a lower-case letter, a digit, a capital, a hyphen

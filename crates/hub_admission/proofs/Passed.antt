@@ -18,13 +18,13 @@ use Rattle.api_calls.specs.Versions.{IsStamp, AreStamps}
 use Rattle.struct_schema.specs.Shape.{Shape}
 use Rattle.crd_reading.specs.Whole.{IsWholeDefinition}
 use Rattle.hub_cells.specs.Side.{spoke}
-use Rattle.fitted_bodies.specs.Body.{IsBody, IsBodyOf}
-use Rattle.spoke_laws.specs.Spokes.{Spoke, AreFittedTo, HaveOneHub, api_version}
-use Rattle.spoke_laws.specs.Notes.{without_notes}
-use Rattle.spoke_laws.specs.Whole.{IsHubBody, IsWholeHub}
-use Rattle.spoke_laws.specs.Settling.{SettlesAtHub}
-use Rattle.spoke_laws.specs.Over.{GoesOver}
-use Rattle.spoke_laws.specs.Place.{StandsAt}
+use Rattle.keep_laws.specs.FittedBody.{IsBody, IsBodyOf}
+use Rattle.keep_laws.specs.Spokes.{Spoke, AreFittedTo, HaveOneHub, api_version}
+use Rattle.keep_laws.specs.Notes.{without_notes}
+use Rattle.keep_laws.specs.WholeHub.{IsHubBody, IsWholeHub}
+use Rattle.keep_laws.specs.Settling.{SettlesAtHub}
+use Rattle.keep_laws.specs.Over.{GoesOver}
+use Rattle.keep_laws.specs.Place.{StandsAt}
 use Rattle.crd_meaning.specs.Definition.{Definition, Seat, at_hub, at_spoke, spoke_seat, spoke_place, seat, version_at, count_of, IsSpokeOf, IsSeated, IsLoaded}
 use Rattle.crd_meaning.specs.Objects.{IsWholeValue, PairsAt}
 use Rattle.crd_meaning.specs.Admission.{LeftAt, IsHubOf}

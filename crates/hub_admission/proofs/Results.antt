@@ -8,10 +8,10 @@ use Rattle.api_calls.specs.Versions.{Refused}
 use Rattle.api_calls.specs.declared.versions.AdmitFault.{AdmitFault}
 use Rattle.api_calls.specs.declared.versions.AdmitFault.TheVariants as fault
 use Rattle.hub_cells.specs.Level.{Name}
-use Rattle.spoke_objects.specs.declared.fault.KeepFault.{KeepFault}
-use Rattle.spoke_objects.specs.declared.fault.KeepFault.TheVariants.{BadKept, NoMemory}
-use Rattle.spoke_objects.specs.Fault.{IsFaultOf}
-use Rattle.spoke_laws.specs.Over.{IsFirstBad}
+use Rattle.spoke_keep.specs.declared.fault.KeepFault.{KeepFault}
+use Rattle.spoke_keep.specs.declared.fault.KeepFault.TheVariants.{BadKept, NoMemory}
+use Rattle.spoke_keep.specs.Fault.{IsFaultOf}
+use Rattle.keep_laws.specs.Over.{IsFirstBad}
 use Rattle.crd_meaning.specs.Definition.{Definition, seat}
 use Rattle.crd_meaning.specs.Request.{breaks}
 use Rattle.crd_meaning.specs.Admission.{own_name, IsHubOf, IsLight}

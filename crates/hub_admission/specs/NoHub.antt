@@ -4,9 +4,9 @@ use Rattle.kj_value.specs.declared.rule.Rule.TheVariants as rule
 use Rattle.kube_meta.specs.View.{ObjectView}
 use Rattle.api_calls.specs.Meaning.{Fault}
 use Rattle.hub_cells.specs.Level.{Name}
-use Rattle.spoke_laws.specs.Over.{IsFirstBad}
-use Rattle.spoke_objects.specs.declared.fault.KeepFault.{KeepFault}
-use Rattle.spoke_objects.specs.declared.fault.KeepFault.TheVariants.{BadKept, NoMemory}
+use Rattle.keep_laws.specs.Over.{IsFirstBad}
+use Rattle.spoke_keep.specs.declared.fault.KeepFault.{KeepFault}
+use Rattle.spoke_keep.specs.declared.fault.KeepFault.TheVariants.{BadKept, NoMemory}
 use Rattle.crd_meaning.specs.Definition.{Definition, seat}
 use Rattle.crd_meaning.specs.Request.{breaks}
 use Rattle.crd_meaning.specs.Admission.{own_name, IsHubOf, IsLight}

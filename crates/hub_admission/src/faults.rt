@@ -8,7 +8,7 @@ ghost use Rattle.hub_admission.specs.NoHub.{IsTold};
 
 use api_calls::{AdmitFault, Cause};
 use kj_value::{NoMemory, Rule, Txt};
-use spoke_objects::KeepFault;
+use spoke_keep::KeepFault;
 use std::alloc::Global;
 
 fn annotation_prefix() -> &'static str

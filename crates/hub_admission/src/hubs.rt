@@ -4,8 +4,8 @@ ghost use Rattle.kube_meta.specs.View.{object_of};
 ghost use Rattle.api_calls.specs.Meaning.{Weighs};
 ghost use Rattle.api_calls.specs.Versions.{Refused};
 ghost use Rattle.hub_cells.specs.Level.{Name};
-ghost use Rattle.spoke_laws.specs.Over.{IsFirstBad};
-ghost use Rattle.spoke_objects.specs.Fault.{IsFaultOf};
+ghost use Rattle.keep_laws.specs.Over.{IsFirstBad};
+ghost use Rattle.spoke_keep.specs.Fault.{IsFaultOf};
 ghost use Rattle.crd_meaning.specs.Definition.{count_of, seat};
 ghost use Rattle.crd_meaning.specs.Admission.{own_name, IsHubOf, IsLight};
 ghost use Rattle.crd_meaning.specs.Meant.{meant};
@@ -16,11 +16,11 @@ use crate::faults::{badly_kept, too_large};
 use crate::weighing::weigh;
 use api_calls::AdmitFault;
 use crd_meaning::{going_over, one_hub};
+use keep_laws::object_laws::settling;
 use kj_value::Txt;
 use kube_meta::Object;
 use loaded_versions::LoadedVersions;
-use spoke_laws::settling;
-use spoke_objects::{KeepFault, settle, to_hub};
+use spoke_keep::{KeepFault, settle, to_hub};
 use std::alloc::Global;
 
 /// A hub value, with what it takes at most at any version, in chunks of 256 bytes, at least 1.

@@ -2,7 +2,7 @@
 ghost use Rattle.std.specs.Prelude.{◌≡◌, ◌<◌, ◌≤◌, max, IfOk};
 ghost use Rattle.kube_meta.specs.View.{object_of};
 ghost use Rattle.api_calls.specs.Meaning.{chunks};
-ghost use Rattle.spoke_laws.specs.Whole.{IsWholeHub};
+ghost use Rattle.keep_laws.specs.WholeHub.{IsWholeHub};
 ghost use Rattle.crd_meaning.specs.declared.limits.TheConstants.{MAX_MEASURE};
 ghost use Rattle.crd_meaning.specs.Definition.{IsLoaded, count_of};
 ghost use Rattle.crd_meaning.specs.Objects.{IsWholeValue};
@@ -13,7 +13,7 @@ use kj_value::NoMemory;
 use kube_meta::Object;
 use loaded_versions::LoadedVersions;
 use object_measure::measure_within;
-use spoke_objects::from_hub;
+use spoke_keep::from_hub;
 use std::alloc::Global;
 
 /// The bytes of a chunk.

@@ -7,3 +7,13 @@ pub mod Settle
 pub mod Known
 pub mod Alive
 pub mod Words
+pub mod FittedBody
+pub mod Spokes
+pub mod Keys
+pub mod Notes
+pub mod Pair
+pub mod WholeHub
+pub mod Settling
+pub mod Over
+pub mod Given
+pub mod Place

@@ -3,7 +3,7 @@ use Rattle.std.proofs.Common.{◌≡◌, ◌∙◌, ◌<◌, ◌≤◌, ℕ, Boo
 use Rattle.std.specs.Prelude.{slice_get, nat_lt, ◌-◌, ◌==◌, if◌then◌else◌}
 use Rattle.std.proofs.lemmas.Bool.Decides.{Decides-eqb, Decides-ltb}
 use Rattle.crd_reading.specs.View.{VersionView}
-use Rattle.spoke_laws.specs.Spokes.{Spoke}
+use Rattle.keep_laws.specs.Spokes.{Spoke}
 use Rattle.crd_meaning.specs.Definition.{Definition, version_at, at_hub, at_spoke, spoke_seat, spoke_place, seat, IsSeated}
 
 pub place_before : (hub v : ℕ) → v < hub → v ≡ spoke_place hub v

@@ -2,9 +2,9 @@
 use Rattle.std.specs.Prelude.{◌≡◌, ℕ, pos, None}
 use Rattle.kube_meta.specs.View.{ObjectView}
 use Rattle.object_reading.specs.Keeping.{KeepsRules}
-use Rattle.fitted_bodies.specs.Body.{IsBody}
-use Rattle.spoke_laws.specs.Spokes.{api_version}
-use Rattle.spoke_laws.specs.Notes.{IsObject}
+use Rattle.keep_laws.specs.FittedBody.{IsBody}
+use Rattle.keep_laws.specs.Spokes.{api_version}
+use Rattle.keep_laws.specs.Notes.{IsObject}
 use Rattle.crd_meaning.specs.Definition.{Definition, version_at}
 use Rattle.crd_meaning.specs.Objects.{IsMeta}
 

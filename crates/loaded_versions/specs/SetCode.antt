@@ -3,8 +3,8 @@ use Rattle.std.specs.Prelude.{ℕ, refl}
 use Rattle.std.specs.Coded.{Coded, code_by, coded_ℕ, coded×}
 use Rattle.crd_reading.specs.View.{DefinitionView}
 use Rattle.crd_reading.specs.ViewCode.{definition_code}
-use Rattle.spoke_laws.specs.Spokes.{Spokes}
-use Rattle.spoke_objects.specs.SpokesCode.{spokes_code}
+use Rattle.keep_laws.specs.Spokes.{Spokes}
+use Rattle.spoke_keep.specs.SpokesCode.{spokes_code}
 use Rattle.crd_meaning.specs.Definition.{Definition}
 
 abbrev pub set_code : Coded Definition

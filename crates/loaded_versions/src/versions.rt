@@ -1,11 +1,11 @@
 //! A loaded definition.
 ghost use Rattle.std.specs.Prelude.{◌≡◌, ◌<◌, MatchOption, slice_get, Some};
-ghost use Rattle.spoke_laws.specs.Spokes.{Spoke as SpokeView};
+ghost use Rattle.keep_laws.specs.Spokes.{Spoke as SpokeView};
 ghost use Rattle.crd_reading.specs.Seen.{version_of};
 ghost use Rattle.crd_meaning.specs.Definition.{IsLoaded, count_of, version_at, seat, at_hub, at_spoke};
 
 use crd_reading::{Definition, Version};
-use spoke_objects::Spokes;
+use spoke_keep::Spokes;
 use std::marker::Model;
 
 /// A definition, the place of the hub among its versions, and the other versions, with their rules, in the definition's order.

@@ -8,16 +8,16 @@ use Rattle.kube_meta.specs.View.{ObjectView}
 use Rattle.api_calls.specs.Meaning.{Fault}
 use Rattle.hub_cells.specs.Level.{Name}
 use Rattle.hub_cells.specs.Side.{hub}
-use Rattle.fitted_bodies.specs.Body.{IsBodyOf}
-use Rattle.spoke_laws.specs.Spokes.{Spoke, Spokes}
-use Rattle.spoke_laws.specs.Pair.{IsPairOf}
-use Rattle.spoke_laws.specs.Whole.{IsWholeHub, IsSettledAt}
-use Rattle.spoke_laws.specs.Settling.{SettlesAtHub}
-use Rattle.spoke_laws.specs.Over.{GoesOver}
-use Rattle.spoke_laws.specs.Given.{Laws}
-use Rattle.spoke_objects.specs.Fault.{IsFaultOf}
-use Rattle.spoke_objects.specs.declared.fault.KeepFault.{KeepFault}
-use Rattle.spoke_objects.specs.declared.fault.KeepFault.TheVariants.{BadKept, NoMemory}
+use Rattle.keep_laws.specs.FittedBody.{IsBodyOf}
+use Rattle.keep_laws.specs.Spokes.{Spoke, Spokes}
+use Rattle.keep_laws.specs.Pair.{IsPairOf}
+use Rattle.keep_laws.specs.WholeHub.{IsWholeHub, IsSettledAt}
+use Rattle.keep_laws.specs.Settling.{SettlesAtHub}
+use Rattle.keep_laws.specs.Over.{GoesOver}
+use Rattle.keep_laws.specs.Given.{Laws}
+use Rattle.spoke_keep.specs.Fault.{IsFaultOf}
+use Rattle.spoke_keep.specs.declared.fault.KeepFault.{KeepFault}
+use Rattle.spoke_keep.specs.declared.fault.KeepFault.TheVariants.{BadKept, NoMemory}
 use Rattle.crd_meaning.specs.Definition.{Definition, Seat, at_hub, at_spoke, seat, IsLoaded}
 use Rattle.crd_meaning.specs.Objects.{PairsAt, IsFormAt}
 use Rattle.crd_meaning.specs.Admission.{own_name, LeftAt}

@@ -5,10 +5,10 @@ use Rattle.std.proofs.lemmas.Option.{slice_get_within}
 use Rattle.kube_meta.specs.View.{ObjectView}
 use Rattle.struct_schema.specs.Shape.{Shape}
 use Rattle.hub_cells.specs.Side.{spoke, hub}
-use Rattle.fitted_bodies.specs.Body.{IsBody, IsBodyOf}
-use Rattle.spoke_laws.specs.Place.{StandsAt}
-use Rattle.spoke_laws.specs.Spokes.{Spoke, AreFittedTo, HaveOneHub, api_version}
-use Rattle.spoke_laws.proofs.Fitted.{hub_body_each}
+use Rattle.keep_laws.specs.FittedBody.{IsBody, IsBodyOf}
+use Rattle.keep_laws.specs.Place.{StandsAt}
+use Rattle.keep_laws.specs.Spokes.{Spoke, AreFittedTo, HaveOneHub, api_version}
+use Rattle.keep_laws.proofs.SpokesFitted.{hub_body_each}
 use Rattle.crd_meaning.specs.Definition.{Definition, Seat, at_hub, at_spoke, seat, version_at, IsSpokeOf, IsSeated, IsLoaded}
 use Rattle.crd_meaning.proofs.Seats.{hub_is, first_spoke}
 use Rattle.crd_converting.specs.Converted.{schema_at}

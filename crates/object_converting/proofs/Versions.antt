@@ -9,7 +9,7 @@ use Rattle.keep_laws.proofs.Fields.{bytes_other}
 use Rattle.kj_value.specs.Json.{text}
 use Rattle.object_reading.specs.Refusal.{is_given_text}
 use Rattle.crd_reading.specs.View.{VersionView}
-use Rattle.spoke_laws.specs.Spokes.{api_version}
+use Rattle.keep_laws.specs.Spokes.{api_version}
 use Rattle.crd_meaning.specs.Definition.{Definition, no_version, count_of, version_at}
 use Rattle.crd_converting.specs.Document.{is_version}
 use Rattle.object_converting.specs.Steps.{IsNamedBy, IsNamed}

@@ -7,9 +7,9 @@ use Rattle.object_reading.specs.Fields.{given, object_at}
 use Rattle.object_reading.specs.Parts.{text_or_empty, meta_in, submitted_meta}
 use Rattle.object_reading.specs.Refusal.{first_holding, is_given_text}
 use Rattle.api_calls.specs.Meaning.{Fault}
-use Rattle.fitted_bodies.specs.Body.{IsBody}
-use Rattle.spoke_laws.specs.Spokes.{api_version}
-use Rattle.spoke_laws.specs.Whole.{IsWholeHub}
+use Rattle.keep_laws.specs.FittedBody.{IsBody}
+use Rattle.keep_laws.specs.Spokes.{api_version}
+use Rattle.keep_laws.specs.WholeHub.{IsWholeHub}
 use Rattle.crd_meaning.specs.Definition.{Definition, count_of, version_at, seat}
 use Rattle.crd_meaning.specs.Objects.{IsFormAt}
 use Rattle.crd_meaning.specs.Request.{metadata_fault}

@@ -5,8 +5,8 @@ ghost use Rattle.kube_meta.specs.View.{object_of};
 ghost use Rattle.api_calls.specs.Versions.{Refused};
 ghost use Rattle.api_calls.specs.declared.versions.TheConstants.{OBJECT_LEVELS};
 ghost use Rattle.hub_cells.specs.Level.{Name};
-ghost use Rattle.spoke_laws.specs.Whole.{IsWholeHub};
-ghost use Rattle.spoke_objects.specs.Fault.{IsFaultOf};
+ghost use Rattle.keep_laws.specs.WholeHub.{IsWholeHub};
+ghost use Rattle.spoke_keep.specs.Fault.{IsFaultOf};
 ghost use Rattle.crd_meaning.specs.Definition.{count_of, seat};
 ghost use Rattle.crd_meaning.specs.Objects.{IsFormAt};
 ghost use Rattle.crd_meaning.specs.Admission.{own_name};
@@ -16,11 +16,11 @@ ghost use Rattle.object_converting.specs.Steps.{IsOfVersion, HasHub};
 
 use api_calls::AdmitFault;
 use hub_admission::badly_kept;
+use keep_laws::object_laws::{given, settling};
 use kj_value::{NoMemory, Txt};
 use kube_meta::Object;
 use loaded_versions::LoadedVersions;
-use spoke_laws::{given, settling};
-use spoke_objects::{KeepFault, from_hub, settle, to_hub};
+use spoke_keep::{KeepFault, from_hub, settle, to_hub};
 use std::alloc::Global;
 
 /// The object of version `to` that is one with what is left of an object of version `v`. `Invalid` comes with the rule `Kept`

@@ -1,7 +1,7 @@
 //! The version that a text names.
 ghost use Rattle.std.specs.Prelude.{◌≡◌, ◌<◌, ◌∷◌, false, true, MatchOption};
 ghost use Rattle.std.specs.Str.{bytes_eq};
-ghost use Rattle.spoke_laws.specs.Spokes.{slash, api_version};
+ghost use Rattle.keep_laws.specs.Spokes.{slash, api_version};
 ghost use Rattle.crd_meaning.specs.Definition.{count_of, version_at};
 ghost use Rattle.crd_converting.specs.Document.{is_version};
 ghost use Rattle.object_converting.specs.Steps.{IsNamedBy};

@@ -9,14 +9,14 @@ use Rattle.kept_entries.specs.declared.entry.Entry.{Entry}
 use Rattle.kept_entries.specs.Text.{IsKept}
 use Rattle.hub_cells.specs.Side.{spoke}
 use Rattle.hub_cells.specs.Level.{Name}
-use Rattle.fitted_bodies.specs.Body.{IsBodyOf}
-use Rattle.spoke_laws.specs.Spokes.{Spoke, Spokes, api_version}
-use Rattle.spoke_laws.specs.Keys.{KeyKind, plain, of_hub, of_spoke, of_none, key_kind}
-use Rattle.spoke_laws.specs.Notes.{Spells, noted}
-use Rattle.spoke_laws.specs.Pair.{IsPairOf, NotePair, SpokeNotePair}
-use Rattle.spoke_laws.specs.Whole.{IsWholeHub, WholeNote, IsSettledAt}
-use Rattle.spoke_laws.specs.Over.{IsRead, IsFirstBad}
-use Rattle.spoke_laws.specs.Place.{StandsAt}
+use Rattle.keep_laws.specs.FittedBody.{IsBodyOf}
+use Rattle.keep_laws.specs.Spokes.{Spoke, Spokes, api_version}
+use Rattle.keep_laws.specs.Keys.{KeyKind, plain, of_hub, of_spoke, of_none, key_kind}
+use Rattle.keep_laws.specs.Notes.{Spells, noted}
+use Rattle.keep_laws.specs.Pair.{IsPairOf, NotePair, SpokeNotePair}
+use Rattle.keep_laws.specs.WholeHub.{IsWholeHub, WholeNote, IsSettledAt}
+use Rattle.keep_laws.specs.Over.{IsRead, IsFirstBad}
+use Rattle.keep_laws.specs.Place.{StandsAt}
 
 -- ---- its place
 

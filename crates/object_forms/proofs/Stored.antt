@@ -12,9 +12,9 @@ use Rattle.object_reading.specs.Written.{IsMoment, IsWritable}
 use Rattle.api_calls.specs.Meaning.{Meaning, unnumbered}
 use Rattle.api_calls.specs.Versions.{IsStamp, StandsAt, Stand, IsStored}
 use Rattle.api_calls.specs.declared.versions.TheConstants.{OBJECT_LEVELS}
-use Rattle.spoke_laws.specs.Spokes.{Spoke, Spokes}
-use Rattle.spoke_laws.specs.Pair.{IsPairOf}
-use Rattle.spoke_laws.specs.Whole.{IsSettledAt}
+use Rattle.keep_laws.specs.Spokes.{Spoke, Spokes}
+use Rattle.keep_laws.specs.Pair.{IsPairOf}
+use Rattle.keep_laws.specs.WholeHub.{IsSettledAt}
 use Rattle.crd_meaning.specs.Definition.{Definition, Seat, at_hub, at_spoke, seat, count_of}
 use Rattle.crd_meaning.specs.Objects.{IsWholeValue, PairsAt, IsFormAt}
 use Rattle.crd_meaning.specs.Meant.{meant}

@@ -7,10 +7,10 @@ use Rattle.kube_meta.specs.View.{ObjectView}
 use Rattle.kube_meta.specs.Document.{document}
 use Rattle.object_reading.specs.Written.{IsWritable}
 use Rattle.api_calls.specs.declared.versions.TheConstants.{OBJECT_LEVELS}
-use Rattle.spoke_laws.specs.Spokes.{Spoke, Spokes}
-use Rattle.spoke_laws.specs.Notes.{IsObject}
-use Rattle.spoke_laws.specs.Pair.{IsPairOf}
-use Rattle.spoke_laws.specs.Whole.{IsWholeHub}
+use Rattle.keep_laws.specs.Spokes.{Spoke, Spokes}
+use Rattle.keep_laws.specs.Notes.{IsObject}
+use Rattle.keep_laws.specs.Pair.{IsPairOf}
+use Rattle.keep_laws.specs.WholeHub.{IsWholeHub}
 
 -- the bytes are the compact text of the document of x, from which x can be read back
 pub record IsTextOf (x : ObjectView) (bytes : List ℕ) : Type 0 where

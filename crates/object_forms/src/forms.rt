@@ -12,7 +12,7 @@ use crd_meaning::standing;
 use kj_value::NoMemory;
 use kube_meta::Object;
 use loaded_versions::LoadedVersions;
-use spoke_objects::from_hub;
+use spoke_keep::from_hub;
 use std::alloc::Global;
 
 /// The object at a version, counted from 0, that is one with a hub value: a copy of it at the hub. It is at most 64 levels

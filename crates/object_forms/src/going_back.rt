@@ -3,10 +3,10 @@ ghost use Rattle.std.specs.Prelude.{◌≡◌, IfOk};
 ghost use Rattle.kube_meta.specs.View.{ObjectView, object_of};
 ghost use Rattle.object_forms.specs.Forms.{IsFormOf};
 
+use keep_laws::object_laws::{one_each, over_and_back};
 use kj_value::NoMemory;
 use kube_meta::Object;
-use spoke_laws::{one_each, over_and_back};
-use spoke_objects::{KeepFault, Spokes, to_hub};
+use spoke_keep::{KeepFault, Spokes, to_hub};
 use std::alloc::Global;
 
 /// The hub value that is one with an object of the spoke at place `p`. Its annotations can be read, since the hub value was

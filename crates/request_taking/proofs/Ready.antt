@@ -24,9 +24,9 @@ use Rattle.struct_schema.specs.Valid.{valid}
 use Rattle.api_calls.specs.Cause.{CauseView}
 use Rattle.api_calls.specs.Meaning.{Request, Fault}
 use Rattle.api_calls.specs.declared.versions.TheConstants.{OBJECT_LEVELS}
-use Rattle.fitted_bodies.specs.Body.{IsBody}
-use Rattle.spoke_laws.specs.Spokes.{api_version}
-use Rattle.spoke_laws.specs.Notes.{IsObject}
+use Rattle.keep_laws.specs.FittedBody.{IsBody}
+use Rattle.keep_laws.specs.Spokes.{api_version}
+use Rattle.keep_laws.specs.Notes.{IsObject}
 use Rattle.crd_meaning.specs.Definition.{Definition, version_at}
 use Rattle.crd_meaning.specs.Request.{first_there, rows, placed, expected_of, IsTaken}
 use Rattle.crd_meaning.specs.Admission.{IsFilling, Passes}

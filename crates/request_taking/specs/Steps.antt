@@ -11,7 +11,7 @@ use Rattle.struct_schema.specs.declared.trouble.CheckFault.{CheckFault}
 use Rattle.struct_schema.specs.declared.trouble.CheckFault.TheVariants.{Broken, NoMemory}
 use Rattle.api_calls.specs.Cause.{CauseView}
 use Rattle.api_calls.specs.Meaning.{Request, Fault, invalid}
-use Rattle.spoke_laws.specs.Spokes.{api_version}
+use Rattle.keep_laws.specs.Spokes.{api_version}
 use Rattle.crd_meaning.specs.Definition.{Definition, version_at}
 use Rattle.crd_meaning.specs.Request.{Judged, first_there, meta_fields, is_named_so}
 use Rattle.crd_meaning.specs.Admission.{IsFilling}

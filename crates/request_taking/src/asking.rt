@@ -1,7 +1,7 @@
 //! Whether a document is what the request's path asks for.
 ghost use Rattle.std.specs.Prelude.{◌≡◌, ◌<◌, IfOk, IfErr, option_map};
 ghost use Rattle.api_calls.specs.Versions.{Refused, request_of};
-ghost use Rattle.spoke_laws.specs.Spokes.{api_version};
+ghost use Rattle.keep_laws.specs.Spokes.{api_version};
 ghost use Rattle.crd_meaning.specs.Definition.{count_of};
 ghost use Rattle.crd_meaning.specs.Request.{rows};
 ghost use Rattle.request_taking.specs.Steps.{IsFirst, IsAsked, has_version, has_kind, has_namespace, has_name};

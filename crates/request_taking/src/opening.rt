@@ -5,7 +5,7 @@ ghost use Rattle.kj_value.specs.Json.{items_of};
 ghost use Rattle.kj_value.specs.Sound.{AreSoundItems};
 ghost use Rattle.kube_meta.specs.View.{object_of};
 ghost use Rattle.struct_schema.specs.OwnDefaults.{HasOwnDefaults};
-ghost use Rattle.spoke_laws.specs.Notes.{IsObject};
+ghost use Rattle.keep_laws.specs.Notes.{IsObject};
 ghost use Rattle.crd_meaning.specs.Definition.{count_of, version_at};
 ghost use Rattle.request_taking.specs.Low.{HasLowDefaults};
 

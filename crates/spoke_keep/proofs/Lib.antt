@@ -1,8 +1,2 @@
-pub mod Standing
-pub mod Lookups
-pub mod Sorted
-pub mod Tests
-pub mod Cells
-pub mod Objects
-pub mod Levels
-pub mod Settled
+pub mod Loops
+pub mod Steps

@@ -1,7 +1,3 @@
-pub mod Left
-pub mod Over
-pub mod Names
-pub mod Spots
-pub mod Lookup
-pub mod Turned
-pub mod Held
+pub mod SpokesCode
+pub mod Seen
+pub mod Fault

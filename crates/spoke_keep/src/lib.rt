@@ -1,19 +1,24 @@
-//! An object with its kept entries, taken from one side to the other and back.
+//! Whole objects taken from a spoke's version to the hub's and back, with their metadata and annotations.
 //!
-//! The one contract: `convert` answers `converted`, the object of the other side that is paired with the
-//! object without its dead entries, and `living` the entries of that object.
+//! The one contract: `to_hub` gives the whole object that pairs with what `settle` leaves of an object, and
+//! `from_hub` the settled object that pairs with a whole one.
 //!
-//! It knows nothing of requests, of definitions as documents, or of where objects are kept.
+//! It knows nothing of requests, of how a definition is read, or of where objects are kept.
 #![tactic(auto)]
 
-mod conversion;
-mod crossing;
-mod entries;
-mod left;
-mod level;
-mod sorting;
-mod spots;
-mod tuples;
-mod under;
+mod carrying;
+mod fault;
+mod form;
+mod hub;
+mod keys;
+mod metadata;
+mod notes;
+mod settling;
+mod spokes;
 
-pub use conversion::{KeptBody, convert, living};
+pub use fault::KeepFault;
+pub use form::from_hub;
+pub use hub::to_hub;
+pub use keys::{hub_key, spoke_key};
+pub use settling::settle;
+pub use spokes::{Spoke, Spokes};

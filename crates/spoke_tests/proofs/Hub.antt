@@ -3,9 +3,9 @@ use Rattle.std.proofs.Common.{◌≡◌, ℕ, zero, List, [], ◌∷◌, Some, s
 use Rattle.std.specs.Prelude.{slice_get}
 use Rattle.kj_value.specs.Fields.{Pairs}
 use Rattle.struct_schema.specs.Shape.{Shape}
-use Rattle.fitted_bodies.specs.Body.{IsBody}
-use Rattle.spoke_laws.specs.Spokes.{Spoke, AreFittedTo, HaveOneHub}
-use Rattle.spoke_laws.specs.Whole.{IsHubBody}
+use Rattle.keep_laws.specs.FittedBody.{IsBody}
+use Rattle.keep_laws.specs.Spokes.{Spoke, AreFittedTo, HaveOneHub}
+use Rattle.keep_laws.specs.WholeHub.{IsHubBody}
 
 some_some : (x y : Spoke) → Some x ≡ Some y → x ≡ y
 some_some x y e = cc

@@ -8,17 +8,17 @@ ghost use Rattle.struct_schema.specs.Valid.{valid};
 ghost use Rattle.struct_schema.specs.Filled.{Filled};
 ghost use Rattle.kube_meta.specs.View.{object_of};
 ghost use Rattle.hub_cells.specs.Side as sides;
-ghost use Rattle.fitted_bodies.specs.Body.{IsBody, IsBodyOf};
-ghost use Rattle.spoke_laws.specs.Spokes.{api_version};
-ghost use Rattle.spoke_laws.specs.Whole.{IsHubBody};
-ghost use Rattle.spoke_laws.specs.Place.{StandsAt};
+ghost use Rattle.keep_laws.specs.FittedBody.{IsBody, IsBodyOf};
+ghost use Rattle.keep_laws.specs.Spokes.{api_version};
+ghost use Rattle.keep_laws.specs.WholeHub.{IsHubBody};
+ghost use Rattle.keep_laws.specs.Place.{StandsAt};
 
 use hub_cells::STORED_LEVELS;
 use kj_value::{JFields, JVal, Txt, depth, read};
 use kube_meta::Object;
 use object_reading::read_object;
 use prune_default::fill;
-use spoke_objects::{Spoke, Spokes};
+use spoke_keep::{Spoke, Spokes};
 use std::alloc::Global;
 use struct_schema::{Schema, check, is_filled};
 

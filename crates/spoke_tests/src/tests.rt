@@ -1,14 +1,14 @@
 ghost use Rattle.std.specs.Prelude.{IfOk};
 ghost use Rattle.kube_meta.specs.View.{object_of};
-ghost use Rattle.spoke_laws.specs.Whole.{IsWholeHub};
-ghost use Rattle.spoke_laws.specs.Place.{StandsAt};
+ghost use Rattle.keep_laws.specs.WholeHub.{IsWholeHub};
+ghost use Rattle.keep_laws.specs.Place.{StandsAt};
 
 use crate::object::object_at;
 use crate::versions::shared_versions;
+use keep_laws::object_laws::settling;
 use kj_value::{MAX_JSON_LEVELS, Txt, depth, write};
 use kube_meta::{Object, write_object};
-use spoke_laws::settling;
-use spoke_objects::{KeepFault, Spokes, from_hub, settle, to_hub};
+use spoke_keep::{KeepFault, Spokes, from_hub, settle, to_hub};
 use std::alloc::Global;
 use std::process::Abort;
 use std::test::Fail;

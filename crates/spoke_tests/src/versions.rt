@@ -1,16 +1,16 @@
 //! The versions of the shared definition.
 ghost use Rattle.std.specs.Prelude.{◌≡◌, IfSome};
-ghost use Rattle.fitted_bodies.specs.Body.{HasRoom};
+ghost use Rattle.keep_laws.specs.FittedBody.{HasRoom};
 
 use crontab_example::{definition, rules};
-use fitted_bodies::room_of_rules;
 use hub_cells::Fitted;
 use hub_fit::fit;
 use hub_rules::Rules;
+use keep_laws::fitted_laws::room_of_rules;
 use kj_value::{JVal, MAX_JSON_LEVELS, Txt, read};
 use rule_reading::read_rules;
 use schema_reading::read_schema;
-use spoke_objects::{Spoke, Spokes};
+use spoke_keep::{Spoke, Spokes};
 use std::alloc::Global;
 use struct_schema::Schema;
 

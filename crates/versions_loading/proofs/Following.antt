@@ -5,7 +5,7 @@ use Rattle.std.proofs.lemmas.List.{append-nil, length_push}
 use Rattle.struct_schema.specs.Shape.{Shape}
 use Rattle.hub_cells.specs.Level.{Name, IsFresh, AreDistinct}
 use Rattle.hub_cells.specs.Fit.{Fit}
-use Rattle.spoke_laws.specs.Spokes.{Spoke, Spokes, spoke_names, ShareHub}
+use Rattle.keep_laws.specs.Spokes.{Spoke, Spokes, spoke_names, ShareHub}
 use Rattle.crd_reading.specs.View.{VersionView}
 use Rattle.crd_loading.specs.Fits.{IsRuled}
 use Rattle.crd_loading.specs.View.{FitVersions}

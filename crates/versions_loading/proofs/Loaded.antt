@@ -9,8 +9,8 @@ use Rattle.hub_cells.specs.Level.{Name}
 use Rattle.hub_cells.specs.Fit.{Fit}
 use Rattle.hub_rules.specs.Rule.{Rules, inner_depth}
 use Rattle.hub_fit.specs.Chosen.{fit_of}
-use Rattle.fitted_bodies.specs.Body.{HasRoom}
-use Rattle.spoke_laws.specs.Spokes.{Spoke, Spokes, IsDefinition}
+use Rattle.keep_laws.specs.FittedBody.{HasRoom}
+use Rattle.keep_laws.specs.Spokes.{Spoke, Spokes, IsDefinition}
 use Rattle.crd_reading.specs.View.{VersionView, DefinitionView}
 use Rattle.crd_reading.specs.Spelled.{version_items}
 use Rattle.crd_reading.specs.Whole.{HaveOwnDefaults}

@@ -4,7 +4,7 @@ use Rattle.std.specs.Prelude.{slice_index_or}
 use Rattle.std.proofs.lemmas.List.{length-map, get_or-map}
 use Rattle.hub_cells.specs.Level.{Name}
 use Rattle.hub_cells.specs.Fit.{Fit}
-use Rattle.spoke_laws.specs.Spokes.{Spokes, IsDefinition}
+use Rattle.keep_laws.specs.Spokes.{Spokes, IsDefinition}
 use Rattle.crd_reading.specs.View.{VersionView, DefinitionView}
 use Rattle.crd_reading.specs.Seen.{version_of}
 use Rattle.crd_reading.specs.declared.definition.Version.{Version}

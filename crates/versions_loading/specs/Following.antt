@@ -3,7 +3,7 @@ use Rattle.std.specs.Prelude.{◌++◌, List, ◌∷◌, map}
 use Rattle.struct_schema.specs.Shape.{Shape}
 use Rattle.hub_cells.specs.Level.{Name, AreDistinct}
 use Rattle.hub_cells.specs.Fit.{Fit}
-use Rattle.spoke_laws.specs.Spokes.{Spokes, spoke_names, ShareHub}
+use Rattle.keep_laws.specs.Spokes.{Spokes, spoke_names, ShareHub}
 use Rattle.crd_reading.specs.View.{VersionView}
 use Rattle.crd_loading.specs.View.{FitVersions}
 

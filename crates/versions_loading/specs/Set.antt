@@ -2,7 +2,7 @@
 -- its rules.
 use Rattle.std.specs.Prelude.{List, [], ◌∷◌, slice_index_or}
 use Rattle.hub_cells.specs.Fit.{Fit}
-use Rattle.spoke_laws.specs.Spokes.{Spoke, Spokes}
+use Rattle.keep_laws.specs.Spokes.{Spoke, Spokes}
 use Rattle.crd_reading.specs.View.{VersionView}
 use Rattle.crd_loading.specs.Fits.{spokes_of}
 use Rattle.crd_loading.specs.View.{LoadedView}

@@ -1,8 +1,8 @@
 //! The versions but the hub, by their names, with their rules.
 ghost use Rattle.std.specs.Prelude.{◌≡◌, ◌++◌, ◌<◌, [], ◌∷◌, length, map, Some, IfOk, OnOk, slice_get, slice_index_or};
 ghost use Rattle.hub_cells.specs.Level.{IsFresh};
-ghost use Rattle.fitted_bodies.specs.Body.{HasRoom};
-ghost use Rattle.spoke_laws.specs.Spokes.{spoke_names, ShareHub, IsDefinition};
+ghost use Rattle.keep_laws.specs.FittedBody.{HasRoom};
+ghost use Rattle.keep_laws.specs.Spokes.{spoke_names, ShareHub, IsDefinition};
 ghost use Rattle.crd_reading.specs.Seen.{version_of};
 ghost use Rattle.crd_loading.specs.Fits.{IsRuled, spokes_of};
 ghost use Rattle.crd_loading.specs.View.{IsTogether};
@@ -10,10 +10,10 @@ ghost use Rattle.versions_loading.specs.Set.{spokes_in, named_fits};
 ghost use Rattle.versions_loading.specs.Following.{CanFollow};
 
 use crd_reading::{Definition, Version};
-use fitted_bodies::room_of_rules;
 use hub_cells::Fitted;
+use keep_laws::fitted_laws::room_of_rules;
 use kj_value::{NoMemory, Txt};
-use spoke_objects::{Spoke, Spokes};
+use spoke_keep::{Spoke, Spokes};
 use std::alloc::Global;
 
 // The place among all versions of the one but the hub that has so many others before it.

@@ -2,9 +2,9 @@ use Rattle.std.proofs.Common.{◌≡◌, ◌<◌, length, Some, refl, sym, subst
 use Rattle.std.specs.Prelude.{slice_get}
 use Rattle.std.proofs.lemmas.Option.{slice_get_within}
 use Rattle.kube_meta.specs.View.{ObjectView, object_of}
-use Rattle.spoke_laws.specs.Spokes.{Spokes}
-use Rattle.spoke_laws.specs.Whole.{IsWholeHub}
-use Rattle.spoke_laws.specs.Pair.{IsPairOf}
+use Rattle.keep_laws.specs.Spokes.{Spokes}
+use Rattle.keep_laws.specs.WholeHub.{IsWholeHub}
+use Rattle.keep_laws.specs.Pair.{IsPairOf}
 use Rattle.crd_meaning.specs.Definition.{Seat}
 use Rattle.crd_meaning.specs.Objects.{PairsAt}
 use Rattle.hub_admission.proofs.weighing.measured.Goals as goal

@@ -4,9 +4,9 @@ use Rattle.std.proofs.lemmas.Option.{slice_get_within}
 use Rattle.kj_value.specs.Json.{object, members_of, depth}
 use Rattle.kube_meta.specs.declared.object.Object.{Object}
 use Rattle.kube_meta.specs.View.{object_of}
-use Rattle.spoke_laws.specs.Spokes.{Spokes}
-use Rattle.spoke_laws.specs.Pair.{IsPairOf}
-use Rattle.spoke_laws.specs.Whole.{IsWholeHub, IsSettledAt}
+use Rattle.keep_laws.specs.Spokes.{Spokes}
+use Rattle.keep_laws.specs.Pair.{IsPairOf}
+use Rattle.keep_laws.specs.WholeHub.{IsWholeHub, IsSettledAt}
 use Rattle.crd_meaning.specs.Definition.{Seat}
 use Rattle.crd_meaning.specs.Objects.{PairsAt, IsFormAt}
 use Rattle.object_converting.proofs.Crossed.{if_ok, if_both, made_form, hub_levels, spoke_levels}

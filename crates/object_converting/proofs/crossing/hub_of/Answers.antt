@@ -2,12 +2,12 @@ use Rattle.std.proofs.Common.{◌≡◌, Some, None, sym, subst}
 use Rattle.std.specs.Prelude.{slice_get, IfErr}
 use Rattle.kube_meta.specs.declared.object.Object.{Object}
 use Rattle.kube_meta.specs.View.{ObjectView, object_of}
-use Rattle.spoke_laws.specs.Spokes.{Spokes}
-use Rattle.spoke_laws.specs.Place.{StandsAt, Settles}
-use Rattle.spoke_laws.specs.Settling.{SettlesAtHub}
-use Rattle.spoke_laws.specs.Over.{GoesOver}
-use Rattle.spoke_laws.specs.Whole.{IsWholeHub}
-use Rattle.spoke_objects.specs.Fault.{IsFaultOf}
+use Rattle.keep_laws.specs.Spokes.{Spokes}
+use Rattle.keep_laws.specs.Place.{StandsAt, Settles}
+use Rattle.keep_laws.specs.Settling.{SettlesAtHub}
+use Rattle.keep_laws.specs.Over.{GoesOver}
+use Rattle.keep_laws.specs.WholeHub.{IsWholeHub}
+use Rattle.spoke_keep.specs.Fault.{IsFaultOf}
 use Rattle.crd_meaning.specs.Definition.{Seat, seat}
 use Rattle.crd_meaning.specs.Admission.{own_name}
 use Rattle.object_converting.specs.Steps.{HasHub}

@@ -1,7 +1,7 @@
 use Rattle.std.proofs.Common.{◌≡◌, ◌∙◌, ℕ, List, ◌∷◌, ◌++◌, Some, None, bytes_eq, ap, sym}
 use Rattle.std.proofs.lemmas.Bool.Decides.{Decides-eqb}
 use Rattle.std.proofs.lemmas.Slice.Eq.{strip_prefix_is}
-use Rattle.spoke_laws.specs.Spokes.{slash}
+use Rattle.keep_laws.specs.Spokes.{slash}
 use Rattle.object_converting.proofs.Versions.{other_front, same_front}
 use Rattle.object_converting.proofs.naming.is_version_text.Goals as goal
 

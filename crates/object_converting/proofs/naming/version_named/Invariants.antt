@@ -1,5 +1,5 @@
 use Rattle.std.proofs.Common.{◌≡◌, ◌<◌, ℕ, false, bytes_eq}
-use Rattle.spoke_laws.specs.Spokes.{api_version}
+use Rattle.keep_laws.specs.Spokes.{api_version}
 use Rattle.crd_meaning.specs.Definition.{version_at}
 use Rattle.object_converting.proofs.naming.version_named.Given as goal
 

@@ -1,7 +1,7 @@
 use Rattle.std.proofs.Common.{sym, subst}
 use Rattle.kube_meta.specs.View.{object_of}
-use Rattle.spoke_laws.specs.Spokes.{Spokes}
-use Rattle.spoke_laws.specs.Whole.{IsWholeHub}
+use Rattle.keep_laws.specs.Spokes.{Spokes}
+use Rattle.keep_laws.specs.WholeHub.{IsWholeHub}
 use Rattle.crd_meaning.specs.Meant.{meant}
 use Rattle.object_forms.proofs.Stored.{whole_of, within, at_place, made_form, hub_made, form_levels}
 use Rattle.object_forms.proofs.forms.form.Goals as goal

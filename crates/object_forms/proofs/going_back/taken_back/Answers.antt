@@ -1,7 +1,7 @@
 use Rattle.std.proofs.Common.{Some, subst}
 use Rattle.kube_meta.specs.View.{object_of}
-use Rattle.spoke_objects.specs.Fault.{IsFaultOf}
-use Rattle.spoke_objects.specs.declared.fault.KeepFault.{KeepFault}
+use Rattle.spoke_keep.specs.Fault.{IsFaultOf}
+use Rattle.spoke_keep.specs.declared.fault.KeepFault.{KeepFault}
 use Rattle.object_forms.proofs.Places.{stands, nothing_bad}
 use Rattle.object_forms.proofs.going_back.taken_back.Goals as goal
 

@@ -1,5 +1,0 @@
-use Rattle.fitted_bodies.proofs.Settled.{whole_settled}
-use Rattle.fitted_bodies.proofs.laws.whole_in_words.Goals as goal
-
-pub returns : goal.returns
-returns c = λ d l x r w. whole_settled d l x r w

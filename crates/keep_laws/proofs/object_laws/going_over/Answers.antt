@@ -1,0 +1,8 @@
+use Rattle.keep_laws.proofs.Hubs.{over_whole, settle_pair}
+use Rattle.keep_laws.proofs.object_laws.going_over.Goals as goal
+
+pub returns : goal.returns
+returns c = record {
+  whole = λ all v s d p. over_whole c.given.ensures all v s d p;
+  pair = λ all v s d p. settle_pair c.given.ensures all v s d p;
+}

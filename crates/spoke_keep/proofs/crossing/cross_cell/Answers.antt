@@ -1,8 +1,0 @@
-use Rattle.std.proofs.Common.{List, ap, ◌∙◌}
-use Rattle.hub_cells.specs.Seen.{side, cell, tuple}
-use Rattle.hub_cells.specs.Level.{Name, tuple_of, allows}
-use Rattle.spoke_keep.proofs.crossing.cross_cell.Goals as goal
-
-pub cross_mark-requires : goal.cross_mark-requires
-cross_mark-requires c =
-    c.allowed_crosses.ensures (cell c.args.c.now) (side c.args.from) (tuple c.in_ok-values.values) c.requires.fits (ap (allows (side c.args.from) (cell c.args.c.now)) (c.in_ok-values.ensures ∙ ap (λ (ns : List Name). tuple_of ns c.args.x.now) c.names_on-own.ensures) ∙ c.requires.allowed)

@@ -1,0 +1,164 @@
+//! Annotations of an object, carried along: those of other spokes are judged, and what has no place is left.
+ghost use Rattle.std.specs.Prelude.{◌≡◌, Some, IfOk, IfErr, OnOk, option_map};
+ghost use Rattle.kj_value.specs.Texts.{bytes_of};
+ghost use Rattle.hub_cells.specs.Side as sides;
+ghost use Rattle.keep_laws.specs.FittedBody.{IsBodyOf};
+ghost use Rattle.keep_laws.specs.Keys.{key_kind};
+ghost use Rattle.keep_laws.specs.Notes.{with_note};
+ghost use Rattle.keep_laws.specs.WholeHub.{IsHubBody};
+ghost use Rattle.keep_laws.specs.Settling.{IsJudged, is_own, SpokeNote, OtherNote, Carries};
+ghost use Rattle.keep_laws.specs.Over.{HubIsRead};
+ghost use Rattle.spoke_keep.specs.Seen.{own_name, fate_note};
+ghost use Rattle.spoke_keep.specs.Fault.{IsBadText, IsBadOther, IsBadRead, IsFaultOf};
+
+use crate::fault::KeepFault;
+use crate::keys::{Kind, is_own, kind_of};
+use crate::notes::{read_note, write_note};
+use crate::spokes::{Spoke, Spokes};
+use hub_cells::Side;
+use keep_bodies::living;
+use keep_laws::object_laws::given;
+use kj_value::{JFields, NoMemory, TextField, TextMap, Txt};
+use std::alloc::Global;
+
+// What becomes of an annotation.
+#[derive(Drop)]
+pub(crate) enum Fate {
+    Stays,
+    Becomes(Txt),
+    Goes,
+}
+
+// What is alive of what a spoke's annotation keeps, beside this body of the hub.
+fn judged(
+    alloc: Global,
+    s: &Spoke,
+    body: &JFields,
+    name: &str,
+    text: &str,
+) -> Result<Option<Txt>, KeepFault>
+    requires { IsBodyOf sides.hub s.now.fit body.now }
+    ensures ok { IfOk result (λ o. IsJudged s.now body.now (Some text.now) (option_map bytes_of o)) }
+    ensures err { IfErr result (IsBadText name.now text.now) }
+{
+    given();
+    let fitted = s.fitted();
+    let _ = fitted.cells();
+    let _ = body.len();
+    let kept = read_note(alloc, name, text)?;
+    let lives = living(alloc, fitted, Side::Hub, body, kept)?;
+    Ok(write_note(alloc, &lives)?)
+}
+
+fn spoke_fate(
+    alloc: Global,
+    s: &Spoke,
+    own: Option<&Spoke>,
+    body: &JFields,
+    name: &str,
+    text: &str,
+) -> Result<Fate, KeepFault>
+    requires { IsBodyOf sides.hub s.now.fit body.now }
+    ensures ok { IfOk result (λ f. SpokeNote (is_own (own_name own.entry) s.entry.now.name) s.entry.now
+        body.entry.now (Some text.entry.now) (fate_note text.entry.now f)) }
+    ensures err { IfErr result (IsBadOther (is_own (own_name own.entry) s.entry.now.name)
+        name.entry.now text.entry.now) }
+{
+    let own_side = is_own(s, own);
+    if own_side {
+        return Ok(Fate::Goes);
+    }
+    match judged(alloc, s, body, name, text)? {
+        Some(left) => Ok(Fate::Becomes(left)),
+        None => Ok(Fate::Goes),
+    }
+}
+
+fn fate_of(
+    alloc: Global,
+    all: &Spokes,
+    own: Option<&Spoke>,
+    body: &JFields,
+    name: &str,
+    text: &str,
+) -> Result<Fate, KeepFault>
+    requires { IsHubBody all.now.items body.now }
+    ensures ok { IfOk result (λ f. OtherNote (own_name own.entry) body.entry.now
+        (key_kind all.entry.now name.entry.now) (Some text.entry.now) (fate_note text.entry.now f)) }
+    ensures err { IfErr result (IsBadRead (own_name own.entry)
+        (key_kind all.entry.now name.entry.now) name.entry.now text.entry.now) }
+{
+    match kind_of(all, name) {
+        Kind::Plain => Ok(Fate::Stays),
+        Kind::Hub => Ok(Fate::Goes),
+        Kind::NoSpoke => Ok(Fate::Goes),
+        Kind::OfSpoke(s) => spoke_fate(alloc, s, own, body, name, text),
+    }
+}
+
+fn copy_one(alloc: Global, t: &TextField, fate: Fate, notes: &mut TextMap) -> Result<(), NoMemory>
+    ensures { OnOk result (notes.new
+        ≡ with_note t.now.name.bytes (fate_note t.now.value.bytes fate) notes.old) }
+{
+    match fate {
+        Fate::Stays => notes.set(
+            Txt::of(alloc, t.name.as_str())?,
+            Txt::of(alloc, t.value.as_str())?,
+        ),
+        Fate::Becomes(text) => notes.set(Txt::of(alloc, t.name.as_str())?, text),
+        Fate::Goes => Ok(()),
+    }
+}
+
+fn move_one(t: TextField, fate: Fate, notes: &mut TextMap) -> Result<(), NoMemory>
+    ensures { OnOk result (notes.new ≡ with_note t.name.bytes (fate_note t.value.bytes fate) notes.old) }
+{
+    let TextField { name, value } = t;
+    match fate {
+        Fate::Stays => notes.set(name, value),
+        Fate::Becomes(text) => notes.set(name, text),
+        Fate::Goes => Ok(()),
+    }
+}
+
+/// Copies of the annotations that an object of the side `own` keeps at the hub, where its body is this one.
+pub(crate) fn carried(
+    alloc: Global,
+    all: &Spokes,
+    own: Option<&Spoke>,
+    body: &JFields,
+    annotations: &TextMap,
+) -> Result<TextMap, KeepFault>
+    requires body { IsHubBody all.now.items body.now }
+    requires hub { HubIsRead (own_name own) annotations.now }
+    ensures ok { IfOk result (Carries all.entry.now (own_name own.entry) body.entry.now annotations.entry.now) }
+    ensures err { IfErr result (IsFaultOf all.entry.now (own_name own.entry) annotations.entry.now) }
+{
+    let mut notes = TextMap::new(alloc);
+    for t in annotations.as_slice() {
+        let fate = fate_of(alloc, all, own, body, t.name.as_str(), t.value.as_str())?;
+        copy_one(alloc, t, fate, &mut notes)?;
+    }
+    Ok(notes)
+}
+
+/// The same of annotations that are moved.
+pub(crate) fn carried_over(
+    alloc: Global,
+    all: &Spokes,
+    own: Option<&Spoke>,
+    body: &JFields,
+    annotations: TextMap,
+) -> Result<TextMap, KeepFault>
+    requires body { IsHubBody all.now.items body.now }
+    requires hub { HubIsRead (own_name own) annotations }
+    ensures ok { IfOk result (Carries all.entry.now (own_name own.entry) body.entry.now annotations) }
+    ensures err { IfErr result (IsFaultOf all.entry.now (own_name own.entry) annotations) }
+{
+    let mut notes = TextMap::new(alloc);
+    for t in annotations.into_vec() {
+        let fate = fate_of(alloc, all, own, body, t.name.as_str(), t.value.as_str())?;
+        move_one(t, fate, &mut notes)?;
+    }
+    Ok(notes)
+}

@@ -1,0 +1,65 @@
+//! From a spoke to the hub.
+ghost use Rattle.std.specs.Prelude.{◌≡◌, ℕ, Some, slice_get, IfOk, IfErr};
+ghost use Rattle.kube_meta.specs.View.{ObjectView, object_of};
+ghost use Rattle.hub_cells.specs.Side as sides;
+ghost use Rattle.keep_laws.specs.FittedBody.{IsBodyOf};
+ghost use Rattle.keep_laws.specs.Spokes as laws;
+ghost use Rattle.keep_laws.specs.Pair.{IsPairOf};
+ghost use Rattle.keep_laws.specs.WholeHub.{IsWholeHub};
+ghost use Rattle.keep_laws.specs.Settling.{SettlesAtSpoke};
+ghost use Rattle.keep_laws.specs.Over.{GoesOver};
+ghost use Rattle.keep_laws.specs.Place.{StandsAt};
+ghost use Rattle.spoke_keep.specs.Fault.{IsFaultOf};
+
+use crate::carrying::carried;
+use crate::fault::KeepFault;
+use crate::keys::{hub_key, version_text};
+use crate::metadata::remade;
+use crate::notes::{kept_at, put_note, write_note};
+use crate::spokes::{Spoke, Spokes};
+use hub_cells::Side;
+use keep_bodies::{KeptBody, convert};
+use keep_laws::object_laws::{given, going_over};
+use kube_meta::Object;
+use std::alloc::Global;
+
+/// The object of the hub that a spoke's object, which stands at place `v`, becomes: the whole one that is
+/// paired with what `settle` leaves of it. `BadKept` comes exactly where an annotation that is read spells no
+/// entries.
+pub fn to_hub(alloc: Global, all: &Spokes, v: u8, x: &Object) -> Result<Object, KeepFault>
+    requires { StandsAt all.now (Some v) (object_of x.now) }
+    ensures over { (s : laws.Spoke) → slice_get all.now.items v ≡ Some s
+        → IfOk result (λ h. GoesOver all.now s (object_of x.now) (object_of h)) }
+    ensures whole { IfOk result (λ h. IsWholeHub all.now (object_of h)) }
+    ensures pair { (s : laws.Spoke) → slice_get all.now.items v ≡ Some s → (y : ObjectView)
+        → SettlesAtSpoke all.now s (object_of x.now) y → IfOk result (λ h. IsPairOf all.now s y (object_of h)) }
+    ensures err { (s : laws.Spoke) → slice_get all.now.items v ≡ Some s
+        → IfErr result (IsFaultOf all.now (Some s.name) x.now.meta.annotations) }
+{
+    going_over();
+    let _ = all.items();
+    let _ = x.body.len();
+    over(alloc, all, all.at(v), x)
+}
+
+fn over(alloc: Global, all: &Spokes, s: &Spoke, x: &Object) -> Result<Object, KeepFault>
+    requires place { (v : ℕ) × (slice_get all.now.items v ≡ Some s.now) }
+    requires body { IsBodyOf sides.spoke s.now.fit x.now.body }
+    ensures over { IfOk result (λ h. GoesOver all.now s.now (object_of x.now) (object_of h)) }
+    ensures err { IfErr result (IsFaultOf all.now (Some s.now.name) x.now.meta.annotations) }
+{
+    given();
+    let _ = all.items();
+    let _ = x.body.len();
+    let kept = kept_at(alloc, &x.meta.annotations, hub_key())?;
+    let made = convert(alloc, s.fitted(), Side::Spoke, &x.body, &kept)?;
+    let KeptBody { fields, kept: left } = made;
+    let mut notes = carried(alloc, all, Some(s), &fields, &x.meta.annotations)?;
+    let own = write_note(alloc, &left)?;
+    put_note(alloc, s.key(), own, &mut notes)?;
+    let _ = notes.len();
+    let _ = fields.len();
+    let version = version_text(alloc, all.group(), all.hub())?;
+    let hub = remade(alloc, version, x, notes, fields)?;
+    Ok(hub)
+}

@@ -1,8 +1,0 @@
-use Rattle.spoke_laws.proofs.Hubs.{over_whole, settle_pair}
-use Rattle.spoke_laws.proofs.laws.going_over.Goals as goal
-
-pub returns : goal.returns
-returns c = record {
-  whole = λ all v s d p. over_whole c.given.ensures all v s d p;
-  pair = λ all v s d p. settle_pair c.given.ensures all v s d p;
-}

@@ -1,9 +1,0 @@
-use Rattle.spoke_laws.proofs.Trips.{back_settled, back_same, back_hub}
-use Rattle.spoke_laws.proofs.laws.over_and_back.Goals as goal
-
-pub returns : goal.returns
-returns c = record {
-  left = λ all v s d p. back_settled c.given.ensures all v s d p;
-  settled = λ all v s d p. back_same c.given.ensures all v s d p;
-  whole = λ all v s d p. back_hub c.given.ensures all v s d p;
-}

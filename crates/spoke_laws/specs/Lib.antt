@@ -1,9 +1,0 @@
-pub mod Spokes
-pub mod Keys
-pub mod Notes
-pub mod Pair
-pub mod Whole
-pub mod Settling
-pub mod Over
-pub mod Given
-pub mod Place

@@ -1,7 +1,0 @@
-use Rattle.std.proofs.Common.{refl}
-use Rattle.spoke_laws.specs.Keys.{spoke_prefix}
-use Rattle.spoke_objects.proofs.keys.spoke_prefix.Goals as goal
-
-pub returns : goal.returns
-unfolding spoke_prefix
-returns c = refl

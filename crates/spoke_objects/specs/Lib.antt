@@ -1,3 +1,0 @@
-pub mod SpokesCode
-pub mod Seen
-pub mod Fault
