@@ -1,3 +1,12 @@
 pub mod Fields
 pub mod Fits
 pub mod Hub
+pub mod Places
+pub mod Without
+pub mod Names
+pub mod Others
+pub mod Following
+pub mod Roots
+pub mod Tables
+pub mod LoadedSet
+pub mod Parts

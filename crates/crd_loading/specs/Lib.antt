@@ -7,3 +7,7 @@ pub mod View
 pub mod ViewCode
 pub mod Load
 pub mod Told
+pub mod SetCode
+pub mod Passed
+pub mod Set
+pub mod Following

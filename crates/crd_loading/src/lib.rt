@@ -1,13 +1,15 @@
-//! Loads a CustomResourceDefinition with its rules of conversion, from bytes.
+//! From two texts to a definition of several versions in memory: a CustomResourceDefinition, and the rules of conversion between its
+//! versions.
 //!
-//! The one contract: `load` is Ok exactly where both documents are read and nothing of them is refused, with
-//! the definition, the hub's place and the fitted rules of each spoke that `Loads` says; and else names the
-//! first thing that is refused, as `Refuses` says. The whole definition is tried before the rules are read.
-//! Want of memory may come anywhere.
+//! The one contract: `load_versions` is Ok exactly where both texts are read and nothing of them is refused, with the definition, its
+//! hub and its other versions with their fitted rules as the texts mean them (`Loads`), in a `LoadedVersions`, whose type keeps all
+//! that the laws of a definition ask for; and else it names the first thing that is refused, as `RefusesLoading` says. The whole definition
+//! is tried before the rules are read. Want of memory may come anywhere. `load` is the step to the definition and its fitted rules.
 //!
 //! It knows nothing of objects or requests.
 #![tactic(auto)]
 
+// The definition with the fitted rules of each spoke.
 mod blamed;
 mod bytes;
 mod fitting;
@@ -16,5 +18,14 @@ mod loaded;
 mod loading;
 mod words;
 
+// The same in memory, with all that the laws ask for.
+mod versions;
+
+// From the one to the other.
+mod from_texts;
+mod naming;
+
+pub use from_texts::load_versions;
 pub use loaded::Loaded;
 pub use loading::{LoadFault, Which, load};
+pub use versions::LoadedVersions;

@@ -9,3 +9,5 @@ pub mod Made
 pub mod Verdicts
 pub mod Causes
 pub mod Left
+pub mod Versions
+pub mod One

@@ -6,3 +6,6 @@ pub mod Admission
 pub mod Refusal
 pub mod Meant
 pub mod Given
+pub mod Document
+pub mod Converted
+pub mod Unconverted

@@ -1,9 +1,8 @@
-use crd_loading::{LoadFault, Which};
+use crd_loading::{LoadFault, Which, load_versions};
 use kj_value::Txt;
 use std::alloc::Global;
 use std::process::Abort;
 use std::test::Fail;
-use versions_loading::load_versions;
 
 const LEAST: &str =
     r#"{"apiVersion":"apiextensions.k8s.io/v1","kind":"CustomResourceDefinition","metadata":{"name":"crontabs.example.com"},"spec":{"group":"example.com","names":{"kind":"CronTab","plural":"crontabs"},"scope":"Namespaced","versions":[{"name":"v1","schema":{"openAPIV3Schema":{"properties":{"b":{"type":"string"}},"type":"object"}},"served":true,"storage":false},{"name":"v2","schema":{"openAPIV3Schema":{"properties":{"a":{"type":"string"}},"type":"object"}},"served":true,"storage":true}]}}"#;

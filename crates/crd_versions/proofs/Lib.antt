@@ -1,3 +1,6 @@
+pub mod Texts
+pub mod Places
+pub mod StoredForms
 pub mod Weights
 pub mod Stored
 pub mod Refusing

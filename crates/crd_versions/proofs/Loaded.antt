@@ -3,7 +3,7 @@ use Rattle.std.proofs.Common.{◌≡◌, ◌∙◌, ℕ, List, ap, sym}
 use Rattle.crd_reading.specs.View.{DefinitionView}
 use Rattle.crd_loading.specs.View.{LoadedView, loaded_of}
 use Rattle.crd_loading.specs.Load.{Defines, Loads}
-use Rattle.versions_loading.specs.Set.{set_of}
+use Rattle.crd_loading.specs.Set.{set_of}
 use Rattle.crd_meaning.specs.Definition.{Definition}
 
 pub spelled_by : (crd rules : List ℕ) (s : Definition) → (l : LoadedView) × Loads crd rules l × (s ≡ set_of l)

@@ -9,7 +9,7 @@ use Rattle.api_calls.specs.declared.versions.AdmitFault.TheVariants as fault
 use Rattle.crd_meaning.specs.Definition.{Definition}
 use Rattle.crd_meaning.specs.Admission.{Passes}
 use Rattle.crd_meaning.specs.Refusal.{RefusesRequest, badly_kept, too_large}
-use Rattle.hub_admission.specs.NoHub.{HasNoHub, unread, heavy}
+use Rattle.crd_admission.specs.NoHub.{HasNoHub, unread, heavy}
 
 pub refused_as : (P Q : Fault → Type 0) → ((f : Fault) → P f → Q f) → (e : AdmitFault) → Refused P ⊥ e → Refused Q ⊥ e
 refused_as P Q g (fault.BadRequest why) h = g (bad_request (why_of why)) h

@@ -13,10 +13,9 @@ ghost use Rattle.crd_meaning.specs.Refusal.{RefusesRequest};
 ghost use Rattle.crd_meaning.specs.Meant.{meant};
 
 use api_calls::{AdmitFault, Admitted, Incoming};
+use crd_admission::{hub_value, pass};
+use crd_loading::LoadedVersions;
 use crd_meaning::standing;
-use hub_admission::hub_value;
-use loaded_versions::LoadedVersions;
-use request_taking::pass;
 use std::alloc::Global;
 
 // The hub value of a request, its weight, and the number that the request gives. It is refused exactly where the definition

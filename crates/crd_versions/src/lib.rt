@@ -4,15 +4,25 @@
 //! The one contract: what `VersionSet` admits, refuses, shows at a version and reads back is what the definition means, with all
 //! the laws of `Versions`; and `load` gives one exactly where nothing of the two texts is refused.
 //!
-//! It composes the crates below: it knows nothing of how objects are read, filled, converted or measured, nor of where they are
-//! kept.
+//! It composes the crates below; its own are the form of a hub value at a version, and the hub value of a stored text. It knows
+//! nothing of how objects are read, filled, converted or measured, nor of where they are kept.
 #![tactic(auto)]
 
+// The form of a hub value at a version, and the hub value of a stored text.
+mod copying;
+mod forms;
+mod going_back;
+mod hub_values;
+mod reading;
+
+// The implementation.
 mod admission;
 mod loading;
 mod names;
 mod set;
 
 pub use crd_loading::{LoadFault, Which};
+pub use forms::form;
+pub use hub_values::hub_of;
 pub use loading::load;
 pub use set::VersionSet;

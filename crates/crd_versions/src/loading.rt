@@ -3,15 +3,14 @@ ghost use Rattle.std.specs.Prelude.{◌≡◌, IfOk, IfErr};
 ghost use Rattle.crd_loading.specs.View.{LoadedView};
 ghost use Rattle.crd_loading.specs.Load.{Loads};
 ghost use Rattle.crd_loading.specs.Told.{RefusesLoading};
-ghost use Rattle.versions_loading.specs.Set.{set_of};
+ghost use Rattle.crd_loading.specs.Set.{set_of};
 ghost use Rattle.crd_versions.specs.Set.{definition_of};
 
 use crate::set::VersionSet;
-use crd_loading::LoadFault;
+use crd_loading::{LoadFault, load_versions};
 use crd_settings::Pieces;
 use kj_value::reading_depth;
 use std::alloc::Global;
-use versions_loading::load_versions;
 
 /// The versions of the CustomResourceDefinition (apiextensions.k8s.io/v1) that the first text is, with the rules of conversion
 /// of the second, or the first thing that is refused: the file, a path with names joined by points and items in brackets, and a

@@ -3,8 +3,8 @@ ghost use Rattle.std.specs.Prelude.{◌≡◌, ◌≢◌, ◌<◌, ◌≤◌, Ma
 ghost use Rattle.crd_reading.specs.Seen.{version_of};
 ghost use Rattle.crd_meaning.specs.Definition.{count_of, version_at};
 
+use crd_loading::LoadedVersions;
 use kj_value::Txt;
-use loaded_versions::LoadedVersions;
 
 // How many versions there are.
 pub(crate) fn count(set: &LoadedVersions) -> u8

@@ -7,21 +7,22 @@ ghost use Rattle.api_calls.specs.declared.versions.TheConstants.{OBJECT_LEVELS};
 ghost use Rattle.keep_laws.specs.Given.{OneList};
 ghost use Rattle.crd_reading.specs.Accepted.{AreOffered};
 ghost use Rattle.crd_meaning.specs.Definition.{IsLoaded, count_of};
-ghost use Rattle.crd_converting.specs.Converted.{IsConverted};
-ghost use Rattle.crd_converting.specs.Refusal.{IsUnconverted};
+ghost use Rattle.crd_meaning.specs.Converted.{IsConverted};
+ghost use Rattle.crd_meaning.specs.Unconverted.{IsUnconverted};
 ghost use Rattle.crd_laws.specs.OneText.{OneList-prop};
 ghost use Rattle.crd_settings.specs.Pieces.{AreItsPieces, AreItsPieces-prop};
 
 use crate::admission::admitted;
+use crate::forms::form;
+use crate::hub_values::hub_of;
 use crate::names::{count, find, name};
 use api_calls::{AdmitFault, Admitted, ConvFault, Flags, Incoming, NoTool, StoredList, Versions};
+use crd_documents::convert;
+use crd_loading::LoadedVersions;
 use crd_settings::{Pieces, opening, read_flags, read_keep};
 use kept_entries::one_list;
 use kj_value::{JVal, Txt};
 use kube_meta::Object;
-use loaded_versions::LoadedVersions;
-use object_converting::convert;
-use object_forms::{form, hub_of};
 use std::alloc::Global;
 
 /// A definition of several versions as it was loaded, with the pieces of its document. It asks nothing of the outside, so its tool

@@ -10,7 +10,7 @@ use Rattle.api_core.specs.View.{CoreOf}
 use Rattle.crd_loading.specs.Load.{Loads}
 use Rattle.crd_loading.specs.View.{LoadedView}
 use Rattle.crd_meaning.specs.Definition.{Definition}
-use Rattle.versions_loading.specs.Set.{set_of}
+use Rattle.crd_loading.specs.Set.{set_of}
 use Rattle.http_wire.specs.Inboxes.{Held}
 use Rattle.http_wire.specs.declared.limits.TheConstants.{MOST_REQUESTS}
 use Rattle.object_server.specs.View.{base_of as server_base}

@@ -10,7 +10,7 @@ use Rattle.crd_loading.specs.declared.loading.LoadFault.{LoadFault}
 use Rattle.crd_loading.specs.declared.loading.LoadFault.TheVariants as faults
 use Rattle.crd_loading.specs.declared.loading.Which.{Which}
 use Rattle.crd_loading.specs.declared.loading.Which.TheVariants.{Crd, Rules}
-use Rattle.versions_loading.specs.Set.{set_of}
+use Rattle.crd_loading.specs.Set.{set_of}
 use Rattle.crd_versions.specs.Set.{definition_of}
 use Rattle.crd_versions.specs.declared.set.VersionSet.{VersionSet}
 use Rattle.kubeconv_cmd.specs.Lines.{from_files}

@@ -7,7 +7,7 @@ use Rattle.crd_laws.specs.Loaded.{loaded_meaning}
 use Rattle.crd_settings.specs.Settled.{settings_of}
 use Rattle.crd_loading.specs.Load.{Loads}
 use Rattle.crd_loading.specs.View.{LoadedView}
-use Rattle.versions_loading.specs.Set.{set_of}
+use Rattle.crd_loading.specs.Set.{set_of}
 use Rattle.http_wire.specs.Stream.{End}
 use Rattle.http_wire.specs.declared.limits.TheConstants.{MOST_REQUESTS}
 use Rattle.object_talk.specs.Answering.{ConversationBase}

@@ -3,7 +3,7 @@ ghost use Rattle.std.specs.Prelude.{◌≡◌, ◌≤◌, ℕ, List, Some, IfOk,
 ghost use Rattle.edge_io.specs.Causes.{Rose};
 ghost use Rattle.crd_loading.specs.Load.{Loads, RefusesDefinition, RefusesRules};
 ghost use Rattle.crd_loading.specs.View.{LoadedView};
-ghost use Rattle.versions_loading.specs.Set.{set_of};
+ghost use Rattle.crd_loading.specs.Set.{set_of};
 ghost use Rattle.crd_versions.specs.Set.{definition_of};
 ghost use Rattle.built_in.specs.Texts.{definition_text, rules_text};
 ghost use Rattle.kubeconv_cmd.specs.Lines.{Texts};

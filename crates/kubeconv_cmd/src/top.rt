@@ -9,7 +9,7 @@ ghost use Rattle.object_talk.specs.Conversed.{Blames};
 ghost use Rattle.object_talk.specs.declared.conversation.PipeEnd.TheVariants.{ReadFault as ReadFaulted, WriteFault as WriteFaulted};
 ghost use Rattle.crd_loading.specs.Load.{Loads};
 ghost use Rattle.crd_loading.specs.View.{LoadedView};
-ghost use Rattle.versions_loading.specs.Set.{set_of};
+ghost use Rattle.crd_loading.specs.Set.{set_of};
 ghost use Rattle.crd_versions.specs.Set.{definition_of};
 ghost use Rattle.kubeconv_cmd.specs.Lines.{Line, IsLine, Texts};
 ghost use Rattle.kubeconv_cmd.specs.Serving.{ServesTexts, Converses, Held, IsUnheld};

@@ -1,8 +1,8 @@
+use crd_admission::measure_within;
 use kj_value::{
     JFields, JItems, JVal, MAX_JSON_LEVELS, NoMemory, Stamp, TextList, TextMap, Txt, depth, write,
 };
 use kube_meta::{Meta, Object, write_object};
-use object_measure::measure_within;
 use std::alloc::Global;
 use std::test::Fail;
 

@@ -2,7 +2,7 @@ use Rattle.std.proofs.lemmas.Result.{err_from_is_err_and}
 use Rattle.kube_meta.specs.View.{object_of}
 use Rattle.api_calls.specs.Versions.{request_of}
 use Rattle.crd_meaning.specs.Refusal.{RefusesRequest}
-use Rattle.hub_admission.specs.NoHub.{HasNoHub}
+use Rattle.crd_admission.specs.NoHub.{HasNoHub}
 use Rattle.crd_versions.proofs.Refusing.{refused_as, no_hub}
 use Rattle.crd_versions.proofs.admission.admitted.Goals as goal
 

@@ -4,7 +4,7 @@ use Rattle.std.proofs.lemmas.Result.{err_from_is_err_and}
 use Rattle.crd_loading.specs.Load.{Loads}
 use Rattle.crd_loading.specs.View.{LoadedView}
 use Rattle.crd_loading.specs.declared.loading.Which.{Which}
-use Rattle.versions_loading.specs.Set.{set_of}
+use Rattle.crd_loading.specs.Set.{set_of}
 use Rattle.crd_versions.specs.Set.{definition_of}
 use Rattle.kubeconv_cmd.specs.Refusal.{IsText, DontLoad, file_of}
 use Rattle.kubeconv_cmd.specs.Ends.{OnRefused}

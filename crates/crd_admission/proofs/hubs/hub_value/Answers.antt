@@ -1,0 +1,30 @@
+use Rattle.std.proofs.Common.{◌≡◌, ◌∙◌}
+use Rattle.kj_value.specs.declared.rule.Rule.TheVariants as rule
+use Rattle.kube_meta.specs.View.{ObjectView, object_of}
+use Rattle.api_calls.specs.Meaning.{Fault}
+use Rattle.hub_cells.specs.Level.{Name}
+use Rattle.crd_meaning.specs.Request.{breaks}
+use Rattle.crd_meaning.specs.Refusal.{object_path}
+use Rattle.crd_admission.specs.NoHub.{HasNoHub, IsTold}
+use Rattle.crd_admission.proofs.Results.{refused_so, told_unread, told_heavy}
+use Rattle.crd_admission.proofs.hubs.hub_value.Goals as goal
+
+pub returns-in-Err-clause-refused : goal.returns-in-Err-clause-refused
+returns-in-Err-clause-refused c =
+    let d = c.args.set.now in
+    let x : ObjectView = object_of c.args.x in
+    let name : Name = c.in_ok-name.name.bytes in
+    let same : name ≡ x.meta.name = c.in_ok-name.ensures ∙ c.as_str.ensures in
+    refused_so (IsTold name c.in-Err.fault) (HasNoHub d c.args.v x) c.in_ok-badly_kept-in-Err.field-0 (told_unread d c.args.v x name c.in-Err.fault same c.in-Err.ensures.bad) c.in_ok-badly_kept-in-Err.ensures
+
+pub returns-in_ok-too_large-in-None-clause-refused : goal.returns-in_ok-too_large-in-None-clause-refused
+returns-in_ok-too_large-in-None-clause-refused c =
+    let d = c.args.set.now in
+    let x : ObjectView = object_of c.args.x in
+    let h : ObjectView = object_of c.in-Ok.hub in
+    let name : Name = c.in_ok-name.name.bytes in
+    let same : name ≡ x.meta.name = c.in_ok-name.ensures ∙ c.as_str.ensures in
+    let hub = c.in-Ok.ensures.hub in
+    refused_so (λ (f : Fault). f ≡ breaks name object_path rule.Size) (HasNoHub d c.args.v x) c.in_ok-too_large-in-None.field-0 (
+    told_heavy d c.args.v x h name c.in_ok-weight.field-0 same (c.one_hub.ensures.read d c.args.v x h hub) (λ g a. c.one_hub.ensures.one d c.hub.ensures.loaded c.args.v x g h a hub) c.in-None.is c.in_ok-weight.ensures
+    ) c.in_ok-too_large-in-None.ensures

@@ -1,0 +1,84 @@
+//! Whether a document is what the request's path asks for.
+ghost use Rattle.std.specs.Prelude.{◌≡◌, ◌<◌, IfOk, IfErr, option_map};
+ghost use Rattle.api_calls.specs.Versions.{Refused, request_of};
+ghost use Rattle.keep_laws.specs.Spokes.{api_version};
+ghost use Rattle.crd_meaning.specs.Definition.{count_of};
+ghost use Rattle.crd_meaning.specs.Request.{rows};
+ghost use Rattle.crd_admission.specs.Steps.{IsFirst, IsAsked, has_version, has_kind, has_namespace, has_name};
+
+use crate::fields::{in_metadata, is_absent_or, is_text};
+use api_calls::{AdmitFault, Incoming, Why};
+use crd_loading::LoadedVersions;
+use kj_value::{JFields, NoMemory, Txt};
+use std::alloc::Global;
+
+/// Nothing, where the version, the kind, the namespace and the name are those of the path, or else the first that isn't.
+pub(crate) fn judge_path(
+    alloc: Global,
+    set: &LoadedVersions,
+    input: &Incoming<'_>,
+    fields: &JFields,
+) -> Result<(), AdmitFault>
+    requires { input.now.version < count_of set.now }
+    ensures asked { IfOk result (λ _. IsAsked set.now (request_of input.now) fields.now) }
+    ensures refused { IfErr result (Refused (IsFirst (rows set.now (request_of input.now) fields.now)) ⊥) }
+{
+    if !has_version(alloc, set, input.version, fields)? {
+        return Err(AdmitFault::BadRequest(Why::WrongVersion));
+    }
+    if !has_kind(set, fields) {
+        return Err(AdmitFault::BadRequest(Why::WrongKind));
+    }
+    if !has_namespace(fields, input.ns) {
+        return Err(AdmitFault::BadRequest(Why::WrongNamespace));
+    }
+    if !has_name(fields, input.name) {
+        return Err(AdmitFault::BadRequest(Why::WrongName));
+    }
+    Ok(())
+}
+
+// GROUP/VERSION
+fn version_text(alloc: Global, group: &Txt, version: &Txt) -> Result<Txt, NoMemory>
+    ensures { IfOk result (λ t. t.bytes ≡ api_version group.now.bytes version.now.bytes) }
+{
+    let mut text = String::from_str(alloc, group.as_str())?;
+    text.push_str("/")?;
+    text.push_str(version.as_str())?;
+    Ok(Txt::of_string(text))
+}
+
+fn has_version(
+    alloc: Global,
+    set: &LoadedVersions,
+    v: u8,
+    fields: &JFields,
+) -> Result<bool, NoMemory>
+    requires { v < count_of set.now }
+    ensures { IfOk result (λ b. b ≡ has_version set.now v fields.now) }
+{
+    let wanted = version_text(alloc, set.definition().group(), &set.version(v).name)?;
+    Ok(is_text(fields.get("apiVersion"), wanted.as_str()))
+}
+
+fn has_kind(set: &LoadedVersions, fields: &JFields) -> bool
+    ensures { result ≡ has_kind set.now fields.now }
+{
+    is_text(fields.get("kind"), set.definition().kind().as_str())
+}
+
+fn has_namespace(fields: &JFields, ns: &str) -> bool
+    ensures { result ≡ has_namespace ns.now fields.now }
+{
+    is_absent_or(in_metadata(fields, "namespace"), ns)
+}
+
+// A path without a name asks for none.
+fn has_name(fields: &JFields, name: Option<&str>) -> bool
+    ensures { result ≡ has_name (option_map (λ s. s.now) name.entry) fields.now }
+{
+    match name {
+        None => true,
+        Some(name) => is_text(in_metadata(fields, "name"), name),
+    }
+}

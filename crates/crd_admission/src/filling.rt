@@ -1,0 +1,98 @@
+//! An object's body, filled and then checked.
+ghost use Rattle.std.specs.Prelude.{◌≡◌, true, None, IfOk, IfErr};
+ghost use Rattle.kj_value.specs.Fields.{Pairs};
+ghost use Rattle.kj_value.specs.Json.{object, members_of, Members};
+ghost use Rattle.kj_value.specs.Seen.{json};
+ghost use Rattle.kube_meta.specs.View.{meta_of, object_of};
+ghost use Rattle.struct_schema.specs.Fault.{fault};
+ghost use Rattle.struct_schema.specs.ShapeOf.{shape_of};
+ghost use Rattle.struct_schema.specs.Valid.{valid};
+ghost use Rattle.api_calls.specs.Versions.{Refused};
+ghost use Rattle.crd_meaning.specs.Admission.{IsFilling};
+ghost use Rattle.crd_meaning.specs.Refusal.{broken_at};
+ghost use Rattle.crd_admission.specs.Steps.{BreaksRule, TellsCause};
+
+use api_calls::{AdmitFault, Cause};
+use kj_value::{JFields, JVal, Txt};
+use kube_meta::{Meta, Object};
+use prune_default::{fill, one_filling};
+use std::alloc::Global;
+use struct_schema::{CheckFault, Schema, check};
+
+/// The object with its body filled, which breaks no rule of the schema. `Invalid` names the first rule that the filled body
+/// breaks, at its path.
+pub fn filled(alloc: Global, s: &Schema, o: Object) -> Result<Object, AdmitFault>
+    ensures filling { IfOk result (λ p. IsFilling (shape_of s.now) o.body p.body) }
+    ensures valid { IfOk result (λ p. valid (shape_of s.now) (object (members_of p.body)) ≡ true) }
+    ensures rest { IfOk result (λ p. object_of p ≡ record (object_of o) { body = p.body }) }
+    ensures refused { IfErr result (Refused (BreaksRule (shape_of s.now) (object_of o)) ⊥) }
+{
+    let Object {
+        api_version,
+        kind,
+        meta,
+        body,
+    } = o;
+    match filled_body(alloc, s, body) {
+        Ok(body) => Ok(Object {
+            api_version,
+            kind,
+            meta,
+            body,
+        }),
+        Err(CheckFault::Broken { path, rule }) => Err(AdmitFault::Invalid {
+            name: name_of(meta),
+            cause: Cause { field: path, rule },
+        }),
+        Err(CheckFault::NoMemory) => Err(AdmitFault::NoMemory),
+    }
+}
+
+fn name_of(m: Meta) -> Txt
+    ensures { result.bytes ≡ (meta_of m).name }
+{
+    let Meta {
+        name,
+        namespace: _,
+        labels: _,
+        annotations: _,
+        finalizers: _,
+        owners: _,
+        created: _,
+        deleted: _,
+        generation: _,
+        resource_version: _,
+        uid: _,
+    } = m;
+    name
+}
+
+fn filled_body(alloc: Global, s: &Schema, body: JFields) -> Result<JFields, CheckFault>
+    ensures filling { IfOk result (IsFilling (shape_of s.now) body) }
+    ensures valid { IfOk result (λ k. valid (shape_of s.now) (object (members_of k)) ≡ true) }
+    ensures broken { (k : Pairs) → IsFilling (shape_of s.now) body k
+        → IfErr result (λ e. TellsCause e (broken_at (shape_of s.now) k)) }
+{
+    one_filling();
+    let v = match fill(alloc, s, JVal::Obj(body)) {
+        Ok(v) => v,
+        Err(_) => return Err(CheckFault::NoMemory),
+    };
+    check(alloc, s, &v)?;
+    Ok(fields_of(v))
+}
+
+// The fields of a value that is an object.
+fn fields_of(v: JVal) -> JFields
+    requires { (ms : Members) × (json v ≡ object ms) }
+    ensures { object (members_of result) ≡ json v }
+{
+    match v {
+        JVal::Obj(fields) => fields,
+        JVal::Null => unreachable!(),
+        JVal::Bool(_) => unreachable!(),
+        JVal::Int(_) => unreachable!(),
+        JVal::Text(_) => unreachable!(),
+        JVal::List(_) => unreachable!(),
+    }
+}

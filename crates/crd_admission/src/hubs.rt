@@ -1,0 +1,79 @@
+//! The hub value of an object.
+ghost use Rattle.std.specs.Prelude.{◌<◌, IfOk, IfErr};
+ghost use Rattle.kube_meta.specs.View.{object_of};
+ghost use Rattle.api_calls.specs.Meaning.{Weighs};
+ghost use Rattle.api_calls.specs.Versions.{Refused};
+ghost use Rattle.hub_cells.specs.Level.{Name};
+ghost use Rattle.keep_laws.specs.Over.{IsFirstBad};
+ghost use Rattle.spoke_keep.specs.Fault.{IsFaultOf};
+ghost use Rattle.crd_meaning.specs.Definition.{count_of, seat};
+ghost use Rattle.crd_meaning.specs.Admission.{own_name, IsHubOf, IsLight};
+ghost use Rattle.crd_meaning.specs.Meant.{meant};
+ghost use Rattle.crd_loading.specs.Passed.{IsPassed};
+ghost use Rattle.crd_admission.specs.NoHub.{HasNoHub};
+
+use crate::faults::{badly_kept, too_large};
+use crate::weighing::weigh;
+use api_calls::AdmitFault;
+use crd_loading::LoadedVersions;
+use crd_meaning::{going_over, one_hub};
+use keep_laws::object_laws::settling;
+use kj_value::Txt;
+use kube_meta::Object;
+use spoke_keep::{KeepFault, settle, to_hub};
+use std::alloc::Global;
+
+/// A hub value, with what it takes at most at any version, in chunks of 256 bytes, at least 1.
+#[derive(Drop)]
+pub struct Weighed {
+    pub hub: Object,
+    pub weight: u64,
+}
+
+/// The hub value of an object of version `v` that passed, and its weight. `Invalid` comes with the rule `Kept` for the
+/// first annotation by key that is read and spells no entries, and with the rule `Size` where the measure is above
+/// 262,144 bytes at some version.
+pub fn hub_value(
+    alloc: Global,
+    set: &LoadedVersions,
+    v: u8,
+    x: Object,
+) -> Result<Weighed, AdmitFault>
+    requires known { v < count_of set.now }
+    requires passed { IsPassed set.now v (object_of x) }
+    ensures read { IfOk result (λ _. (k : Name)
+        → IsFirstBad set.now.spokes (own_name (seat set.now v)) x.meta.annotations k → ⊥) }
+    ensures hub { IfOk result (λ w. IsHubOf set.now v (object_of x) (object_of w.hub)) }
+    ensures light { IfOk result (λ w. IsLight set.now (object_of w.hub)) }
+    ensures weighs { IfOk result (λ w. Weighs (meant set.now) (object_of w.hub) w.weight) }
+    ensures some { IfOk result (λ w. 0 < w.weight) }
+    ensures refused { IfErr result (Refused (HasNoHub set.now v (object_of x)) ⊥) }
+{
+    one_hub();
+    let _ = set.hub();
+    let name = Txt::of(alloc, x.meta.name.as_str())?;
+    let hub = match hub_of(alloc, set, v, x) {
+        Ok(hub) => hub,
+        Err(fault) => return Err(badly_kept(alloc, name, fault)?),
+    };
+    match weigh(alloc, set, &hub)? {
+        Some(weight) => Ok(Weighed { hub, weight }),
+        None => Err(too_large(alloc, name)?),
+    }
+}
+
+fn hub_of(alloc: Global, set: &LoadedVersions, v: u8, x: Object) -> Result<Object, KeepFault>
+    requires known { v < count_of set.now }
+    requires passed { IsPassed set.now v (object_of x) }
+    ensures hub { IfOk result (λ h. IsHubOf set.now v (object_of x) (object_of h)) }
+    ensures bad { IfErr result (IsFaultOf set.now.spokes (own_name (seat set.now v)) x.meta.annotations) }
+{
+    going_over();
+    settling();
+    let _ = set.hub();
+    let _ = set.definition().versions();
+    match set.place(v) {
+        None => settle(alloc, set.spokes(), None, x),
+        Some(p) => to_hub(alloc, set.spokes(), p, &x),
+    }
+}

@@ -1,0 +1,42 @@
+//! Admission: from a request to its object's hub value with its weight, or why there is none.
+//!
+//! The one contract is of two steps. `pass` gives the object that the request submits at its version, with its body filled and
+//! checked, as `Passes` of `crd_meaning` says, and all that is known of such an object; or a fault that is the first of the table
+//! of `crd_meaning`. `hub_value` takes it on to the object's one hub value with what that weighs, or names the first annotation
+//! that can't be read, or says that its measure is too large at some version: each version's form is made once, measured and let go.
+//! `measure_within` counts what an object measures, so that no text is written and no memory taken. Beside them stand laws of how
+//! deep a filled value is.
+//!
+//! It knows nothing of how objects are stored, of flags, nor of what is replied.
+#![tactic(auto)]
+
+// From a request to its object, filled and checked.
+mod asking;
+mod body;
+mod depth_laws;
+mod fields;
+mod filling;
+mod metadata;
+mod numbers;
+mod opening;
+mod passing;
+mod placing;
+mod taking;
+
+// What an object measures.
+mod measured_meta;
+mod measuring;
+mod values;
+
+// From the object to its hub value and its weight.
+mod faults;
+mod hubs;
+mod weighing;
+
+pub use depth_laws::{default_depth, filled_depth};
+pub use faults::badly_kept;
+pub use filling::filled;
+pub use hubs::{Weighed, hub_value};
+pub use measuring::measure_within;
+pub use opening::{defaults_of, order_of};
+pub use passing::{Passed, pass};

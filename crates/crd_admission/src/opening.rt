@@ -1,0 +1,34 @@
+//! What the types know of a version's schema and of an object. The functions do nothing.
+ghost use Rattle.std.specs.Prelude.{◌<◌};
+ghost use Rattle.kj_value.specs.Fields.{AreInOrder};
+ghost use Rattle.kj_value.specs.Json.{items_of};
+ghost use Rattle.kj_value.specs.Sound.{AreSoundItems};
+ghost use Rattle.kube_meta.specs.View.{object_of};
+ghost use Rattle.struct_schema.specs.OwnDefaults.{HasOwnDefaults};
+ghost use Rattle.keep_laws.specs.Notes.{IsObject};
+ghost use Rattle.crd_meaning.specs.Definition.{count_of, version_at};
+ghost use Rattle.crd_admission.specs.Low.{HasLowDefaults};
+
+use crd_loading::LoadedVersions;
+use kube_meta::Object;
+
+/// Each default of the version's schema is its own filling, and with the levels above it no deeper than an object may be.
+pub fn defaults_of(set: &LoadedVersions, v: u8)
+    requires { v < count_of set.now }
+    ensures own { HasOwnDefaults (version_at set.now v).schema }
+    ensures low { HasLowDefaults 0 (version_at set.now v).schema }
+{
+    let _ = set.definition().versions();
+}
+
+/// The names of the object's maps rise, and its values are sound.
+pub fn order_of(o: &Object)
+    ensures object { IsObject (object_of o.now) }
+    ensures labels { AreInOrder o.now.meta.labels }
+    ensures owners { AreSoundItems (items_of o.now.meta.owners) }
+{
+    let _ = o.meta.labels.len();
+    let _ = o.meta.annotations.len();
+    let _ = o.meta.owners.len();
+    let _ = o.body.len();
+}

@@ -1,0 +1,161 @@
+//! The metadata of a document, whose name and namespace aren't judged.
+ghost use Rattle.std.specs.Prelude.{◌≡◌, [], None, Some, IfOk, IfErr, OnOk, option_map, codes};
+ghost use Rattle.kj_value.specs.Fields.{field, with_field};
+ghost use Rattle.kj_value.specs.Json.{text};
+ghost use Rattle.kj_value.specs.Seen.{json};
+ghost use Rattle.kube_meta.specs.View.{meta_of};
+ghost use Rattle.object_reading.specs.Fields.{given, object_at};
+ghost use Rattle.object_reading.specs.Parts.{meta_in, text_or_empty};
+ghost use Rattle.object_reading.specs.Refusal.{bad_meta, first_holding, Tells};
+ghost use Rattle.crd_meaning.specs.Document.{judged_fields, judged_metadata};
+ghost use Rattle.crd_documents.specs.Steps.{bare_document, numberless_meta, stand_in};
+
+use kj_value::{JFields, JVal, NoMemory, Txt};
+use kube_meta::Meta;
+use object_reading::{ObjectFault, read_object};
+use std::alloc::Global;
+
+/// The metadata that the value is, without the number and what a server sets; or `BadMeta` at the first of its fields that
+/// breaks its rule, by name, where the value of another kind than an object is the empty field.
+pub(crate) fn read_metadata(alloc: Global, metadata: JVal) -> Result<Meta, ObjectFault>
+    ensures nothing { IfOk result (λ _. first_holding (judged_metadata (given (Some (json metadata)))) ≡ None) }
+    ensures meta { IfOk result (λ m. meta_of m ≡ numberless_meta (object_at (Some (json metadata)))) }
+    ensures refused { IfErr result (λ e. Tells e (first_holding (judged_metadata (given (Some (json metadata)))))) }
+{
+    match metadata {
+        JVal::Obj(fields) => read_fields(alloc, fields),
+        JVal::Null => read_fields(alloc, JFields::new(alloc)),
+        JVal::Bool(_) => Err(no_object(alloc)),
+        JVal::Int(_) => Err(no_object(alloc)),
+        JVal::Text(_) => Err(no_object(alloc)),
+        JVal::List(_) => Err(no_object(alloc)),
+    }
+}
+
+fn no_object(alloc: Global) -> ObjectFault
+    ensures { Tells result (Some (bad_meta [])) }
+{
+    ObjectFault::BadMeta {
+        field: empty(alloc),
+    }
+}
+
+// The other fields are judged beside a name and a namespace that keep their rules; then those of the document are put back.
+fn read_fields(alloc: Global, fields: JFields) -> Result<Meta, ObjectFault>
+    ensures nothing { IfOk result (λ _. first_holding (judged_fields fields) ≡ None) }
+    ensures meta { IfOk result (λ m. meta_of m ≡ numberless_meta fields) }
+    ensures refused { IfErr result (λ e. Tells e (first_holding (judged_fields fields))) }
+{
+    let mut unnamed = fields;
+    let name = text_or_empty(alloc, unnamed.remove("name"));
+    let namespace = text_or_empty(alloc, unnamed.remove("namespace"));
+    stand_in(alloc, &mut unnamed, "name")?;
+    stand_in(alloc, &mut unnamed, "namespace")?;
+    let document = bare_document(alloc, unnamed)?;
+    let object = read_object(alloc, document, "")?;
+    Ok(named(object.meta, name, namespace))
+}
+
+fn stand_in(alloc: Global, fields: &mut JFields, name: &str) -> Result<(), NoMemory>
+    ensures { OnOk result (fields.new ≡ with_field name.now (text stand_in) fields.old) }
+{
+    fields.set(Txt::of(alloc, name)?, JVal::Text(Txt::of(alloc, "x")?))
+}
+
+// A document that has these metadata and no other value.
+fn bare_document(alloc: Global, metadata: JFields) -> Result<JVal, NoMemory>
+    ensures { IfOk result (λ v. json v ≡ bare_document metadata) }
+{
+    let mut fields = JFields::new(alloc);
+    fields.set(Txt::of(alloc, "apiVersion")?, JVal::Text(empty(alloc)))?;
+    fields.set(Txt::of(alloc, "kind")?, JVal::Text(empty(alloc)))?;
+    fields.set(Txt::of(alloc, "metadata")?, JVal::Obj(metadata))?;
+    Ok(JVal::Obj(fields))
+}
+
+fn named(m: Meta, name: Txt, namespace: Txt) -> Meta
+    ensures { meta_of result ≡ record (meta_of m) {
+      name = name.bytes;
+      namespace = namespace.bytes;
+      resource_version = None;
+    } }
+{
+    let Meta {
+        name: _,
+        namespace: _,
+        labels,
+        annotations,
+        finalizers,
+        owners,
+        created,
+        deleted,
+        generation,
+        resource_version: _,
+        uid,
+    } = m;
+    Meta {
+        name,
+        namespace,
+        labels,
+        annotations,
+        finalizers,
+        owners,
+        created,
+        deleted,
+        generation,
+        resource_version: None,
+        uid,
+    }
+}
+
+/// The name that a value of `metadata` gives, or the empty text.
+#[tactic(auto, using(object_reading::proofs::Lists::pairs_members))]
+pub(crate) fn name_in(alloc: Global, metadata: Option<&JVal>) -> Result<Txt, NoMemory>
+    ensures { IfOk result (λ t. t.bytes ≡ text_or_empty (field (codes "name") (object_at (option_map (λ v. json v.now) metadata.entry)))) }
+{
+    match metadata {
+        Some(JVal::Obj(fields)) => copied_text(alloc, fields.get("name")),
+        None => Ok(empty(alloc)),
+        Some(JVal::Null) => Ok(empty(alloc)),
+        Some(JVal::Bool(_)) => Ok(empty(alloc)),
+        Some(JVal::Int(_)) => Ok(empty(alloc)),
+        Some(JVal::Text(_)) => Ok(empty(alloc)),
+        Some(JVal::List(_)) => Ok(empty(alloc)),
+    }
+}
+
+fn copied_text(alloc: Global, value: Option<&JVal>) -> Result<Txt, NoMemory>
+    ensures { IfOk result (λ t. t.bytes ≡ text_or_empty (option_map (λ v. json v.now) value.entry)) }
+{
+    match value {
+        Some(JVal::Text(text)) => Txt::of(alloc, text.as_str()),
+        None => Ok(empty(alloc)),
+        Some(JVal::Null) => Ok(empty(alloc)),
+        Some(JVal::Bool(_)) => Ok(empty(alloc)),
+        Some(JVal::Int(_)) => Ok(empty(alloc)),
+        Some(JVal::List(_)) => Ok(empty(alloc)),
+        Some(JVal::Obj(_)) => Ok(empty(alloc)),
+    }
+}
+
+/// The text that the value is, moved out of it, or the empty one.
+pub(crate) fn text_or_empty(alloc: Global, value: Option<JVal>) -> Txt
+    ensures { result.bytes ≡ text_or_empty (option_map json value) }
+{
+    match value {
+        Some(JVal::Text(text)) => text,
+        None => empty(alloc),
+        Some(JVal::Null) => empty(alloc),
+        Some(JVal::Bool(_)) => empty(alloc),
+        Some(JVal::Int(_)) => empty(alloc),
+        Some(JVal::List(_)) => empty(alloc),
+        Some(JVal::Obj(_)) => empty(alloc),
+    }
+}
+
+// It takes no memory.
+fn empty(alloc: Global) -> Txt
+    ensures { result.bytes ≡ [] }
+{
+    Txt::of_string(String::new(alloc))
+}

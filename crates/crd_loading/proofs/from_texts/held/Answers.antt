@@ -1,0 +1,11 @@
+use Rattle.crd_loading.proofs.Parts.{together_parts, is_loaded}
+use Rattle.crd_loading.proofs.from_texts.held.Goals as goal
+
+pub new-requires : goal.new-requires
+new-requires c =
+    let given = c.into_parts-definition in
+    let d = given.result.0 in
+    let h = given.result.1 in
+    let fs = given.result.2.items in
+    let together = together_parts c.args.loaded d h fs given.ensures.definition given.ensures.hub given.ensures.spokes given.ensures.together in
+    is_loaded d h fs c.in_ok-spokes.spokes together c.in_ok-spokes.ensures.spokes c.in_ok-spokes.ensures.definition

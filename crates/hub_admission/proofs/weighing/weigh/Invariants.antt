@@ -1,6 +1,0 @@
-use Rattle.kube_meta.specs.View.{object_of}
-use Rattle.hub_admission.specs.Weighing.{AreWeighed}
-use Rattle.hub_admission.proofs.weighing.weigh.Given as goal
-
-abbrev pub invariant-loop-v : goal.invariant-loop-v
-invariant-loop-v l = AreWeighed l.set (object_of l.h) l.v l.most

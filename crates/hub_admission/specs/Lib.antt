@@ -1,2 +1,0 @@
-pub mod NoHub
-pub mod Weighing

@@ -1,2 +1,0 @@
-pub mod SetCode
-pub mod Passed
