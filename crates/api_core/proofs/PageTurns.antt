@@ -15,8 +15,8 @@ use Rattle.api_calls.specs.State.{revision, served, state}
 use Rattle.api_calls.specs.Legal.{legal}
 use Rattle.api_calls.specs.Snap.{Past, floor, page_at, window}
 use Rattle.api_calls.specs.Pages.{Place, PageEnd, shown, unserved, ahead, expired, place_page, page_decision}
-use Rattle.page_laws.specs.Keeping.{ArePagesOfOne, IsSame, IsSamePast}
-use Rattle.page_laws.specs.Keeping.{KeepsHistory}
+use Rattle.record_store.specs.Keeping.{ArePagesOfOne, IsSame, IsSamePast}
+use Rattle.record_store.specs.Keeping.{KeepsHistory}
 use Rattle.turn_state.specs.declared.pages.Page.{Page}
 use Rattle.turn_state.specs.View.{CoreView}
 use Rattle.turn_state.specs.Keeps.{IsText, KeepsObject, KeepsPast}

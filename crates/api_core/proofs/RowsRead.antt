@@ -3,8 +3,8 @@ use Rattle.std.proofs.Common.{◌≡◌, ◌∙◌, List, [], ◌∷◌, Option,
 use Rattle.std.specs.Prelude.{find as first, option_map, if◌then◌else◌}
 use Rattle.kube_meta.specs.Key.{KeyView}
 use Rattle.kube_meta.specs.Plan.{Bound, passed}
-use Rattle.record_index.specs.ByKey as by_key
-use Rattle.record_index.specs.declared.row.Record.{Record}
+use Rattle.record_store.specs.ByKey as by_key
+use Rattle.record_store.specs.declared.row.Record.{Record}
 use Rattle.record_store.specs.View.{Item, item_key, record_of}
 use Rattle.migrate_core.specs.declared.records.Row.{Row}
 use Rattle.migrate_core.specs.Rows as rows

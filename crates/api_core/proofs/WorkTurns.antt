@@ -5,7 +5,7 @@ use Rattle.kube_meta.specs.Key.{KeyView}
 use Rattle.kube_meta.specs.Plan.{Migration, running, is_done}
 use Rattle.kube_meta.specs.declared.limits.Limits.{Limits}
 use Rattle.kube_meta.specs.View.{ObjectView}
-use Rattle.record_index.specs.ByKey.{find as find_record}
+use Rattle.record_store.specs.ByKey.{find as find_record}
 use Rattle.record_store.specs.View.{StoreView, item_key}
 use Rattle.record_store.specs.Moves.{with_new}
 use Rattle.record_store.specs.Room.{touch_end, is_done as is_done_end}

@@ -2,7 +2,7 @@
 use crate::present::Core;
 use api_calls::Versions;
 use api_calls::laws::Means;
-use page_laws::Texts;
+use record_store::Texts;
 
 impl<V: Versions> Means for Core<V> {
     ghost meaning = { λ c. V.meaning c.versions };

@@ -14,8 +14,7 @@ use crate::served::is_served;
 use api_calls::{Token, Versions};
 use kj_value::NoMemory;
 use kube_meta::Key;
-use page_laws::page_of_history;
-use record_store::StoredRecord;
+use record_store::{StoredRecord, page_of_history};
 use std::alloc::Global;
 use turn_state::{Page, PageFault, Seen, SeenItems};
 

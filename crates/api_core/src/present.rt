@@ -1,7 +1,7 @@
 //! The present of the server, and looks at it.
 ghost use Rattle.std.specs.Prelude.{◌≡◌, ◌+◌, ◌<◌, ◌^◌, List, [], ℕ, IfOk, option_map};
 ghost use Rattle.std.specs.Arc.{arc_value};
-ghost use Rattle.record_index.specs.ByKey.{find};
+ghost use Rattle.record_store.specs.ByKey.{find};
 ghost use Rattle.record_store.specs.View.{item_key};
 ghost use Rattle.api_calls.specs.Item.{Item};
 ghost use Rattle.api_calls.specs.Versions.{AreFlags, IsStoredList, versions_of};

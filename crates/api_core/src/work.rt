@@ -2,7 +2,7 @@
 ghost use Rattle.std.specs.Prelude.{◌≡◌, ◌+◌, ◌≤◌, ◌<◌, ◌^◌, List, ℕ, None, IfOk, IfSome, MatchOption, Some, option_map};
 ghost use Rattle.kube_meta.specs.View.{ObjectView};
 ghost use Rattle.migrate_core.specs.Moves.{work_of};
-ghost use Rattle.record_index.specs.ByKey.{find};
+ghost use Rattle.record_store.specs.ByKey.{find};
 ghost use Rattle.record_store.specs.View.{item_key};
 ghost use Rattle.api_calls.specs.Item.{Item};
 ghost use Rattle.api_calls.specs.State.{revision, state};

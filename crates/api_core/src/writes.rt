@@ -1,7 +1,7 @@
 //! The commits: each is a turn with what was prepared for it. None takes memory.
 ghost use Rattle.std.specs.Prelude.{◌≡◌, ◌+◌, ◌≤◌, ◌^◌, List, ℕ, None, Some, IsTrue, IfSome};
 ghost use Rattle.kube_meta.specs.View.{ObjectView};
-ghost use Rattle.record_index.specs.ByKey.{find};
+ghost use Rattle.record_store.specs.ByKey.{find};
 ghost use Rattle.record_store.specs.View.{item_key};
 ghost use Rattle.api_calls.specs.Item.{Item};
 ghost use Rattle.api_calls.specs.State.{revision, state};

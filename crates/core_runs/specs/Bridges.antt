@@ -2,7 +2,7 @@
 use Rattle.std.specs.Prelude.{◌≡◌, ℕ, ◌+◌, List, Option, None, Some}
 use Rattle.std.proofs.Common.{sym, ◌∙◌, subst}
 use Rattle.kube_meta.specs.Key.{KeyView}
-use Rattle.record_index.specs.ByKey.{find as find_record}
+use Rattle.record_store.specs.ByKey.{find as find_record}
 use Rattle.record_store.specs.View.{Item as RecordItem, item_key}
 use Rattle.migrate_core.specs.Moves as moves
 use Rattle.api_calls.specs.Meaning.{Meaning}

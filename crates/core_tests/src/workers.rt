@@ -2,7 +2,7 @@
 ghost use Rattle.std.specs.Prelude.{◌≡◌, ◌^◌, ◌<◌, IfOk, IfSome};
 ghost use Rattle.kube_meta.specs.Plan.{running};
 ghost use Rattle.migrate_core.specs.Moves.{work_of};
-ghost use Rattle.record_index.specs.ByKey.{find};
+ghost use Rattle.record_store.specs.ByKey.{find};
 ghost use Rattle.record_store.specs.View.{item_key};
 ghost use Rattle.turn_state.specs.Ready.{IfPrepare, IsNext};
 

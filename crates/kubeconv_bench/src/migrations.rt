@@ -1,7 +1,7 @@
 //! The core's migrations: one worker moves all objects to the other version.
 ghost use Rattle.std.specs.Prelude.{◌≡◌, ◌^◌, ◌≤◌, ◌<◌, IfOk};
 ghost use Rattle.migrate_core.specs.Moves.{work_of};
-ghost use Rattle.record_index.specs.ByKey.{find};
+ghost use Rattle.record_store.specs.ByKey.{find};
 ghost use Rattle.record_store.specs.View.{item_key};
 ghost use Rattle.turn_state.specs.Ready.{IfPrepare, IsNext};
 

@@ -8,10 +8,10 @@ use Rattle.kube_meta.specs.Window.{weights}
 use Rattle.kube_meta.specs.declared.limits.Room.{Room}
 use Rattle.kube_meta.specs.declared.limits.RoomKind.TheVariants.{Objects, Chunks}
 use Rattle.record_region.specs.Places.{Places, bytes_at}
-use Rattle.record_index.specs.ByKey.{KeysRise, find, put}
-use Rattle.record_index.specs.Rows.{row_key}
-use Rattle.record_index.specs.declared.row.Row.{Row}
-use Rattle.record_index.specs.declared.row.Record.{Record}
+use Rattle.record_store.specs.ByKey.{KeysRise, find, put}
+use Rattle.record_store.specs.Rows.{row_key}
+use Rattle.record_store.specs.declared.row.Row.{Row}
+use Rattle.record_store.specs.declared.row.Record.{Record}
 use Rattle.record_store.specs.View.{Item, StoreView, IsStore, item_key, item_weight, record_of}
 use Rattle.record_store.specs.Moves.{removed, removed_found, replaced, born_of, with_new, added}
 use Rattle.record_store.specs.Room.{put_end, touch_end, lacking, lacking_chunks, free_chunks, unless_full, is_done, HasRoom}

@@ -10,12 +10,12 @@ use Rattle.kube_meta.specs.declared.limits.Limits.{Limits}
 use Rattle.record_region.specs.Chunks.{chunks_of}
 use Rattle.record_region.specs.Laws.{piece_at-set_same}
 use Rattle.record_region.specs.Places.{Places, piece_at, bytes_in, spare}
-use Rattle.record_index.specs.ByKey.{KeysRise, find, put, without}
-use Rattle.record_index.specs.Rows.{Rows, row_key}
-use Rattle.record_index.specs.declared.row.Row.{Row}
-use Rattle.record_window.specs.declared.past.Past.{Past}
-use Rattle.record_window.specs.Held.{trimmed}
-use Rattle.record_window.specs.Pasts.{Pasts, past_by, past_weight, rows_of}
+use Rattle.record_store.specs.ByKey.{KeysRise, find, put, without}
+use Rattle.record_store.specs.Rows.{Rows, row_key}
+use Rattle.record_store.specs.declared.row.Row.{Row}
+use Rattle.record_store.specs.declared.past.Past.{Past}
+use Rattle.record_store.specs.Held.{trimmed}
+use Rattle.record_store.specs.Pasts.{Pasts, past_by, past_weight, rows_of}
 use Rattle.record_store.specs.View.{Item, StoreView, IsStore, item_key, item_weight, old_by, old_weight}
 use Rattle.record_store.specs.Moves.{removed, removed_found}
 use Rattle.record_store.specs.Inside.{item_of, old_of, store_view, row_weight, IsSoundStore}

@@ -5,7 +5,7 @@ use Rattle.std.specs.Ordering.{match_ordering}
 use Rattle.kube_meta.specs.Key.{KeyView, key_cmp}
 use Rattle.kube_meta.specs.KeyOrder.{key_cmp_total, key_cmp_one}
 use Rattle.kube_meta.specs.Window.{weights}
-use Rattle.record_index.specs.ByKey.{IsBelowFirst, KeysRise, find, put, without}
+use Rattle.record_store.specs.ByKey.{IsBelowFirst, KeysRise, find, put, without}
 
 module _ {X : Type 0} (key : X → KeyView) where
   -- ---- sums

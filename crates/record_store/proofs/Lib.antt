@@ -1,3 +1,6 @@
+pub mod Search
+pub mod Places
+pub mod WindowPieces
 pub mod Keyed
 pub mod Mapped
 pub mod Pieces
@@ -12,3 +15,7 @@ pub mod Paged
 pub mod Steps
 pub mod Overwritten
 pub mod Standings
+pub mod Rising
+pub mod Rebuilt
+pub mod Members
+pub mod Pairs

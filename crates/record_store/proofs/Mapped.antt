@@ -6,7 +6,7 @@ use Rattle.std.specs.Ordering.{match_ordering}
 use Rattle.kube_meta.specs.Key.{KeyView, key_cmp}
 use Rattle.kube_meta.specs.Window.{weights, fits, newest, floor_from, RisesFrom}
 use Rattle.kube_meta.specs.declared.limits.Limits.{Limits}
-use Rattle.record_index.specs.ByKey.{find, put, without}
+use Rattle.record_store.specs.ByKey.{find, put, without}
 
 module _ {X Y : Type 0} (f : X → Y) where
   pub length-seen : (xs : List X) → length (map f xs) ≡ length xs

@@ -4,7 +4,7 @@ use Rattle.std.specs.List.{AllByRecursion as Each}
 use Rattle.std.specs.Ordering.{match_ordering, ordering_reverse}
 use Rattle.kube_meta.specs.Key.{KeyView, key_cmp}
 use Rattle.kube_meta.specs.KeyOrder.{key_cmp_total, key_cmp_one}
-use Rattle.record_index.specs.ByKey.{put}
+use Rattle.record_store.specs.ByKey.{put}
 use Rattle.record_store.specs.Picked.{merge_into, merged}
 
 reversed : (k l : KeyView) (o : Ordering) → key_cmp k l ≡ o → key_cmp l k ≡ ordering_reverse o

@@ -4,8 +4,8 @@ use Rattle.std.specs.Prelude.{replicate}
 use Rattle.kube_meta.specs.WindowLaws.{newest-fits}
 use Rattle.kube_meta.specs.declared.limits.Limits.{Limits}
 use Rattle.record_region.specs.Places.{piece_at, used}
-use Rattle.record_window.specs.Held.{pieces_in}
-use Rattle.record_window.specs.Pasts.{past_by, past_weight}
+use Rattle.record_store.specs.Held.{pieces_in}
+use Rattle.record_store.specs.Pasts.{past_by, past_weight}
 use Rattle.record_store.specs.Inside.{IsSoundStore}
 
 none_at : (n chunk : ℕ) → piece_at (replicate n None) chunk ≡ None

@@ -7,12 +7,12 @@ use Rattle.kube_meta.specs.Window.{weights, newest, floor_from}
 use Rattle.kube_meta.specs.declared.limits.Limits.{Limits}
 use Rattle.record_region.specs.Chunks.{chunks_of}
 use Rattle.record_region.specs.Places.{Places, piece_at, spare}
-use Rattle.record_index.specs.ByKey.{KeysRise, find, put, without, place}
-use Rattle.record_index.specs.Rows.{Rows, row_key}
-use Rattle.record_index.specs.declared.row.Row.{Row}
-use Rattle.record_index.specs.declared.row.Record.{Record}
-use Rattle.record_window.specs.Held.{trimmed}
-use Rattle.record_window.specs.Pasts.{Pasts, past_by, past_weight}
+use Rattle.record_store.specs.ByKey.{KeysRise, find, put, without, place}
+use Rattle.record_store.specs.Rows.{Rows, row_key}
+use Rattle.record_store.specs.declared.row.Row.{Row}
+use Rattle.record_store.specs.declared.row.Record.{Record}
+use Rattle.record_store.specs.Held.{trimmed}
+use Rattle.record_store.specs.Pasts.{Pasts, past_by, past_weight}
 use Rattle.record_store.specs.View.{Item, StoreView, IsStore, item_key, item_weight}
 use Rattle.record_store.specs.Moves.{removed, removed_found, replaced, added, new_item, with_new}
 use Rattle.record_store.specs.Room.{HasRoom}

@@ -7,11 +7,11 @@ use Rattle.kube_meta.specs.Key.{KeyView}
 use Rattle.kube_meta.specs.Page.{bound_after, in_namespace, listed}
 use Rattle.kube_meta.specs.Plan.{passed}
 use Rattle.kube_meta.specs.declared.limits.Limits.{Limits}
-use Rattle.record_index.specs.ByKey.{put}
-use Rattle.record_index.specs.Rows.{Rows, row_key}
-use Rattle.record_index.specs.declared.row.Row.{Row}
-use Rattle.record_window.specs.declared.past.Past.{Past}
-use Rattle.record_window.specs.Pasts.{Pasts, rows_of}
+use Rattle.record_store.specs.ByKey.{put}
+use Rattle.record_store.specs.Rows.{Rows, row_key}
+use Rattle.record_store.specs.declared.row.Row.{Row}
+use Rattle.record_store.specs.declared.past.Past.{Past}
+use Rattle.record_store.specs.Pasts.{Pasts, rows_of}
 use Rattle.record_region.specs.Places.{Places}
 use Rattle.record_store.specs.View.{Item, Old, item_key, put_all, still, since, items_at}
 use Rattle.record_store.specs.Inside.{AreKept, IsKept, IsSoundStore, item_of, old_of, store_view}

@@ -6,10 +6,10 @@ use Rattle.kube_meta.specs.Window.{weights}
 use Rattle.record_region.specs.Chunks.{chunks_of}
 use Rattle.record_region.specs.Laws.{piece_at-set_other, live-set_other}
 use Rattle.record_region.specs.Places.{Places, piece_at, bytes_in, bytes_at, chunks_in}
-use Rattle.record_index.specs.declared.row.Row.{Row}
-use Rattle.record_window.specs.declared.past.Past.{Past}
-use Rattle.record_window.specs.Held.{holders, pieces_in}
-use Rattle.record_window.specs.Pasts.{rows_of}
+use Rattle.record_store.specs.declared.row.Row.{Row}
+use Rattle.record_store.specs.declared.past.Past.{Past}
+use Rattle.record_store.specs.Held.{holders, pieces_in}
+use Rattle.record_store.specs.Pasts.{rows_of}
 use Rattle.record_store.specs.View.{Item, Old, record_of}
 use Rattle.record_store.specs.Inside.{item_of, old_of, IsKept, AreKept, taken, row_weight}
 

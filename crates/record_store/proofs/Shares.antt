@@ -9,12 +9,12 @@ use Rattle.kube_meta.specs.declared.limits.Limits.{Limits}
 use Rattle.record_region.specs.Chunks.{chunks_of}
 use Rattle.record_region.specs.Laws.{piece_at-set_other, piece_at-set_same, live-put, live_within, used-set}
 use Rattle.record_region.specs.Places.{Places, piece_at, bytes_in, bytes_at, chunks_in, used}
-use Rattle.record_index.specs.ByKey.{find, put, without}
-use Rattle.record_index.specs.Rows.{row_key}
-use Rattle.record_index.specs.declared.row.Row.{Row}
-use Rattle.record_window.specs.declared.past.Past.{Past}
-use Rattle.record_window.specs.Held.{holders, pieces_in, pieces_at, trimmed}
-use Rattle.record_window.specs.Pasts.{past_weight, rows_of}
+use Rattle.record_store.specs.ByKey.{find, put, without}
+use Rattle.record_store.specs.Rows.{row_key}
+use Rattle.record_store.specs.declared.row.Row.{Row}
+use Rattle.record_store.specs.declared.past.Past.{Past}
+use Rattle.record_store.specs.Held.{holders, pieces_in, pieces_at, trimmed}
+use Rattle.record_store.specs.Pasts.{past_weight, rows_of}
 use Rattle.record_store.specs.Inside.{item_of, old_of, IsKept, AreKept, taken, Shares}
 use Rattle.record_store.proofs.Keyed.{weights-put, weights-without, each-put, each-without, each-found, each-push}
 use Rattle.record_store.proofs.Mapped.{push-seen}

@@ -9,10 +9,10 @@ use Rattle.std.specs.Ordering.{match_ordering}
 use Rattle.kube_meta.specs.Key.{KeyView, key_cmp}
 use Rattle.kube_meta.specs.Page.{bound_after, in_namespace, listed, page_of}
 use Rattle.kube_meta.specs.Plan.{passed}
-use Rattle.record_index.specs.ByKey.{put}
-use Rattle.record_index.specs.Rows.{row_key}
-use Rattle.record_index.specs.declared.row.Row.{Row}
-use Rattle.record_window.specs.declared.past.Past.{Past}
+use Rattle.record_store.specs.ByKey.{put}
+use Rattle.record_store.specs.Rows.{row_key}
+use Rattle.record_store.specs.declared.row.Row.{Row}
+use Rattle.record_store.specs.declared.past.Past.{Past}
 use Rattle.record_store.specs.declared.page.Pick.{Pick}
 use Rattle.record_store.specs.View.{Item}
 use Rattle.record_store.specs.Picked.{pick_row, pick_key, rows_in, standing, stood, superseded, merge_into, merged}

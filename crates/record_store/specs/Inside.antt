@@ -5,11 +5,11 @@ use Rattle.kube_meta.specs.Window.{weights, fits, RisesFrom}
 use Rattle.kube_meta.specs.declared.limits.Limits.{Limits}
 use Rattle.record_region.specs.Chunks.{chunks_of}
 use Rattle.record_region.specs.Places.{Places, bytes_at, IsLive, used}
-use Rattle.record_index.specs.Rows.{Rows}
-use Rattle.record_index.specs.declared.row.Row.{Row}
-use Rattle.record_window.specs.Held.{holders, pieces_at}
-use Rattle.record_window.specs.Pasts.{Pasts, past_by, past_weight, rows_of}
-use Rattle.record_window.specs.declared.past.Past.{Past}
+use Rattle.record_store.specs.Rows.{Rows}
+use Rattle.record_store.specs.declared.row.Row.{Row}
+use Rattle.record_store.specs.Held.{holders, pieces_at}
+use Rattle.record_store.specs.Pasts.{Pasts, past_by, past_weight, rows_of}
+use Rattle.record_store.specs.declared.past.Past.{Past}
 use Rattle.record_store.specs.View.{Item, Old, StoreView}
 
 -- a row, with the text of its piece

@@ -1,3 +1,7 @@
+pub mod ByKey
+pub mod Rows
+pub mod Pasts
+pub mod Held
 pub mod View
 pub mod Moves
 pub mod Room
@@ -5,3 +9,4 @@ pub mod Inside
 pub mod Picked
 pub mod Copies
 pub mod Standing
+pub mod Keeping

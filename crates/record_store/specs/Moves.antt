@@ -2,7 +2,7 @@
 use Rattle.std.specs.Prelude.{ℕ, [], ◌∷◌, ◌++◌, Option, None, Some}
 use Rattle.kube_meta.specs.Key.{KeyView}
 use Rattle.kube_meta.specs.Window.{floor_from, newest}
-use Rattle.record_index.specs.ByKey.{find, put, without}
+use Rattle.record_store.specs.ByKey.{find, put, without}
 use Rattle.record_store.specs.View.{Item, Old, StoreView, item_key, old_by, old_weight}
 use Rattle.record_store.specs.declared.record.NewRecord.{NewRecord}
 

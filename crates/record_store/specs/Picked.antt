@@ -2,10 +2,10 @@
 use Rattle.std.specs.Prelude.{ℕ, Bool, ◌&&◌, List, [], ◌∷◌, map, filter, nat_le, nat_lt, if◌then◌else◌}
 use Rattle.std.specs.Ordering.{match_ordering}
 use Rattle.kube_meta.specs.Key.{KeyView, key_cmp}
-use Rattle.record_index.specs.ByKey.{put}
-use Rattle.record_index.specs.Rows.{row_key}
-use Rattle.record_index.specs.declared.row.Row.{Row}
-use Rattle.record_window.specs.declared.past.Past.{Past}
+use Rattle.record_store.specs.ByKey.{put}
+use Rattle.record_store.specs.Rows.{row_key}
+use Rattle.record_store.specs.declared.row.Row.{Row}
+use Rattle.record_store.specs.declared.past.Past.{Past}
 use Rattle.record_store.specs.declared.page.Pick.{Pick}
 
 abbrev pub pick_row : Pick → Row

@@ -1,7 +1,7 @@
 -- At which of some versions a record stands. What is said of records is said of anything that has a version and a key.
 use Rattle.std.specs.Prelude.{ℕ, List, [], ◌∷◌, Option, None, Some, nat_eq, if◌then◌else◌}
 use Rattle.kube_meta.specs.Key.{KeyView}
-use Rattle.record_index.specs.declared.row.Row.{Row}
+use Rattle.record_store.specs.declared.row.Row.{Row}
 use Rattle.record_store.specs.View.{Item}
 
 abbrev pub item_at : Item → ℕ

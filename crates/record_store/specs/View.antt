@@ -4,8 +4,8 @@ use Rattle.std.specs.List.{AllByRecursion as Each}
 use Rattle.kube_meta.specs.Key.{KeyView}
 use Rattle.kube_meta.specs.Window.{weights, fits, RisesFrom}
 use Rattle.kube_meta.specs.declared.limits.Limits.{Limits}
-use Rattle.record_index.specs.ByKey.{KeysRise, put}
-use Rattle.record_index.specs.declared.row.Record.{Record}
+use Rattle.record_store.specs.ByKey.{KeysRise, put}
+use Rattle.record_store.specs.declared.row.Record.{Record}
 
 -- a record with its text: the version at which it is stored, the number of its last write, that of its creation, and its weight in chunks
 pub record Item : Type 0 where

@@ -1,10 +1,10 @@
 //! At which of some versions a row's record stands.
 ghost use Rattle.std.specs.Prelude.{◌≡◌, ◌<◌, IfSome, length, nat_eq, position};
-ghost use Rattle.record_index.specs.Rows.{row_key};
+ghost use Rattle.record_store.specs.Rows.{row_key};
 ghost use Rattle.record_store.specs.Standing.{first_held, row_at};
 
+use crate::row::Row;
 use kube_meta::KeySpot;
-use record_index::Row;
 
 fn place_of(versions: &[u8], v: u8) -> Option<usize>
     ensures place { result ≡ position (λ x. nat_eq x v) versions.now }

@@ -2,20 +2,22 @@
 ghost use Rattle.std.specs.Prelude.{◌≡◌, ◌≢◌, ◌<◌, ◌≤◌, ◌++◌, ◌&&◌, ℕ, List, [], ◌∷◌, IfOk, OnOk, drop, length, map, if◌then◌else◌, nat_le, not, option_copied};
 ghost use Rattle.kube_meta.specs.Page.{bound_after, in_namespace, listed};
 ghost use Rattle.kube_meta.specs.Plan.{passed};
-ghost use Rattle.record_index.specs.ByKey.{KeysRise, put};
-ghost use Rattle.record_index.specs.Rows.{row_key};
-ghost use Rattle.record_index.specs.declared.row.Row.{Row as RowView};
+ghost use Rattle.record_store.specs.ByKey.{KeysRise, put};
+ghost use Rattle.record_store.specs.Rows.{row_key};
+ghost use Rattle.record_store.specs.declared.row.Row.{Row as RowView};
 ghost use Rattle.record_store.specs.Copies.{copied};
 ghost use Rattle.record_store.specs.Inside.{AreKept, IsKept, item_of};
 ghost use Rattle.record_store.specs.Picked.{merge_into, merged, pick_key, rows_in, standing, stood, superseded};
 
+use crate::lookup::{Keyed, seek};
+use crate::past::Past;
 use crate::record::StoredRecord;
+use crate::row::Row;
 use crate::text::copy_text;
+use crate::window::Window;
 use kj_value::NoMemory;
 use kube_meta::Key;
-use record_index::{Keyed, Row, seek};
 use record_region::Region;
-use record_window::{Past, Window};
 use std::alloc::Global;
 use std::cmp::Ordering;
 

@@ -1,9 +1,9 @@
 //! Records that go into a store and come out of it.
 ghost use Rattle.std.specs.Prelude.{◌≡◌, length};
 
+use crate::row::Record;
 use kj_value::Txt;
 use kube_meta::Key;
-use record_index::Record;
 
 /// A record to be written: its key, the version of its text, and the chunks of 256 bytes that are kept
 /// for it.

@@ -4,21 +4,24 @@ ghost use Rattle.std.specs.Option.{ForSome};
 ghost use Rattle.kube_meta.specs.Page.{bound_after, listed, page_of};
 ghost use Rattle.kube_meta.specs.Plan.{passed};
 ghost use Rattle.kube_meta.specs.Window.{weights};
-ghost use Rattle.record_index.specs.ByKey.{find, place as place_of};
+ghost use Rattle.record_store.specs.ByKey.{find, place as place_of};
 ghost use Rattle.record_store.specs.Copies.{ShowsCopies};
 ghost use Rattle.record_store.specs.Standing.{first_held, item_at};
 ghost use Rattle.record_store.specs.View.{IsStore, item_key, item_weight, items_at, record_of};
 
 use crate::answer::PutEnd;
 use crate::held_versions::first_among;
+use crate::index::Index;
+use crate::lookup::seek;
 use crate::page::{copies, listed, shown, superseded};
+use crate::past::Past;
 use crate::record::{NewRecord, StorePage};
+use crate::row::{Record, Row};
 use crate::text::copy_text;
+use crate::window::Window;
 use kj_value::{NoMemory, Txt};
 use kube_meta::{Key, KeySpot, Limits, Room, RoomKind};
-use record_index::{Index, Record, Row, seek};
 use record_region::{Piece, Region};
-use record_window::{Past, Window};
 use std::alloc::Global;
 use std::marker::Model;
 

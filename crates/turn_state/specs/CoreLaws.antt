@@ -2,7 +2,7 @@
 use Rattle.std.specs.Prelude.{◌≡◌, ◌≢◌, ℕ, List, ◌++◌, Option, None, Some, IsTrue, option_map}
 use Rattle.std.proofs.Common.{refl, ap, sym, ◌∙◌, subst}
 use Rattle.kube_meta.specs.Key.{KeyView}
-use Rattle.record_index.specs.ByKey.{find as find_record}
+use Rattle.record_store.specs.ByKey.{find as find_record}
 use Rattle.record_store.specs.View.{Item as RecordItem, item_key}
 use Rattle.migrate_core.specs.declared.records.Row.{Row}
 use Rattle.migrate_core.specs.Rows as rows

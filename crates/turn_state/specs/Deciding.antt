@@ -3,8 +3,8 @@ use Rattle.std.proofs.Common.{◌≡◌, ℕ, List, [], ◌∷◌, ◌++◌, Opt
 use Rattle.std.specs.Prelude.{not, option_map, nat_eq, if◌then◌else◌}
 use Rattle.std.proofs.lemmas.Bool.Decides.{nat_tests}
 use Rattle.kube_meta.specs.Key.{KeyView}
-use Rattle.record_index.specs.declared.row.Record.{Record}
-use Rattle.record_index.specs.ByKey.{find as find_record}
+use Rattle.record_store.specs.declared.row.Record.{Record}
+use Rattle.record_store.specs.ByKey.{find as find_record}
 use Rattle.record_store.specs.View.{Item as RecordItem, item_key, record_of}
 use Rattle.record_store.specs.Room.{unless_full}
 use Rattle.record_store.specs.declared.answer.PutEnd.TheVariants.{Done, Present, Gone, Moved, Full}

@@ -4,7 +4,7 @@ use Rattle.kube_meta.specs.Key.{KeyView}
 use Rattle.kube_meta.specs.Plan.{Plan}
 use Rattle.kube_meta.specs.declared.limits.Limits.{Limits}
 use Rattle.kube_meta.specs.WindowPairs.{AllPair}
-use Rattle.record_index.specs.ByKey.{find as find_record, put as put_record}
+use Rattle.record_store.specs.ByKey.{find as find_record, put as put_record}
 use Rattle.record_store.specs.View.{Item as RecordItem, StoreView, item_key}
 use Rattle.record_store.specs.Moves.{replaced, with_new, new_item, removed, removed_found}
 use Rattle.record_store.specs.declared.record.NewRecord.{NewRecord}

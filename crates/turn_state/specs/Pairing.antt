@@ -9,8 +9,8 @@ use Rattle.kube_meta.specs.WindowPairs.{AllPair}
 use Rattle.kube_meta.specs.declared.limits.Limits.{Limits}
 use Rattle.kube_meta.specs.declared.limits.Room.{Room}
 use Rattle.kube_meta.specs.declared.limits.RoomKind.TheVariants.{Objects, Chunks}
-use Rattle.record_index.specs.declared.row.Record.{Record}
-use Rattle.record_index.specs.ByKey.{find as find_record, put as put_record, without as without_record}
+use Rattle.record_store.specs.declared.row.Record.{Record}
+use Rattle.record_store.specs.ByKey.{find as find_record, put as put_record, without as without_record}
 use Rattle.record_store.specs.View.{Item as RecordItem, StoreView, item_key, item_weight, record_of}
 use Rattle.record_store.specs.Room as store
 use Rattle.api_calls.specs.Meaning.{Meaning}

@@ -2,8 +2,8 @@
 use Rattle.std.proofs.Common.{◌≡◌, ℕ, ◌+◌, List, None, Some, true, false, ap, sym, subst, refl, ◌∙◌}
 use Rattle.std.specs.Prelude.{option_map}
 use Rattle.kube_meta.specs.Key.{KeyView}
-use Rattle.record_index.specs.declared.row.Record.{Record}
-use Rattle.record_index.specs.ByKey.{find as find_record}
+use Rattle.record_store.specs.declared.row.Record.{Record}
+use Rattle.record_store.specs.ByKey.{find as find_record}
 use Rattle.record_store.specs.View.{StoreView, item_key, record_of}
 use Rattle.record_store.specs.Moves.{removed}
 use Rattle.api_calls.specs.Meaning.{Meaning}

@@ -4,8 +4,8 @@ use Rattle.std.specs.Prelude.{option_map, nat_eq, if◌then◌else◌}
 use Rattle.kube_meta.specs.Key.{KeyView}
 use Rattle.kube_meta.specs.View.{ObjectView}
 use Rattle.kube_meta.specs.declared.limits.Room.{Room}
-use Rattle.record_index.specs.declared.row.Record.{Record}
-use Rattle.record_index.specs.ByKey.{find as find_record}
+use Rattle.record_store.specs.declared.row.Record.{Record}
+use Rattle.record_store.specs.ByKey.{find as find_record}
 use Rattle.record_store.specs.View.{Item as RecordItem, StoreView, item_key, record_of}
 use Rattle.record_store.specs.Moves.{new_item, with_new}
 use Rattle.record_store.specs.Room.{put_end, touch_end, unless_full}

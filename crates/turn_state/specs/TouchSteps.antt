@@ -5,7 +5,7 @@ use Rattle.std.proofs.lemmas.Bool.Decides.{nat_tests}
 use Rattle.kube_meta.specs.Key.{KeyView}
 use Rattle.kube_meta.specs.View.{ObjectView}
 use Rattle.kube_meta.specs.Plan.{in_span, pass_key}
-use Rattle.record_index.specs.ByKey.{find as find_record}
+use Rattle.record_store.specs.ByKey.{find as find_record}
 use Rattle.record_store.specs.View.{Item as RecordItem, StoreView, item_key}
 use Rattle.record_store.specs.Moves.{new_item, with_new}
 use Rattle.record_store.specs.Room.{touch_end, is_done}

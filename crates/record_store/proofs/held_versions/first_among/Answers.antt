@@ -1,8 +1,8 @@
 use Rattle.std.proofs.Common.{◌≡◌, ◌≤◌, ◌<◌, ◌∙◌, sym, length, take, arith, rules, nat_eq, position, Some, None, List}
 use Rattle.std.proofs.lemmas.List.{at_drop_all, length-take}
 use Rattle.std.specs.Option.{option_or}
-use Rattle.record_index.specs.Rows.{row_key}
-use Rattle.record_index.specs.declared.row.Row.{Row}
+use Rattle.record_store.specs.Rows.{row_key}
+use Rattle.record_store.specs.declared.row.Row.{Row}
 use Rattle.record_store.specs.Standing.{first_held, row_at}
 use Rattle.record_store.proofs.Standings.{held-turn_found, held-turn_none, held-nothing}
 use Rattle.record_store.proofs.held_versions.first_among.Goals as goal

@@ -1,6 +1,6 @@
 use Rattle.std.proofs.Common.{◌≡◌, ◌≤◌, length, take, drop}
 use Rattle.std.specs.Option.{option_or}
-use Rattle.record_index.specs.Rows.{row_key}
+use Rattle.record_store.specs.Rows.{row_key}
 use Rattle.record_store.specs.Standing.{first_held, row_at}
 use Rattle.record_store.proofs.held_versions.first_among.Given as goal
 

@@ -1,8 +1,8 @@
 use Rattle.std.proofs.Common.{◌≡◌, ◌++◌, List, drop}
 use Rattle.std.specs.Prelude.{option_copied}
 use Rattle.kube_meta.specs.Page.{listed}
-use Rattle.record_index.specs.Rows.{row_key}
-use Rattle.record_index.specs.declared.row.Row.{Row}
+use Rattle.record_store.specs.Rows.{row_key}
+use Rattle.record_store.specs.declared.row.Row.{Row}
 use Rattle.record_store.specs.Picked.{merge_into, rows_in}
 use Rattle.record_store.proofs.page.merge.Given as goal
 

@@ -1,8 +1,8 @@
 use Rattle.std.proofs.Common.{sym, ap, List, ◌++◌, ◌∙◌}
 use Rattle.std.specs.Prelude.{option_copied, drop}
 use Rattle.kube_meta.specs.Page.{listed}
-use Rattle.record_index.specs.Rows.{row_key}
-use Rattle.record_index.specs.declared.row.Row.{Row}
+use Rattle.record_store.specs.Rows.{row_key}
+use Rattle.record_store.specs.declared.row.Row.{Row}
 use Rattle.record_store.specs.Picked.{rows_in, merged, standing}
 use Rattle.record_store.proofs.Steps.{standing_in, standing_out}
 use Rattle.record_store.proofs.page.merge_standing.Goals as goal

@@ -1,5 +1,5 @@
 use Rattle.std.proofs.Common.{List, map, sym, subst, ◌∙◌, refl, arith}
-use Rattle.record_index.specs.ByKey.{KeysRise}
+use Rattle.record_store.specs.ByKey.{KeysRise}
 use Rattle.record_store.specs.declared.page.Pick.{Pick}
 use Rattle.record_store.specs.Picked.{pick_key}
 use Rattle.record_store.proofs.Sorted.{hit_of, miss_of, rise-put}

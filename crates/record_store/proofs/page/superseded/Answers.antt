@@ -1,6 +1,6 @@
 use Rattle.std.proofs.Common.{◌-◌, Option, ap, sym, ◌∙◌, arith, Bor}
 use Rattle.std.specs.Prelude.{option_copied}
-use Rattle.record_window.specs.declared.past.Past.{Past}
+use Rattle.record_store.specs.declared.past.Past.{Past}
 use Rattle.record_store.proofs.Steps.{get_some, older}
 use Rattle.record_store.proofs.page.superseded.Goals as goal
 

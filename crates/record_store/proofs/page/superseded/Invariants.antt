@@ -1,5 +1,5 @@
 use Rattle.std.proofs.Common.{◌≡◌, ◌≤◌, length, map, drop}
-use Rattle.record_index.specs.ByKey.{KeysRise}
+use Rattle.record_store.specs.ByKey.{KeysRise}
 use Rattle.record_store.specs.Picked.{pick_key, rows_in, superseded}
 use Rattle.record_store.proofs.page.superseded.Given as goal
 

@@ -1,5 +1,5 @@
 use Rattle.std.proofs.Common.{◌+◌, ◌∙◌, sym, ap, Some}
-use Rattle.record_index.specs.ByKey.{find}
+use Rattle.record_store.specs.ByKey.{find}
 use Rattle.record_store.specs.View.{item_key}
 use Rattle.record_store.specs.Moves.{with_new}
 use Rattle.record_store.specs.Room.{put_end}

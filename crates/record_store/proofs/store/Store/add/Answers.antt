@@ -2,10 +2,10 @@ use Rattle.std.proofs.Common.{◌≡◌, ◌+◌, ℕ, List, length, Some, ap, r
 use Rattle.std.specs.Prelude.{slice_set, IsUtf8}
 use Rattle.kube_meta.specs.Window.{weights}
 use Rattle.record_region.specs.Places.{Places}
-use Rattle.record_index.specs.Rows.{Rows}
-use Rattle.record_index.specs.declared.row.Row.{Row}
+use Rattle.record_store.specs.Rows.{Rows}
+use Rattle.record_store.specs.declared.row.Row.{Row}
 use Rattle.record_store.specs.View.{StoreView, item_key, item_weight}
-use Rattle.record_index.specs.ByKey.{find}
+use Rattle.record_store.specs.ByKey.{find}
 use Rattle.record_store.specs.Moves.{added}
 use Rattle.record_store.proofs.Pieces.{chunks-within}
 use Rattle.record_store.proofs.Changes.{Changed, live-seen, spare-enough, fresh-row, addition}

@@ -1,6 +1,6 @@
 use Rattle.std.proofs.Common.{map, subst, sym, ap, ◌∙◌}
-use Rattle.record_index.specs.ByKey.{find}
-use Rattle.record_index.specs.ByKey.{place as place_of}
+use Rattle.record_store.specs.ByKey.{find}
+use Rattle.record_store.specs.ByKey.{place as place_of}
 use Rattle.record_store.specs.View.{StoreView, IsStore, item_key}
 use Rattle.record_store.proofs.Answered.{Ready}
 use Rattle.record_store.proofs.Changes.{is-store}

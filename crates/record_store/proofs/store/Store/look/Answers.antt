@@ -1,7 +1,7 @@
 use Rattle.std.proofs.Common.{Option, Some, None, ap, sym, ◌∙◌, Bor}
 use Rattle.std.specs.Prelude.{option_copied, option_map}
-use Rattle.record_index.specs.ByKey.{find}
-use Rattle.record_index.specs.declared.row.Row.{Row}
+use Rattle.record_store.specs.ByKey.{find}
+use Rattle.record_store.specs.declared.row.Row.{Row}
 use Rattle.record_store.specs.View.{StoreView, item_key, record_of}
 use Rattle.record_store.proofs.Answered.{looked}
 use Rattle.record_store.proofs.store.Store.look.Goals as goal

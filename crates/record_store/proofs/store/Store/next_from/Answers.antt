@@ -3,8 +3,8 @@ use Rattle.std.specs.Prelude.{option_copied, option_map, find as first}
 use Rattle.kube_meta.specs.Key.{KeyView}
 use Rattle.kube_meta.specs.Page.{bound_after}
 use Rattle.kube_meta.specs.Plan.{passed}
-use Rattle.record_index.specs.declared.row.Row.{Row}
-use Rattle.record_index.specs.declared.row.Record.{Record}
+use Rattle.record_store.specs.declared.row.Row.{Row}
+use Rattle.record_store.specs.declared.row.Record.{Record}
 use Rattle.record_store.specs.View.{StoreView}
 use Rattle.record_store.proofs.Answered.{nexted, told_item}
 use Rattle.record_store.proofs.store.Store.next_from.Goals as goal

@@ -1,7 +1,7 @@
 use Rattle.std.proofs.Common.{[], subst, sym}
 use Rattle.record_region.specs.Places.{Places}
-use Rattle.record_index.specs.Rows.{Rows}
-use Rattle.record_window.specs.Pasts.{Pasts}
+use Rattle.record_store.specs.Rows.{Rows}
+use Rattle.record_store.specs.Pasts.{Pasts}
 use Rattle.record_store.specs.Inside.{IsSoundStore}
 use Rattle.record_store.proofs.Opened.{opened}
 use Rattle.record_store.proofs.store.Store.open.Goals as goal

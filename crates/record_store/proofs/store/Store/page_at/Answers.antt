@@ -1,8 +1,8 @@
 use Rattle.std.proofs.Common.{◌≡◌, ◌≤◌, ◌-◌, ℕ, List, length, ap, ap₂, sym, subst, ◌∙◌, arith}
 use Rattle.std.specs.Prelude.{option_copied, take, map}
 use Rattle.kube_meta.specs.Page.{listed, page_of}
-use Rattle.record_index.specs.Rows.{row_key}
-use Rattle.record_index.specs.declared.row.Row.{Row}
+use Rattle.record_store.specs.Rows.{row_key}
+use Rattle.record_store.specs.declared.row.Row.{Row}
 use Rattle.record_store.specs.View.{Item, StoreView, item_key, items_at}
 use Rattle.record_store.specs.Inside.{AreKept, IsKept, item_of}
 use Rattle.record_store.specs.declared.page.Pick.{Pick}

@@ -1,5 +1,5 @@
 use Rattle.std.proofs.Common.{sym, ◌∙◌}
-use Rattle.record_index.specs.ByKey.{find}
+use Rattle.record_store.specs.ByKey.{find}
 use Rattle.record_store.specs.View.{item_key}
 use Rattle.record_store.proofs.Answered.{done_room}
 use Rattle.record_store.proofs.store.Store.put_if.Goals as goal

@@ -1,8 +1,8 @@
 use Rattle.std.proofs.Common.{Option, Some, None, List, ℕ, ap, sym, ◌∙◌, Bor}
 use Rattle.std.specs.Prelude.{option_copied, option_map}
-use Rattle.record_index.specs.ByKey.{find}
-use Rattle.record_index.specs.Rows.{row_key}
-use Rattle.record_index.specs.declared.row.Row.{Row}
+use Rattle.record_store.specs.ByKey.{find}
+use Rattle.record_store.specs.Rows.{row_key}
+use Rattle.record_store.specs.declared.row.Row.{Row}
 use Rattle.record_store.specs.Inside.{IsKept}
 use Rattle.record_store.specs.View.{StoreView, Item, item_key}
 use Rattle.record_store.proofs.Keyed.{each-found}

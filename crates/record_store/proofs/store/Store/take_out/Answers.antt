@@ -1,10 +1,10 @@
 use Rattle.std.proofs.Common.{◌≡◌, ◌<◌, Some, None, ap, sym, subst, ◌∙◌, arith}
 use Rattle.std.specs.Prelude.{option_map}
 use Rattle.kube_meta.specs.WindowLaws.{fits-bounds}
-use Rattle.record_index.specs.ByKey.{find}
-use Rattle.record_index.specs.Rows.{row_key}
-use Rattle.record_window.specs.Held.{holders}
-use Rattle.record_window.specs.Pasts.{Pasts, past_by, past_weight, rows_of}
+use Rattle.record_store.specs.ByKey.{find}
+use Rattle.record_store.specs.Rows.{row_key}
+use Rattle.record_store.specs.Held.{holders}
+use Rattle.record_store.specs.Pasts.{Pasts, past_by, past_weight, rows_of}
 use Rattle.record_store.specs.View.{StoreView, IsStore, item_key, record_of}
 use Rattle.record_store.specs.Moves.{removed}
 use Rattle.record_store.specs.Inside.{row_weight}

@@ -2,13 +2,13 @@ use Rattle.std.proofs.Common.{◌≡◌, ◌+◌, ◌-◌, ◌<◌, ℕ, List, O
 use Rattle.std.specs.Prelude.{option_map, slice_set, IsUtf8}
 use Rattle.kube_meta.specs.WindowLaws.{fits-bounds}
 use Rattle.record_region.specs.Places.{Places}
-use Rattle.record_index.specs.ByKey.{KeysRise, find, put}
-use Rattle.record_index.specs.ByKey.{place as place_of}
-use Rattle.record_index.specs.Rows.{Rows, row_key}
-use Rattle.record_index.specs.declared.row.Row.{Row}
-use Rattle.record_index.specs.declared.row.Record.{Record}
-use Rattle.record_window.specs.Held.{holders}
-use Rattle.record_window.specs.Pasts.{Pasts, past_by, past_weight, rows_of}
+use Rattle.record_store.specs.ByKey.{KeysRise, find, put}
+use Rattle.record_store.specs.ByKey.{place as place_of}
+use Rattle.record_store.specs.Rows.{Rows, row_key}
+use Rattle.record_store.specs.declared.row.Row.{Row}
+use Rattle.record_store.specs.declared.row.Record.{Record}
+use Rattle.record_store.specs.Held.{holders}
+use Rattle.record_store.specs.Pasts.{Pasts, past_by, past_weight, rows_of}
 use Rattle.record_store.specs.View.{Item, StoreView, item_key}
 use Rattle.record_store.specs.Moves.{added, born_of, removed, with_new}
 use Rattle.record_store.specs.Room.{HasRoom}

@@ -1,4 +1,0 @@
-pub mod Rising
-pub mod Rebuilt
-pub mod Members
-pub mod Pairs
