@@ -6,12 +6,12 @@ use Rattle.migrate_core.specs.Moves as moves
 use Rattle.migrate_core.specs.Rows.{elsewhere}
 use Rattle.migrate_core.specs.declared.records.Row.{Row}
 use Rattle.migrate_core.specs.declared.ends.Advance.TheVariants as advance
-use Rattle.turn_state.specs.declared.ends.TurnEnd.{TurnEnd}
-use Rattle.turn_state.specs.declared.ends.TurnEnd.TheVariants as turn
-use Rattle.turn_state.specs.Steps.{item_row}
-use Rattle.turn_state.specs.View.{CoreView}
-use Rattle.turn_state.specs.Changes.{after_turn}
-use Rattle.api_core.specs.View.{CoreOf}
+use Rattle.api_core.specs.declared.ends.TurnEnd.{TurnEnd}
+use Rattle.api_core.specs.declared.ends.TurnEnd.TheVariants as turn
+use Rattle.api_core.specs.Steps.{item_row}
+use Rattle.api_core.specs.View.{CoreView}
+use Rattle.api_core.specs.Changes.{after_turn}
+use Rattle.api_core.specs.CoreOf.{CoreOf}
 
 -- one that tells that the claim is lost had none
 lost : (o : Option moves.Work) (rows : List Row) → advance.Lost ≡ moves.advance_end o rows → o ≡ None

@@ -4,7 +4,7 @@ use Rattle.std.proofs.lemmas.List.Elements.{All-nil, All-cons}
 use Rattle.std.specs.List.{IsDistinct}
 use Rattle.api_calls.specs.Versions.{AreFlags, AreVersions}
 use Rattle.api_calls.specs.declared.flags.Flags.{Flags}
-use Rattle.api_core.specs.View.{IsCore}
+use Rattle.api_core.specs.CoreOf.{IsCore}
 
 only : (count v : ℕ) → v < count → AreVersions count (v ∷ [])
 unfolding IsDistinct

@@ -17,12 +17,12 @@ use Rattle.api_calls.specs.Snap.{Past, floor, page_at, window}
 use Rattle.api_calls.specs.Pages.{Place, PageEnd, shown, unserved, ahead, expired, place_page, page_decision}
 use Rattle.record_store.specs.Keeping.{ArePagesOfOne, IsSame, IsSamePast}
 use Rattle.record_store.specs.Keeping.{KeepsHistory}
-use Rattle.turn_state.specs.declared.pages.Page.{Page}
-use Rattle.turn_state.specs.View.{CoreView}
-use Rattle.turn_state.specs.Keeps.{IsText, KeepsObject, KeepsPast}
-use Rattle.turn_state.specs.Stands.{Stands}
-use Rattle.turn_state.specs.Pages.{IsPageOf, KeepsPage, ShowsPage}
-use Rattle.api_core.specs.View.{CoreOf, StandsFor}
+use Rattle.api_core.specs.declared.page_ends.Page.{Page}
+use Rattle.api_core.specs.View.{CoreView}
+use Rattle.api_core.specs.Keeps.{IsText, KeepsObject, KeepsPast}
+use Rattle.api_core.specs.Stands.{Stands}
+use Rattle.api_core.specs.Pages.{IsPageOf, KeepsPage, ShowsPage}
+use Rattle.api_core.specs.CoreOf.{CoreOf, StandsFor}
 
 not_below : (a b : ℕ) → b ≤ a → nat_lt a b ≡ false
 not_below a b h = grind (arith, nat_tests)

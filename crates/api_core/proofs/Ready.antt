@@ -1,7 +1,7 @@
 -- What was handed in, where something was.
 use Rattle.std.proofs.Common.{◌≡◌, Option, None, Some, subst}
 use Rattle.std.specs.Prelude.{IfSome}
-use Rattle.turn_state.specs.declared.seen.Prepared.{Prepared}
+use Rattle.api_core.specs.declared.seen.Prepared.{Prepared}
 
 pub one_some : (o : Option Prepared) (p q : Prepared) → o ≡ Some p → o ≡ Some q → p ≡ q
 one_some o p q a b = cc

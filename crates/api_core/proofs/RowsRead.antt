@@ -8,7 +8,7 @@ use Rattle.record_store.specs.declared.row.Record.{Record}
 use Rattle.record_store.specs.View.{Item, item_key, record_of}
 use Rattle.migrate_core.specs.declared.records.Row.{Row}
 use Rattle.migrate_core.specs.Rows as rows
-use Rattle.turn_state.specs.Steps.{item_row}
+use Rattle.api_core.specs.Steps.{item_row}
 
 pub rows-rise : (xs : List Item) → by_key.KeysRise (map item_key xs) → rows.KeysRise (rows.keys (map item_row xs))
 rows-rise [] h = tt

@@ -21,12 +21,12 @@ use Rattle.api_calls.specs.Laws.{IsSoundState}
 use Rattle.api_calls.specs.Ends as ends
 use Rattle.api_calls.specs.Ends.{EndsAsDecided, bound}
 use Rattle.api_calls.specs.Settings.{same_flags, set_decision, first_unknown, trim_decision, start_decision}
-use Rattle.turn_state.specs.Sets.{Decided, start-decided}
-use Rattle.turn_state.specs.Steps.{migrations-stand}
-use Rattle.turn_state.specs.StoredLists.{room-joined, are_versions-joined, are_versions-filter}
-use Rattle.turn_state.specs.Trims.{unkept, until, held_from}
-use Rattle.turn_state.specs.SettingSteps.{set-entered, trim-held_end, trim-unchanged, trim-entered, start-entered}
-use Rattle.api_core.specs.View.{CoreOf, StandsFor, IsCore}
+use Rattle.api_core.specs.Sets.{Decided, start-decided}
+use Rattle.api_core.specs.Steps.{migrations-stand}
+use Rattle.api_core.specs.StoredLists.{room-joined, are_versions-joined, are_versions-filter}
+use Rattle.api_core.specs.Trims.{unkept, until, held_from}
+use Rattle.api_core.specs.SettingSteps.{set-entered, trim-held_end, trim-unchanged, trim-entered, start-entered}
+use Rattle.api_core.specs.CoreOf.{CoreOf, StandsFor, IsCore}
 
 -- a core by its parts
 abbrev pub shown : {V : Type 0} → V → Limits → ℕ → Flags → StoredList → ℕ → StoreView → MigrationsView → CoreOf V

@@ -9,7 +9,7 @@ impl<V: Versions> Means for Core<V> {
 }
 
 impl<V: Versions> Texts for Core<V> {
-    ghost use Rattle.turn_state.specs.Keeps.{IsText};
+    ghost use Rattle.api_core.specs.Keeps.{IsText};
 
     ghost text = { λ c e bytes. IsText (V.meaning c.versions) e.at e.h bytes };
 }

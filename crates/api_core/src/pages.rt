@@ -5,18 +5,19 @@ ghost use Rattle.record_store.specs.Copies.{copied};
 ghost use Rattle.record_store.specs.View.{item_key, items_at};
 ghost use Rattle.api_calls.specs.Item.{Item};
 ghost use Rattle.api_calls.specs.Pages.{page_decision};
-ghost use Rattle.turn_state.specs.Pages.{IsPageOf, RefusesPage, ShowsPage, place_of};
-ghost use Rattle.turn_state.specs.Prepared.{seen_item};
-ghost use Rattle.api_core.specs.View.{StandsFor};
+ghost use Rattle.api_core.specs.Pages.{IsPageOf, RefusesPage, ShowsPage, place_of};
+ghost use Rattle.api_core.specs.Prepared.{seen_item};
+ghost use Rattle.api_core.specs.CoreOf.{StandsFor};
 
+use crate::page_ends::{Page, PageFault, SeenItems};
 use crate::present::Core;
+use crate::seen::Seen;
 use crate::served::is_served;
 use api_calls::{Token, Versions};
 use kj_value::NoMemory;
 use kube_meta::Key;
 use record_store::{StoredRecord, page_of_history};
 use std::alloc::Global;
-use turn_state::{Page, PageFault, Seen, SeenItems};
 
 fn seen_of(stored: StoredRecord) -> Seen
     ensures { seen_item result ≡ copied stored }

@@ -5,9 +5,10 @@ ghost use Rattle.record_store.specs.ByKey.{find};
 ghost use Rattle.record_store.specs.View.{item_key};
 ghost use Rattle.api_calls.specs.Item.{Item};
 ghost use Rattle.api_calls.specs.Versions.{AreFlags, IsStoredList, versions_of};
-ghost use Rattle.turn_state.specs.Prepared.{Sees, seen_item};
-ghost use Rattle.api_core.specs.View.{StandsFor};
+ghost use Rattle.api_core.specs.Prepared.{Sees, seen_item};
+ghost use Rattle.api_core.specs.CoreOf.{StandsFor};
 
+use crate::seen::{Peeked, Seen};
 use api_calls::{Flags, StoredList, Versions};
 use kj_value::NoMemory;
 use kube_meta::{Key, Limits};
@@ -16,7 +17,6 @@ use record_store::Store;
 use std::alloc::Global;
 use std::marker::Model;
 use std::sync::Arc;
-use turn_state::{Peeked, Seen};
 
 /// The present of the server of a definition.
 #[derive(Drop)]
@@ -34,7 +34,7 @@ pub struct Core<V: Versions> {
 impl<V: Versions> Model for Core<V> {
     ghost use Rattle.std.specs.Arc.{arc_value};
     ghost use Rattle.api_calls.specs.Versions.{versions_of};
-    ghost use Rattle.api_core.specs.View.{CoreOf, IsCore};
+    ghost use Rattle.api_core.specs.CoreOf.{CoreOf, IsCore};
 
     ghost Value = { CoreOf V };
 

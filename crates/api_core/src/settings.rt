@@ -9,12 +9,13 @@ ghost use Rattle.api_calls.specs.State.{joined, state};
 ghost use Rattle.api_calls.specs.Ends.{EndsAsDecided, bound};
 ghost use Rattle.api_calls.specs.Settings.{same_flags, set_decision, start_decision, trim_decision};
 ghost use Rattle.api_calls.specs.Versions.{AreFlags, versions_of};
-ghost use Rattle.turn_state.specs.Changes.{after_set, after_start, after_trim};
-ghost use Rattle.turn_state.specs.Ends.{set_end, start_end, trim_end};
-ghost use Rattle.turn_state.specs.Trims.{held_from, until};
-ghost use Rattle.turn_state.specs.Turned.{revision_after_set, revision_after_start, revision_after_trim};
-ghost use Rattle.api_core.specs.View.{SameBase, StandsFor};
+ghost use Rattle.api_core.specs.Changes.{after_set, after_start, after_trim};
+ghost use Rattle.api_core.specs.Ends.{set_end, start_end, trim_end};
+ghost use Rattle.api_core.specs.Trims.{held_from, until};
+ghost use Rattle.api_core.specs.Turned.{revision_after_set, revision_after_start, revision_after_trim};
+ghost use Rattle.api_core.specs.CoreOf.{SameBase, StandsFor};
 
+use crate::ends::{SetEnd, TrimEnd};
 use crate::present::Core;
 use crate::stored_versions::{
     before, contains, first_outside, joined_list, kept_of, unkept_of, versions,
@@ -24,7 +25,6 @@ use api_calls::{Flags, StoredList, Versions};
 use kj_value::Txt;
 use kube_meta::KeySpot;
 use migrate_core::StartEnd;
-use turn_state::{SetEnd, TrimEnd};
 
 fn same(a: &Flags, b: &Flags) -> bool
     ensures { result ≡ same_flags a.now b.now }

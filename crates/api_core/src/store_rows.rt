@@ -13,7 +13,7 @@ pub(crate) struct StoreRows<'a> {
 
 impl Records for StoreRows<'_> {
     ghost use Rattle.std.specs.Prelude.{map};
-    ghost use Rattle.turn_state.specs.Steps.{item_row};
+    ghost use Rattle.api_core.specs.Steps.{item_row};
 
     ghost rows = { λ r. map item_row r.store.now.items };
 

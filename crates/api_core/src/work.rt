@@ -8,14 +8,16 @@ ghost use Rattle.api_calls.specs.Item.{Item};
 ghost use Rattle.api_calls.specs.State.{revision, state};
 ghost use Rattle.api_calls.specs.Ends.{EndsAsDecided, bound};
 ghost use Rattle.api_calls.specs.Work.{give_back_decision, touch_decision, turn_decision};
-ghost use Rattle.turn_state.specs.Changes.{after_give_back, after_turn};
-ghost use Rattle.turn_state.specs.Ends.{turn_end};
-ghost use Rattle.turn_state.specs.Prepared.{FitsAt, IsSized, KnownAt, PreparesValue};
-ghost use Rattle.turn_state.specs.Ready.{IfPrepare, IsNext, is_ready_item};
-ghost use Rattle.turn_state.specs.Turned.{WorkerTurned, revision_after_turn};
-ghost use Rattle.api_core.specs.View.{SameBase, StandsFor};
+ghost use Rattle.api_core.specs.Changes.{after_give_back, after_turn};
+ghost use Rattle.api_core.specs.Ends.{turn_end};
+ghost use Rattle.api_core.specs.Prepared.{FitsAt, IsSized, KnownAt, PreparesValue};
+ghost use Rattle.api_core.specs.Ready.{IfPrepare, IsNext, is_ready_item};
+ghost use Rattle.api_core.specs.Turned.{WorkerTurned, revision_after_turn};
+ghost use Rattle.api_core.specs.CoreOf.{SameBase, StandsFor};
 
+use crate::ends::TurnEnd;
 use crate::present::Core;
+use crate::seen::Prepared;
 use crate::store_rows::StoreRows;
 use api_calls::Versions;
 use api_calls::laws::finished;
@@ -24,7 +26,6 @@ use kube_meta::Key;
 use migrate_core::{Advance, MigrationItems, Worker};
 use record_store::NewRecord;
 use std::alloc::Global;
-use turn_state::{Prepared, TurnEnd};
 
 impl<V: Versions> Core<V> {
     /// A turn of a worker. Without `ready` it goes on with its claim: `Prepare` tells the first object of its range that

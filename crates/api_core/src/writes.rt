@@ -8,18 +8,19 @@ ghost use Rattle.api_calls.specs.State.{revision, state};
 ghost use Rattle.api_calls.specs.Legal.{IsNew};
 ghost use Rattle.api_calls.specs.Ends.{EndsAsDecided, bound};
 ghost use Rattle.api_calls.specs.Writes.{create_commit, delete_commit, mark_commit, release_commit, replace_commit};
-ghost use Rattle.turn_state.specs.declared.seen.Prepared.{Prepared};
-ghost use Rattle.turn_state.specs.Changes.{after_create, after_delete, after_release, after_replace};
-ghost use Rattle.turn_state.specs.Ends.{create_end, delete_end, release_end, replace_end, revision_after};
-ghost use Rattle.turn_state.specs.Prepared.{FitsAt, IsEnding, IsFree, IsSized, KnownAt, Marking, PreparesValue, Replacing};
-ghost use Rattle.api_core.specs.View.{SameBase, StandsFor};
+ghost use Rattle.api_core.specs.declared.seen.Prepared.{Prepared};
+ghost use Rattle.api_core.specs.Changes.{after_create, after_delete, after_release, after_replace};
+ghost use Rattle.api_core.specs.Ends.{create_end, delete_end, release_end, replace_end, revision_after};
+ghost use Rattle.api_core.specs.Prepared.{FitsAt, IsEnding, IsFree, IsSized, KnownAt, Marking, PreparesValue, Replacing};
+ghost use Rattle.api_core.specs.CoreOf.{SameBase, StandsFor};
 
+use crate::ends::{CreateEnd, DeleteEnd, ReleaseEnd, ReplaceEnd};
 use crate::present::Core;
+use crate::seen::Prepared;
 use crate::served::is_served;
 use api_calls::Versions;
 use kube_meta::Key;
 use record_store::{NewRecord, PutEnd};
-use turn_state::{CreateEnd, DeleteEnd, Prepared, ReleaseEnd, ReplaceEnd};
 
 // A record for the store.
 fn record_of(new: Prepared) -> NewRecord

@@ -1,10 +1,10 @@
 //! The texts of answers.
 use api_calls::StoredList;
+use api_core::{Page, Seen, SetEnd, TrimEnd, TurnEnd};
 use migrate_core::StartEnd;
 use std::alloc::Global;
 use std::fmt::Debug;
 use std::test::Fail;
-use turn_state::{Page, Seen, SetEnd, TrimEnd, TurnEnd};
 
 /// What prints itself.
 pub(crate) fn told<T: Debug>(alloc: Global, end: &T) -> Result<String, Fail> {

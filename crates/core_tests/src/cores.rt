@@ -1,17 +1,16 @@
 //! Turns of a core over a small definition, whose storage version is at place 1. The steps know of `Versions` alone, so
 //! that what the definition means stays outside their proofs.
 ghost use Rattle.std.specs.Prelude.{◌≡◌, ◌≢◌, ◌*◌, ◌^◌, ◌≤◌, ◌<◌, length, IfOk};
-ghost use Rattle.turn_state.specs.Prepared.{IsSized};
+ghost use Rattle.api_core.specs.Prepared.{IsSized};
 
 use api_calls::{Token, Versions};
-use api_core::Core;
+use api_core::{Core, CreateEnd, DeleteEnd, Page, Prepared, ReleaseEnd, ReplaceEnd};
 use kj_value::Txt;
 use kube_meta::{Key, Limits, Room, RoomKind};
 use std::alloc::Global;
 use std::process::Abort;
 use std::sync::Arc;
 use std::test::Fail;
-use turn_state::{CreateEnd, DeleteEnd, Page, Prepared, ReleaseEnd, ReplaceEnd};
 use versions_fixture::TwoNames;
 
 // A core with room for two objects in three chunks.

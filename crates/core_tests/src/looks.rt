@@ -3,12 +3,11 @@ use crate::answers::{listed, page_text, seen_text, told};
 use crate::order::Order;
 use crate::turns::key_of;
 use api_calls::{Token, Versions};
-use api_core::Core;
+use api_core::{Core, Seen};
 use kube_meta::Key;
 use std::alloc::Global;
 use std::process::Abort;
 use std::test::Fail;
-use turn_state::Seen;
 
 /// The object of a key.
 pub(crate) fn seen<V: Versions>(

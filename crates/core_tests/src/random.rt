@@ -4,14 +4,13 @@ use crate::order::Order;
 use crate::script::{Team, answered};
 use crate::turns::{key_of, opened};
 use api_calls::{StoredList, Versions};
-use api_core::Core;
+use api_core::{Core, Page, Seen};
 use kube_meta::{Condition, Limits};
 use migrate_core::MigrationItems;
 use std::alloc::{AllocError, Global};
 use std::cmp::Ordering;
 use std::process::Abort;
 use std::test::Fail;
-use turn_state::{Page, Seen};
 use versions_fixture::TwoNames;
 
 // Less room than the run asks for.

@@ -6,13 +6,12 @@ use crate::random::name_of;
 use crate::turns::{create, delete, keep, mark, opened, release, replace, start, store};
 use crate::workers::{ask, give_back, miss_gone, miss_written, work};
 use api_calls::Versions;
-use api_core::Core;
+use api_core::{Core, CreateEnd, ReplaceEnd, TurnEnd};
 use kube_meta::Limits;
 use migrate_core::Worker;
 use std::alloc::Global;
 use std::process::Abort;
 use std::test::Fail;
-use turn_state::{CreateEnd, ReplaceEnd, TurnEnd};
 use versions_fixture::TwoNames;
 
 /// Room for 64 objects of one chunk, and for as many superseded records as the program keeps.

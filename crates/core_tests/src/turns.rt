@@ -1,11 +1,11 @@
 //! Turns of clients and of whoever changes the settings. They know of `Versions` alone, so that what the definition means
 //! stays outside their proofs, and they tell their callers nothing.
 ghost use Rattle.std.specs.Prelude.{◌^◌, ◌≤◌, IfOk};
-ghost use Rattle.turn_state.specs.Prepared.{IsSized};
+ghost use Rattle.api_core.specs.Prepared.{IsSized};
 
 use crate::order::Order;
 use api_calls::{Flags, StoredList, Versions};
-use api_core::Core;
+use api_core::{Core, CreateEnd, DeleteEnd, Prepared, ReleaseEnd, ReplaceEnd, SetEnd, TrimEnd};
 use kj_value::Txt;
 use kube_meta::{Key, Limits, name_ok};
 use migrate_core::StartEnd;
@@ -13,7 +13,6 @@ use std::alloc::Global;
 use std::process::Abort;
 use std::sync::Arc;
 use std::test::Fail;
-use turn_state::{CreateEnd, DeleteEnd, Prepared, ReleaseEnd, ReplaceEnd, SetEnd, TrimEnd};
 
 /// A core that nothing has happened to.
 pub(crate) fn opened<V: Versions + Drop>(

@@ -4,18 +4,17 @@ ghost use Rattle.kube_meta.specs.Plan.{running};
 ghost use Rattle.migrate_core.specs.Moves.{work_of};
 ghost use Rattle.record_store.specs.ByKey.{find};
 ghost use Rattle.record_store.specs.View.{item_key};
-ghost use Rattle.turn_state.specs.Ready.{IfPrepare, IsNext};
+ghost use Rattle.api_core.specs.Ready.{IfPrepare, IsNext};
 
 use crate::order::Order;
 use crate::turns::{value, young};
 use api_calls::Versions;
-use api_core::Core;
+use api_core::{Core, Prepared, TurnEnd};
 use kube_meta::Key;
 use migrate_core::Worker;
 use std::alloc::Global;
 use std::process::Abort;
 use std::test::Fail;
-use turn_state::{Prepared, TurnEnd};
 
 /// The last claim's number is far from its bound.
 fn few_claims<V: Versions>(rt: &impl Abort, core: &Core<V>)

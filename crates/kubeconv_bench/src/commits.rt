@@ -1,17 +1,16 @@
 //! The core: objects of a small definition, written over one after another.
 ghost use Rattle.std.specs.Prelude.{◌≡◌, ◌+◌, ◌^◌, ◌≤◌, IfOk};
-ghost use Rattle.turn_state.specs.Prepared.{IsSized};
+ghost use Rattle.api_core.specs.Prepared.{IsSized};
 
 use crate::migrations::migrate;
 use crate::records::{TEXT, key_of};
 use crate::rounds::WorkFault;
 use api_calls::Versions;
-use api_core::Core;
+use api_core::{Core, CreateEnd, Peeked, Prepared, ReplaceEnd};
 use kj_value::Txt;
 use kube_meta::{Key, Limits};
 use std::alloc::Global;
 use std::sync::Arc;
-use turn_state::{CreateEnd, Peeked, Prepared, ReplaceEnd};
 
 /// What is done with a core of so many objects.
 #[derive(Clone, Copy, Debug, Drop, PartialEq, Eq)]

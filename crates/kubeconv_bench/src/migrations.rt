@@ -3,18 +3,17 @@ ghost use Rattle.std.specs.Prelude.{◌≡◌, ◌^◌, ◌≤◌, ◌<◌, IfOk
 ghost use Rattle.migrate_core.specs.Moves.{work_of};
 ghost use Rattle.record_store.specs.ByKey.{find};
 ghost use Rattle.record_store.specs.View.{item_key};
-ghost use Rattle.turn_state.specs.Ready.{IfPrepare, IsNext};
+ghost use Rattle.api_core.specs.Ready.{IfPrepare, IsNext};
 
 use crate::commits::{FAR, value};
 use crate::documents::add_name;
 use crate::rounds::WorkFault;
 use api_calls::{Flags, Versions};
-use api_core::Core;
+use api_core::{Core, Peeked, SetEnd, TurnEnd};
 use kj_value::Txt;
 use kube_meta::{Key, name_ok};
 use migrate_core::{StartEnd, Worker};
 use std::alloc::Global;
-use turn_state::{Peeked, SetEnd, TurnEnd};
 
 // A step of the worker: the turns that it took, and whether the migration is finished.
 #[derive(Drop)]

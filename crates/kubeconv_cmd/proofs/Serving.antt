@@ -6,7 +6,7 @@ use Rattle.std.specs.Io.KnownBytes.{prepend_known}
 use Rattle.kube_meta.specs.declared.limits.Limits.{Limits}
 use Rattle.kube_meta.specs.declared.limits.TheConstants.Limits.{STANDING}
 use Rattle.api_calls.specs.Meaning.{Meaning}
-use Rattle.api_core.specs.View.{CoreOf}
+use Rattle.api_core.specs.CoreOf.{CoreOf}
 use Rattle.crd_loading.specs.Load.{Loads}
 use Rattle.crd_loading.specs.View.{LoadedView}
 use Rattle.crd_meaning.specs.Definition.{Definition}

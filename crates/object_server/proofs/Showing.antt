@@ -11,13 +11,13 @@ use Rattle.api_calls.specs.Objects.{Stored, find}
 use Rattle.api_calls.specs.State.{served, state}
 use Rattle.api_calls.specs.Versions.{IsStored}
 use Rattle.api_calls.specs.Replies.{GetReply, IsShown, ShowsObject, code_ok}
-use Rattle.turn_state.specs.declared.seen.Seen.{Seen}
-use Rattle.turn_state.specs.declared.seen.Peeked.{Peeked}
-use Rattle.turn_state.specs.Deciding.{found-some}
-use Rattle.turn_state.specs.Keeps.{KeepsObject}
-use Rattle.turn_state.specs.Prepared.{Sees, seen_item}
-use Rattle.turn_state.specs.Stands.{Stands}
-use Rattle.turn_state.specs.View.{CoreView}
+use Rattle.api_core.specs.declared.seen.Seen.{Seen}
+use Rattle.api_core.specs.declared.seen.Peeked.{Peeked}
+use Rattle.api_core.specs.Deciding.{found-some}
+use Rattle.api_core.specs.Keeps.{KeepsObject}
+use Rattle.api_core.specs.Prepared.{Sees, seen_item}
+use Rattle.api_core.specs.Stands.{Stands}
+use Rattle.api_core.specs.View.{CoreView}
 use Rattle.object_server.proofs.Born.{born-within}
 
 -- the object that is seen

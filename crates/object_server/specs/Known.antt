@@ -8,7 +8,7 @@ use Rattle.api_calls.specs.State.{revision, state}
 use Rattle.api_calls.specs.Legal.{key_of, IsNew}
 use Rattle.api_calls.specs.Ends as ends
 use Rattle.api_calls.specs.Replies.{Answer, Creates, IsShown}
-use Rattle.turn_state.specs.Prepared.{PreparesValue}
+use Rattle.api_core.specs.Prepared.{PreparesValue}
 use Rattle.object_server.specs.Replies.{ServerBase}
 use Rattle.object_server.specs.declared.create.Ready.{Ready}
 

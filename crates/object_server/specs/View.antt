@@ -2,7 +2,7 @@
 use Rattle.std.specs.Prelude.{◌≡◌}
 use Rattle.http_wire.specs.Head.{Request}
 use Rattle.api_calls.specs.Meaning.{Meaning}
-use Rattle.api_core.specs.View.{CoreOf}
+use Rattle.api_core.specs.CoreOf.{CoreOf}
 use Rattle.object_server.specs.Replies.{ServerBase}
 use Rattle.object_server.specs.declared.asked.Asked.{Asked}
 

@@ -7,8 +7,8 @@ ghost use Rattle.api_calls.specs.Meaning.{Weighs};
 ghost use Rattle.api_calls.specs.Refusal.{RefusalView};
 ghost use Rattle.api_calls.specs.Values.{created_value};
 ghost use Rattle.api_calls.specs.Versions.{IsRequest, IsStamp, request_of};
-ghost use Rattle.api_core.specs.View.{SameBase, StandsFor};
-ghost use Rattle.turn_state.specs.Prepared.{IsSized};
+ghost use Rattle.api_core.specs.CoreOf.{SameBase, StandsFor};
+ghost use Rattle.api_core.specs.Prepared.{IsSized};
 ghost use Rattle.object_server.specs.Answered.{decided};
 ghost use Rattle.object_server.specs.Calls.{create};
 ghost use Rattle.object_server.specs.Known.{Created, MeansNew};
@@ -19,10 +19,9 @@ use crate::given::Given;
 use crate::refused::{Refused, not_admitted};
 use crate::served::is_served;
 use api_calls::{Admitted, BORN_END, ConvFault, Incoming, Refusal, Reply, Versions, one_weight};
-use api_core::Core;
+use api_core::{Core, CreateEnd, Prepared};
 use kj_value::{Stamp, Txt};
 use kube_meta::{Key, Object};
-use turn_state::{CreateEnd, Prepared};
 
 /// A value that is ready to be stored, its name, and the text that shows it.
 #[derive(Drop)]

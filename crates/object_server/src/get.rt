@@ -5,7 +5,7 @@ ghost use Rattle.kube_meta.specs.View.{ObjectView};
 ghost use Rattle.api_calls.specs.Item.{Item};
 ghost use Rattle.api_calls.specs.Replies.{IsShown, code_ok};
 ghost use Rattle.api_calls.specs.Versions.{IsStored};
-ghost use Rattle.api_core.specs.View.{StandsFor};
+ghost use Rattle.api_core.specs.CoreOf.{StandsFor};
 ghost use Rattle.object_server.specs.Answered.{decided};
 ghost use Rattle.object_server.specs.Calls.{get};
 ghost use Rattle.object_server.specs.Replies.{EndsCall};
@@ -15,10 +15,9 @@ use crate::given::Given;
 use crate::refused::Refused;
 use crate::served::is_served;
 use api_calls::{BORN_END, ConvFault, Refusal, Reply, Versions, one_stored};
-use api_core::Core;
+use api_core::{Core, Peeked, Seen};
 use kj_value::Txt;
 use kube_meta::{Key, NAME_BYTES, NAMESPACE_BYTES};
-use turn_state::{Peeked, Seen};
 
 #[tactic(auto, using(http_wire::specs::Phrases::phrases))]
 impl<V: Versions> Given<'_, V> {

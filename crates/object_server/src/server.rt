@@ -5,7 +5,7 @@ ghost use Rattle.http_wire.specs.Head.{Request};
 ghost use Rattle.http_wire.specs.Response.{HasPhrase};
 ghost use Rattle.api_calls.specs.Item.{Item};
 ghost use Rattle.api_calls.specs.Versions.{IsStamp};
-ghost use Rattle.api_core.specs.View.{SameBase, StandsFor};
+ghost use Rattle.api_core.specs.CoreOf.{SameBase, StandsFor};
 ghost use Rattle.object_server.specs.Answered.{answer_of};
 ghost use Rattle.object_server.specs.Replies.{AnswersRequest};
 ghost use Rattle.object_server.specs.View.{Asks, base_of};
@@ -35,7 +35,7 @@ pub struct Server<V: Versions> {
 impl<V: Versions> Model for Server<V> {
     ghost use Rattle.std.specs.Prelude.{◌≡◌};
     ghost use Rattle.std.specs.Arc.{arc_value};
-    ghost use Rattle.api_core.specs.View.{CoreOf};
+    ghost use Rattle.api_core.specs.CoreOf.{CoreOf};
 
     ghost Value = { CoreOf V };
 

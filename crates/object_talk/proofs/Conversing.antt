@@ -14,7 +14,7 @@ use Rattle.http_wire.specs.declared.WireFault.{WireFault}
 use Rattle.api_calls.specs.Meaning.{Meaning}
 use Rattle.api_calls.specs.Refusal.{not_found, no_resource, already_exists, conflict, invalid, bad_request, expired, full, migration_running, still_stored, converter, no_memory}
 use Rattle.api_calls.specs.Replies as decisions
-use Rattle.api_core.specs.View.{CoreOf, SameBase}
+use Rattle.api_core.specs.CoreOf.{CoreOf, SameBase}
 use Rattle.object_server.specs.Calls.{Call}
 use Rattle.object_server.specs.Replies as replies
 use Rattle.object_server.specs.View.{base_of}

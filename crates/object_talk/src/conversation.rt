@@ -8,7 +8,7 @@ ghost use Rattle.http_wire.specs.Inboxes.{LiesIn, request_at};
 ghost use Rattle.http_wire.specs.Response.{HasPhrase, says};
 ghost use Rattle.http_wire.specs.declared.limits.TheConstants.{MOST_REQUESTS};
 ghost use Rattle.api_calls.specs.Item.{Item};
-ghost use Rattle.api_core.specs.View.{SameBase, StandsFor};
+ghost use Rattle.api_core.specs.CoreOf.{SameBase, StandsFor};
 ghost use Rattle.object_server.specs.Answered.{answer_of};
 ghost use Rattle.object_server.specs.View.{base_of};
 ghost use Rattle.object_talk.specs.Answering.{AnswersInConversation};

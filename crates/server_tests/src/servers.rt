@@ -3,7 +3,7 @@
 ghost use Rattle.std.specs.Prelude.{◌≡◌, ◌+◌, ◌<◌, ◌≤◌, List, IfOk, IsTrue};
 ghost use Rattle.api_calls.specs.Item.{Item};
 ghost use Rattle.api_calls.specs.Versions.{IsStamp};
-ghost use Rattle.api_core.specs.View.{StandsFor};
+ghost use Rattle.api_core.specs.CoreOf.{StandsFor};
 
 use api_calls::{NoTool, Versions};
 use kj_value::Stamp;

@@ -3,7 +3,7 @@ use Rattle.api_calls.specs.Ends.{done, present, unserved, full}
 use Rattle.api_calls.specs.Refusal.{already_exists, no_resource}
 use Rattle.api_calls.specs.Refusal as refusal
 use Rattle.api_calls.specs.Replies.{IsShown}
-use Rattle.api_core.specs.View.{StandsFor}
+use Rattle.api_core.specs.CoreOf.{StandsFor}
 use Rattle.object_server.specs.View.{base_of}
 use Rattle.object_server.proofs.Entering.{created_by, number_of, unmoved}
 use Rattle.object_server.proofs.create.commit.Goals as goal

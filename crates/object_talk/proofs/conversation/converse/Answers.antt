@@ -1,7 +1,7 @@
 use Rattle.std.proofs.Common.{◌≡◌, ◌≤◌, [], refl, arith}
 use Rattle.std.specs.Io.KnownBytes.{prepend_known}
 use Rattle.http_wire.specs.declared.limits.TheConstants.{MOST_REQUESTS}
-use Rattle.api_core.specs.View.{StandsFor}
+use Rattle.api_core.specs.CoreOf.{StandsFor}
 use Rattle.object_talk.specs.declared.conversation.OneEnd.TheVariants as steps
 use Rattle.object_talk.proofs.Conversing.{goes_on_from, goes_on_last, goes_on_more, goes_on_to, goes_on_spent, goes_on_unread, goes_on_unwritten, same_base, steps_at}
 use Rattle.object_talk.proofs.conversation.converse.Goals as goal

@@ -2,7 +2,7 @@ use Rattle.std.proofs.Common.{◌≡◌, ℕ, ◌+◌, ◌≤◌, List, [], Some
 use Rattle.std.specs.Io.KnownBytes.{prepend_known}
 use Rattle.http_wire.specs.declared.limits.TheConstants.{MOST_REQUESTS}
 use Rattle.api_calls.specs.Item.{Item}
-use Rattle.api_core.specs.View.{SameBase, StandsFor}
+use Rattle.api_core.specs.CoreOf.{SameBase, StandsFor}
 use Rattle.object_server.specs.View.{base_of}
 use Rattle.object_talk.proofs.Conversing.{GoesOn}
 use Rattle.object_talk.proofs.conversation.converse.Given as goal

@@ -1,7 +1,7 @@
 use Rattle.std.proofs.Common.{refl}
 use Rattle.http_wire.specs.Inboxes.{request_at}
 use Rattle.http_wire.specs.declared.WireFault.TheVariants as faults
-use Rattle.api_core.specs.View.{StandsFor}
+use Rattle.api_core.specs.CoreOf.{StandsFor}
 use Rattle.object_server.specs.Answered.{answer_of}
 use Rattle.object_talk.proofs.Conversing.{did_close, did_either, did_tear, did_refuse, handed_on}
 use Rattle.object_talk.proofs.conversation.serve_one.Goals as goal

@@ -3,10 +3,10 @@ use Rattle.record_store.specs.ByKey.{find}
 use Rattle.record_store.specs.View.{item_key}
 use Rattle.record_store.specs.Moves.{with_new}
 use Rattle.record_store.specs.declared.record.NewRecord.{NewRecord}
-use Rattle.turn_state.specs.declared.seen.Prepared.{Prepared}
-use Rattle.turn_state.specs.Prepared.{FitsAt, record_for}
-use Rattle.turn_state.specs.Removing.{delete-gone, delete-newer, delete-removed}
-use Rattle.turn_state.specs.Replacing.{mark-gone, mark-newer, mark-moved, mark-written}
+use Rattle.api_core.specs.declared.seen.Prepared.{Prepared}
+use Rattle.api_core.specs.Prepared.{FitsAt, record_for}
+use Rattle.api_core.specs.Removing.{delete-gone, delete-newer, delete-removed}
+use Rattle.api_core.specs.Replacing.{mark-gone, mark-newer, mark-moved, mark-written}
 use Rattle.api_core.proofs.Ready.{one_some, of_some}
 use Rattle.api_core.proofs.present.Core.commit_delete.Goals as goal
 

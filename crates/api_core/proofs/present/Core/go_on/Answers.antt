@@ -1,7 +1,7 @@
 use Rattle.std.specs.Arc.{arc_value}
 use Rattle.api_core.proofs.SettingTurns.{shown}
-use Rattle.turn_state.specs.Ends.{turn_end}
-use Rattle.api_core.specs.View.{StandsFor}
+use Rattle.api_core.specs.Ends.{turn_end}
+use Rattle.api_core.specs.CoreOf.{StandsFor}
 use Rattle.api_core.proofs.Leaving.{began}
 use Rattle.api_core.proofs.WorkTurns.{go-prepare, go-done, go-lost, go-next}
 use Rattle.api_core.proofs.present.Core.go_on.Goals as goal

@@ -1,7 +1,7 @@
 use Rattle.std.proofs.Common.{◌∙◌, sym}
 use Rattle.std.specs.Prelude.{option_copied}
 use Rattle.std.specs.Arc.{arc_value}
-use Rattle.turn_state.specs.Pages.{place_of}
+use Rattle.api_core.specs.Pages.{place_of}
 use Rattle.api_core.proofs.SettingTurns.{shown}
 use Rattle.api_core.proofs.PageTurns.{page-present, page-past}
 use Rattle.api_core.proofs.present.Core.page.Goals as goal

@@ -6,7 +6,7 @@ use Rattle.api_calls.specs.Refusal.{no_memory, refusal_of}
 use Rattle.api_calls.specs.State.{served}
 use Rattle.api_calls.specs.Values.{created_value}
 use Rattle.api_calls.specs.Versions.{Refused, request_of}
-use Rattle.turn_state.specs.Deciding.{served-same}
+use Rattle.api_core.specs.Deciding.{served-same}
 use Rattle.object_server.specs.Answered.{decided}
 use Rattle.object_server.specs.Calls.{create}
 use Rattle.object_server.specs.Faults.{admission}

@@ -2,8 +2,8 @@ use Rattle.std.proofs.Common.{◌≡◌, true, None, ap, sym, subst, refl, ◌�
 use Rattle.kube_meta.specs.Key.{KeyView}
 use Rattle.api_calls.specs.Reply.{reply_of}
 use Rattle.api_calls.specs.State.{served}
-use Rattle.turn_state.specs.Deciding.{served-same}
-use Rattle.turn_state.specs.Prepared.{Sees}
+use Rattle.api_core.specs.Deciding.{served-same}
+use Rattle.api_core.specs.Prepared.{Sees}
 use Rattle.object_server.proofs.Showing.{seen_born, seen_reply, shows_as}
 use Rattle.object_server.proofs.given.Given.get.Goals as goal
 

@@ -2,7 +2,7 @@ use Rattle.std.proofs.Common.{◌∙◌, ℕ, List, ◌<◌, ap, sym, subst}
 use Rattle.std.proofs.lemmas.Bool.{true≢false}
 use Rattle.std.proofs.lemmas.Slice.Eq.{bytes_eq-Decides}
 use Rattle.api_calls.specs.Item.{Item}
-use Rattle.api_core.specs.View.{StandsFor}
+use Rattle.api_core.specs.CoreOf.{StandsFor}
 use Rattle.object_server.specs.Answered.{answer_of}
 use Rattle.object_server.specs.Outcomes.{CreateOutcome, GetOutcome}
 use Rattle.object_server.specs.Paths.{segments}
