@@ -21,8 +21,6 @@ mod migrations;
 mod records;
 mod rounds;
 mod task;
-#[cfg(test)]
-mod tests;
 mod turns;
 
 use admissions::admit_often;
