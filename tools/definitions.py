@@ -7,12 +7,15 @@ file hands on by `pub use`. A lemma's proof counts for nothing: only the definit
 
 Run it at the top of the repository. It prints two lists, each in the order of crates.txt: the files that the clauses of
 `kubeconv_cmd` and `kubeconv` reach, which is what has to be read to believe the program, and the files that only other
-public clauses reach, which no program serves yet. With --check it tells which of these FILE (docs/DEFINITIONS.md) doesn't
-name, and which it names that nothing reaches, and ends with status 1 if there are any.
+public clauses reach, which no program serves yet. With --check it tells which of these have no row in FILE
+(docs/DEFINITIONS.md), or two, or one in the other list's part; and which files it names that nothing reaches, or that aren't
+there. It ends with status 1 if there are any. A row begins with the file, and behind the first one of a crate the next ones
+of its cell need no crate; the part of the second list begins at the line UNSERVED.
 """
 import os, re, sys
 
 PROGRAMS = ["kubeconv_cmd", "kubeconv"]
+UNSERVED = "## What no program reaches yet"
 NOT_COUNTED = re.compile(r"(_tests|_fixture|_example|_bench)$")
 TOKEN = re.compile(r"[^\s(){}\[\],.;\"«»]+")
 USE = re.compile(r"(?<![A-Za-z0-9_])((?:pub\s+)?(?:ghost\s+)?use)\s+(Rattle(?:\.[A-Za-z0-9_+'«»\-]+)+)(?:\s*\.\s*\{([^}]*)\})?(?:\s+as\s+([A-Za-z0-9_]+))?")
@@ -148,22 +151,28 @@ def main():
     if "--check" in sys.argv:
         path = sys.argv[sys.argv.index("--check") + 1]
         with open(path, encoding="utf-8") as it: document = it.read()
-        told = set()
+        told, rows, unserved = set(), {}, False
         for line in document.split("\n"):
+            unserved = unserved or line == UNSERVED
+            told.update(w for w in re.findall(r"`([^`\s]+)`", line) if re.fullmatch(r"\w+/specs/\S+", w))
+            if not re.match(r"\| `\w+/specs/", line): continue
             crate = None
-            for word in re.findall(r"`([^`\s]+)`", line):
-                m = re.fullmatch(r"(\w+)/specs/(\S+)", word)
-                if m: crate = m.group(1); told.add(word)
-                elif crate and f"Rattle.{crate}.specs.{word}" in files: told.add(f"{crate}/specs/{word}")
+            for word in re.findall(r"`([^`\s]+)`", line.split(" | ")[0]):
+                m = re.fullmatch(r"(\w+)/specs/\S+", word)
+                if m: crate = m.group(1)
+                rows.setdefault(word if m else f"{crate}/specs/{word}", []).append(unserved)
+        told.update(rows)
         every = {short(m) for m in program | others}
         known = {short(m) for m in files}
-        lacking = [w for w in ordered(program | others) if w not in told]
+        lacking = [w for w in ordered(program | others) if w not in rows]
+        twice = sorted(w for w in rows if len(rows[w]) > 1)
+        elsewhere = [short(m) for m in files if m in program | others and (m in others) not in rows.get(short(m), [m in others])]
         spare = sorted(w for w in told if w in known and w not in every)
         gone = sorted(w for w in told if w not in known)
-        for words, what in (lacking, "reached, and not named"), (spare, "named, and not reached"), (gone, "named, and not there"):
+        for words, what in (lacking, "reached, and without a row"), (twice, "in two rows"), (elsewhere, "in the other list's part"), (spare, "named, and not reached"), (gone, "named, and not there"):
             for word in words: print(f"{word}: {what}")
-        print(f"{len(every)} files are reached; {len(lacking)} not named, {len(spare)} named and not reached, {len(gone)} not there")
-        raise SystemExit(1 if lacking or spare or gone else 0)
+        print(f"{len(every)} files are reached; {len(lacking)} lacking, {len(twice)} twice, {len(elsewhere)} in the other part, {len(spare)} spare, {len(gone)} not there")
+        raise SystemExit(1 if lacking or twice or elsewhere or spare or gone else 0)
     print("# what the program's clauses reach"); print("\n".join(ordered(program)))
     print("# what only other public clauses reach"); print("\n".join(ordered(others)))
 
