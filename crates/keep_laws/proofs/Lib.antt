@@ -32,6 +32,7 @@ pub mod Forms
 pub mod Judged
 pub mod Hubs
 pub mod Trips
+pub mod LeftNotes
 pub mod Carried
 pub mod Made
 pub mod Adding

@@ -14,6 +14,7 @@ pub mod Notes
 pub mod Pair
 pub mod WholeHub
 pub mod Settling
+pub mod LeftNotes
 pub mod Over
 pub mod Given
 pub mod Place

@@ -5,12 +5,15 @@ ghost use Rattle.kj_value.specs.Json.{members_of};
 ghost use Rattle.kj_value.specs.Sound.{AreRising};
 ghost use Rattle.kube_meta.specs.View.{ObjectView};
 ghost use Rattle.hub_cells.specs.Side.{spoke};
+ghost use Rattle.hub_cells.specs.Level.{Name};
 ghost use Rattle.keep_laws.specs.FittedBody.{IsBodyOf};
 ghost use Rattle.keep_laws.specs.Spokes.{Spoke, Spokes, IsDefinition, api_version};
-ghost use Rattle.keep_laws.specs.Notes.{IsObject};
+ghost use Rattle.keep_laws.specs.Notes.{IsObject, noted};
 ghost use Rattle.keep_laws.specs.Pair.{IsPairOf};
 ghost use Rattle.keep_laws.specs.WholeHub.{IsHubBody, IsWholeHub, IsSettledAt};
-ghost use Rattle.keep_laws.specs.Settling.{SettlesAtHub, SettlesAtSpoke};
+ghost use Rattle.keep_laws.specs.Keys.{key_kind};
+ghost use Rattle.keep_laws.specs.Settling.{SettlesAtHub, SettlesAtSpoke, hub_body};
+ghost use Rattle.keep_laws.specs.LeftNotes.{NoteLeftAtHub, NoteLeftAtSpoke};
 ghost use Rattle.keep_laws.specs.Over.{GoesOver};
 ghost use Rattle.keep_laws.specs.Given.{Laws};
 
@@ -57,7 +60,8 @@ pub fn going_over()
 }
 
 /// An object settles to one object, which is settled, or whole at the hub; and such an object settles to
-/// itself.
+/// itself. Of each annotation that keeps entries the dead ones go and nothing else: an entry stands
+/// afterwards exactly where it stood before and is alive.
 pub fn settling()
     ensures one { (all : Spokes) (v : ℕ) (s : Spoke) → IsDefinition all → slice_get all.items v ≡ Some s
         → (x y z : ObjectView) → SettlesAtSpoke all s x y → SettlesAtSpoke all s x z → y ≡ z }
@@ -73,12 +77,18 @@ pub fn settling()
         → x.api_version ≡ api_version all.group all.hub → AreRising (members_of x.body)
         → IsHubBody all.items x.body → SettlesAtHub all x y → IsWholeHub all y }
     ensures stays_at_hub { (all : Spokes) (h : ObjectView) → IsWholeHub all h → SettlesAtHub all h h }
+    ensures left { (all : Spokes) (v : ℕ) (s : Spoke) → IsDefinition all → slice_get all.items v ≡ Some s
+        → (x y : ObjectView) → (t : SettlesAtSpoke all s x y) → (k : Name)
+        → NoteLeftAtSpoke s x.body (hub_body s x.body t.hub_kept) (key_kind all k) (noted k x) (noted k y) }
+    ensures left_at_hub { (all : Spokes) → IsDefinition all → (x y : ObjectView) → SettlesAtHub all x y
+        → (k : Name) → NoteLeftAtHub x.body (key_kind all k) (noted k x) (noted k y) }
 {
     given();
 }
 
-/// Over to the hub and back is what is left of an object once settled, and so it is the identity on settled
-/// objects; back and over again is the identity on whole ones.
+/// Over to the hub and back is what is left of an object once settled: what goes of its annotations is the
+/// dead entries and nothing else, beside the annotation of its own side and those of no known spoke. So it is
+/// the identity on settled objects; and back and over again is the identity on whole ones.
 pub fn over_and_back()
     ensures left { (all : Spokes) (v : ℕ) (s : Spoke) → IsDefinition all → slice_get all.items v ≡ Some s
         → (x y h z : ObjectView) → x.api_version ≡ api_version all.group s.name
@@ -87,6 +97,11 @@ pub fn over_and_back()
     ensures settled { (all : Spokes) (v : ℕ) (s : Spoke) → IsDefinition all → slice_get all.items v ≡ Some s
         → (x h z : ObjectView) → IsSettledAt all s x → GoesOver all s x h
         → IsObject z → IsPairOf all s z h → z ≡ x }
+    ensures entries { (all : Spokes) (v : ℕ) (s : Spoke) → IsDefinition all → slice_get all.items v ≡ Some s
+        → (x y h z : ObjectView) → x.api_version ≡ api_version all.group s.name
+        → AreRising (members_of x.body) → IsBodyOf spoke s.fit x.body → GoesOver all s x h
+        → SettlesAtSpoke all s x y → IsObject z → IsPairOf all s z h → (k : Name)
+        → NoteLeftAtSpoke s x.body h.body (key_kind all k) (noted k x) (noted k z) }
     ensures whole { (all : Spokes) (v : ℕ) (s : Spoke) → IsDefinition all → slice_get all.items v ≡ Some s
         → (h x g : ObjectView) → IsWholeHub all h → IsObject x → IsPairOf all s x h
         → GoesOver all s x g → g ≡ h }

@@ -1,4 +1,5 @@
 use Rattle.keep_laws.proofs.Trips.{settles_one, settle_settled, settles_self, settles_hub_one, settles_hub_whole, settles_hub_self}
+use Rattle.keep_laws.proofs.LeftNotes.{left_at_spoke, left_at_hub}
 use Rattle.keep_laws.proofs.object_laws.settling.Goals as goal
 
 pub returns : goal.returns
@@ -9,4 +10,6 @@ returns c = record {
   one_at_hub = λ all. settles_hub_one c.given.ensures all;
   whole = λ all. settles_hub_whole c.given.ensures all;
   stays_at_hub = settles_hub_self;
+  left = left_at_spoke;
+  left_at_hub = left_at_hub;
 }
