@@ -8,3 +8,4 @@ pub mod Bools
 pub mod Shares
 pub mod Accepting
 pub mod OwnDefaults
+pub mod SoundDefaults

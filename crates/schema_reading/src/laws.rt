@@ -6,6 +6,8 @@ ghost use Rattle.struct_schema.specs.Shape.{Shape};
 ghost use Rattle.struct_schema.specs.Filled.{Filled};
 ghost use Rattle.struct_schema.specs.Stays.{stays};
 ghost use Rattle.schema_reading.specs.Visits.{first_refusal};
+ghost use Rattle.prune_default.specs.SoundDefaults.{HasSoundDefaults};
+ghost use Rattle.schema_reading.specs.ShapeRead.{shape_read};
 ghost use Rattle.schema_reading.specs.Accepted.{IsSchema};
 
 /// Nothing of a document is refused exactly where it is a schema, which is said with no order in it.
@@ -19,4 +21,10 @@ pub fn accepts()
 pub fn own_fillings()
     ensures stays { (s : Shape) (d : Json) → stays s d ≡ true → Filled s d d }
     ensures filled { (s : Shape) (d : Json) → IsSoundJson d → Filled s d d → stays s d ≡ true }
+{}
+
+/// Each default of the schema that a document spells is a JSON value, where the document is one: its numbers
+/// have 64 bits, and the names of its objects rise.
+pub fn sound_defaults()
+    ensures { (j : Json) → IsSoundJson j → HasSoundDefaults (shape_read true j) }
 {}
