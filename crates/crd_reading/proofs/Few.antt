@@ -14,7 +14,7 @@ use Rattle.crd_reading.specs.Allowed.{are_few, is_allowed}
 use Rattle.crd_reading.specs.Seen.{version_of}
 use Rattle.crd_reading.specs.Spelled.{inside, items_in, versions_read, version_items, definition_read}
 use Rattle.crd_reading.specs.Accepted.{has_rows, stands, each_stands, IsDefinition}
-use Rattle.crd_reading.specs.Whole.{HaveOwnDefaults, IsWholeDefinition}
+use Rattle.crd_reading.specs.Whole.{HaveOwnDefaults, HaveSoundDefaults, IsWholeDefinition}
 use Rattle.crd_reading.specs.declared.definition.Version.{Version}
 use Rattle.crd_reading.specs.declared.words.Word.{Word}
 use Rattle.crd_reading.specs.declared.words.Word.TheVariants.{Spec, Versions}
@@ -94,8 +94,8 @@ few_in (object ms) h =
     let v = value_of Document SpecObject Spec ms (inr (inr (inr (inl refl)))) h spec_place in
     few_in_spec (value_at (spelled Spec) ms) v.0 v.1 v.2
 
-pub whole_of : (j : Json) → IsDefinition j → HaveOwnDefaults (definition_read j).versions → IsWholeDefinition (definition_read j)
-whole_of j d own =
+pub whole_of : (j : Json) → IsDefinition j → HaveOwnDefaults (definition_read j).versions → HaveSoundDefaults (definition_read j).versions → IsWholeDefinition (definition_read j)
+whole_of j d own sound =
     let few : are_few (length (definition_read j).versions) ≡ true = ap are_few (length-versions_read (version_items j)) ∙ few_in j d.stands in
     let u = both (nat_le MIN_VERSIONS (length (definition_read j).versions)) (nat_le (length (definition_read j).versions) MAX_VERSIONS) few in
     record {
@@ -104,6 +104,7 @@ whole_of j d own =
       least = leb-true MIN_VERSIONS (length (definition_read j).versions) u.0;
       most = leb-true (length (definition_read j).versions) MAX_VERSIONS u.1;
       defaults = own;
+      sound = sound;
     }
 
 -- ---- own defaults of versions, one by one

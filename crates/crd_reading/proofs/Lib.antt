@@ -3,3 +3,4 @@ pub mod Rows
 pub mod Standing
 pub mod Accepting
 pub mod Few
+pub mod SoundDefaults

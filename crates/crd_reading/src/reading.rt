@@ -19,7 +19,8 @@ use crate::places::Place;
 use crate::schemas::read_versions;
 use crate::walk::try_value;
 use crate::words::Word;
-use kj_value::{JFields, JVal, NoMemory, Txt};
+use kj_value::{JFields, JVal, NoMemory, Txt, sound};
+use schema_reading::sound_defaults;
 use std::alloc::Global;
 
 /// Why a document is no definition.
@@ -118,6 +119,8 @@ fn whole(doc: &JVal)
     ensures { IsWholeDefinition (definition_read (json doc.now)) }
 {
     accepts();
+    sound_defaults();
+    sound(doc);
 }
 
 fn definition(alloc: Global, doc: JVal, versions: Vec<Version>) -> Result<Definition, NoMemory>
