@@ -2,6 +2,7 @@
 use Rattle.keep_laws.proofs.Fitted.{body_known, body_allowed, whole_body}
 use Rattle.keep_laws.proofs.Settled.{whole_settled}
 use Rattle.prune_default.proofs.Fillings.{one_value}
+use Rattle.prune_default.proofs.Existing.{filling}
 use Rattle.keep_laws.specs.Given.{OneList, Laws}
 use Rattle.keep_laws.proofs.Pairs.{settled_of, one_object, one_hub_object}
 use Rattle.keep_laws.proofs.Trips.{settles_one, settles_hub_one}
@@ -24,4 +25,5 @@ given one = record {
   left = λ all v s d p. settles_one (laws one) all v s d p;
   left_at_hub = λ all. settles_hub_one (laws one) all;
   filling = λ s j k l p q g h. one_value j s k l p q g h;
+  fills = filling;
 }

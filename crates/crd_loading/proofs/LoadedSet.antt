@@ -13,7 +13,7 @@ use Rattle.keep_laws.specs.FittedBody.{HasRoom}
 use Rattle.keep_laws.specs.Spokes.{Spoke, Spokes, IsDefinition}
 use Rattle.crd_reading.specs.View.{VersionView, DefinitionView}
 use Rattle.crd_reading.specs.Spelled.{version_items}
-use Rattle.crd_reading.specs.Whole.{HaveOwnDefaults}
+use Rattle.crd_reading.specs.Whole.{HaveOwnDefaults, HaveSoundDefaults}
 use Rattle.crd_loading.specs.Fits.{IsRuled, spokes_of}
 use Rattle.crd_loading.specs.View.{LoadedView, FitVersions, FitHub, IsTogether}
 use Rattle.crd_meaning.specs.Definition.{no_version, version_at, at_hub, spoke_seat, spoke_place, seat, IsRoot, IsSpokeOf, IsSeated, IsLoaded}
@@ -136,7 +136,7 @@ all_roots : (l : LoadedView) → IsTogether l → (v : ℕ) → v < length l.def
 all_roots l t =
     let spelled = t.whole.spelled in
     let same = ap (λ (d : DefinitionView). d.versions) spelled.2 in
-    subst (λ (vs : List VersionView). HaveOwnDefaults vs → (v : ℕ) → v < length vs → IsRoot (slice_index_or vs v no_version).schema) same (λ d v h. roots (version_items spelled.0) v d h) t.whole.defaults
+    subst (λ (vs : List VersionView). HaveOwnDefaults vs → HaveSoundDefaults vs → (v : ℕ) → v < length vs → IsRoot (slice_index_or vs v no_version).schema) same (λ d e v h. roots (version_items spelled.0) v d e h) t.whole.defaults t.whole.sound
 
 pub loaded : (l : LoadedView) → IsTogether l → IsDefinition (spokes_in l) → IsLoaded (set_of l)
 loaded l t d =

@@ -7,10 +7,11 @@ use Rattle.kj_value.specs.Json.{Json, null, boolean, whole, text, list, object, 
 use Rattle.struct_schema.specs.Shape.{Shape, Shapes, some_shape, MaybeShapes, properties, no_shape}
 use Rattle.struct_schema.specs.Names.{is_name, shape_named, property}
 use Rattle.struct_schema.specs.OwnDefaults.{HasOwnDefaults}
+use Rattle.prune_default.specs.SoundDefaults.{HasSoundDefaults}
 use Rattle.schema_reading.specs.Words.{meta_type}
 use Rattle.schema_reading.specs.ShapeRead.{shape_read, map_read, named_read, shapes_read, property_read}
 use Rattle.crd_reading.specs.Spelled.{schema_in, versions_read}
-use Rattle.crd_reading.specs.Whole.{HaveOwnDefaults}
+use Rattle.crd_reading.specs.Whole.{HaveOwnDefaults, HaveSoundDefaults}
 use Rattle.crd_meaning.specs.Definition.{no_version, IsRoot}
 
 -- ---- a name that the root passes over is no property
@@ -75,19 +76,20 @@ metadata_type : meta_type (codes "metadata") ≡ Some (codes "object")
 unfolding meta_type
 metadata_type = refl
 
-root : (j : Json) → HasOwnDefaults (shape_read true j) → IsRoot (shape_read true j)
-root j h = record {
+root : (j : Json) → HasOwnDefaults (shape_read true j) → HasSoundDefaults (shape_read true j) → IsRoot (shape_read true j)
+root j h k = record {
   api_version = passed_over (codes "apiVersion") (codes "string") j version_type;
   kind = passed_over (codes "kind") (codes "string") j kind_type;
   metadata = passed_over (codes "metadata") (codes "object") j metadata_type;
   defaults = h;
+  sound = k;
 }
 
-pub roots : (js : Items) (v : ℕ) → HaveOwnDefaults (versions_read js) → v < length (versions_read js) → IsRoot (slice_index_or (versions_read js) v no_version).schema
-roots no_items v d h =
+pub roots : (js : Items) (v : ℕ) → HaveOwnDefaults (versions_read js) → HaveSoundDefaults (versions_read js) → v < length (versions_read js) → IsRoot (slice_index_or (versions_read js) v no_version).schema
+roots no_items v d e h =
     let none : v < 0 = h in
     absurd (omega arith)
-roots (item j js) zero d h = root (schema_in j) d.0
-roots (item j js) (suc v) d h =
+roots (item j js) zero d e h = root (schema_in j) d.0 e.0
+roots (item j js) (suc v) d e h =
     let more : suc v < suc (length (versions_read js)) = h in
-    roots js v d.1 (omega arith)
+    roots js v d.1 e.1 (omega arith)

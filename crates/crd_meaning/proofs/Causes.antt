@@ -1,15 +1,14 @@
--- A request whose body has a filling is refused for one reason.
-use Rattle.std.proofs.Common.{◌≡◌, ◌∙◌, ◌++◌, ℕ, List, Option, Some, None, Ordering, Less, Equal, Greater, nat_cmp, subst, ap, ap₂, sym, refl}
+-- A request is refused for one reason.
+use Rattle.std.proofs.Common.{◌≡◌, ◌∙◌, ◌++◌, ℕ, Option, Some, None, Ordering, Less, Equal, Greater, nat_cmp, subst, ap, ap₂, sym, refl}
 use Rattle.std.specs.Ordering.{is_eq, ordering_reverse}
 use Rattle.std.specs.Cmp.Lexicographic.{slice_cmp}
 use Rattle.std.proofs.lemmas.Cmp.{nat_list_cmp_total}
 use Rattle.std.proofs.lemmas.Slice.Eq.{bytes_eq-Decides}
 use Rattle.std.proofs.lemmas.Map.Text.{is_eq-slice_cmp}
 use Rattle.kj_value.specs.Json.{Json}
-use Rattle.kj_value.specs.Fields.{Pairs}
 use Rattle.kj_value.specs.declared.rule.Rule.TheVariants as rule
 use Rattle.kube_meta.specs.View.{Texts, ObjectView}
-use Rattle.api_calls.specs.Cause.{CauseView, not_json, too_deep, not_whole, not_object, wrong_version, wrong_kind, wrong_namespace, wrong_name, bad_query, bad_token, bad_options}
+use Rattle.api_calls.specs.Cause.{not_json, too_deep, not_whole, not_object, wrong_version, wrong_kind, wrong_namespace, wrong_name, bad_query, bad_token, bad_options}
 use Rattle.api_calls.specs.Meaning.{Request, Fault, bad_request, invalid}
 use Rattle.api_calls.specs.Readings.{IsFaulty, one_fault}
 use Rattle.api_calls.specs.Readings as reading
@@ -18,11 +17,12 @@ use Rattle.hub_cells.specs.Level.{Name}
 use Rattle.keep_laws.specs.Spokes.{Spokes}
 use Rattle.keep_laws.specs.Over.{IsFirstBad}
 use Rattle.crd_meaning.specs.Definition.{Definition, IsLoaded}
-use Rattle.crd_meaning.specs.Request.{breaks, early, IsTaken}
+use Rattle.crd_meaning.specs.Request.{breaks, early}
 use Rattle.crd_meaning.specs.Admission.{schema_of, IsFilling, Passes, IsUnread}
 use Rattle.crd_meaning.specs.Refusal.{IsNoValue, IsBroken, annotation_prefix, IsBadlyKept, object_path, IsTooLarge, RefusesRequest, no_value, is_early, is_broken, badly_kept, too_large}
 use Rattle.crd_meaning.specs.Meant.{no_settings}
 use Rattle.crd_meaning.specs.Given.{Given}
+use Rattle.crd_meaning.proofs.Filled.{taken_filled}
 use Rattle.crd_meaning.proofs.Verdicts.{some_none, taken_one, passes_one, none_broken}
 
 -- ---- the first annotation that can't be read is one
@@ -47,8 +47,7 @@ data Told (d : Definition) (r : Request) (j : Json) (f : Fault) : Type 0 where
   of_note : (b : IsBadlyKept d r f) → b.passes.is.value ≡ j → Told d r j f
   of_size : (b : IsTooLarge d r f) → b.passes.is.value ≡ j → Told d r j f
 
-module _ (known : Given) (d : Definition) (loaded : IsLoaded d) (r : Request)
-    (fills : (x : ObjectView) (e : Option ℕ) → IsTaken d r x e → (k : Pairs) × IsFilling (schema_of d r) x.body k) where
+module _ (known : Given) (d : Definition) (loaded : IsLoaded d) (r : Request) where
   no_value_faulty : (f : Fault) → IsNoValue r f → IsFaulty r.bytes OBJECT_LEVELS (Told d r) f
   no_value_faulty (bad_request not_json) n = record { finding = reading.not_json; finds = n; follows = refl }
   no_value_faulty (bad_request too_deep) n = record { finding = reading.too_deep; finds = n; follows = refl }
@@ -73,7 +72,7 @@ module _ (known : Given) (d : Definition) (loaded : IsLoaded d) (r : Request)
   one_cause : (f g : Fault) → IsBroken d r f → IsBroken d r g → f ≡ g
   one_cause f g a b =
       let same = (taken_one d r a.object b.object a.number b.number a.taken b.taken).0 in
-      let k = fills b.object b.number b.taken in
+      let k = taken_filled known d loaded r b.object b.number b.taken in
       let here : IsFilling (schema_of d r) a.object.body k.0 = subst (λ (x : ObjectView). IsFilling (schema_of d r) x.body k.0) (sym same) k.1 in
       let causes : Some a.cause ≡ Some b.cause = sym (a.broken k.0 here) ∙ b.broken k.0 k.1 in
       let cause : a.cause ≡ b.cause = cc in

@@ -6,6 +6,8 @@ pub mod Places
 pub mod Forms
 pub mod SoundParts
 pub mod Made
+pub mod ReadSound
+pub mod Filled
 pub mod Verdicts
 pub mod Causes
 pub mod Left

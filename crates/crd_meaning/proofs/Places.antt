@@ -1,5 +1,5 @@
 -- Whole objects and their forms stand at their versions, and stamps aren't looked at.
-use Rattle.std.proofs.Common.{◌≡◌, ◌∙◌, ℕ, suc, ◌+◌, ◌≤◌, ◌<◌, true, Option, None, refl, ap, ap₂, sym, subst, arith}
+use Rattle.std.proofs.Common.{◌≡◌, ◌∙◌, ℕ, suc, ◌+◌, ◌≤◌, ◌<◌, Option, None, refl, ap, ap₂, sym, subst, arith}
 use Rattle.std.specs.Prelude.{ℤ, List, codes}
 use Rattle.kj_value.specs.Json.{list, items_of, members_of, depth, members_depth}
 use Rattle.kj_value.specs.Sound.{AreSoundItems}

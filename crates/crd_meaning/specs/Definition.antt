@@ -4,6 +4,7 @@ use Rattle.api_calls.specs.declared.flags.Flags.{Flags}
 use Rattle.struct_schema.specs.Shape.{Shape, shape, plain, properties, no_map, no_shape}
 use Rattle.struct_schema.specs.Names.{property}
 use Rattle.struct_schema.specs.OwnDefaults.{HasOwnDefaults}
+use Rattle.prune_default.specs.SoundDefaults.{HasSoundDefaults}
 use Rattle.struct_schema.specs.declared.kind.NodeKind.TheVariants.{Object}
 use Rattle.crd_reading.specs.View.{VersionView, DefinitionView}
 use Rattle.keep_laws.specs.Spokes.{Spoke, Spokes, IsDefinition}
@@ -60,12 +61,14 @@ opening_of d = record {
 
 -- ---- what loading has made sure of
 
--- the schema of a version leaves the three names to the object's own values, and each default is its own filling
+-- the schema of a version leaves the three names to the object's own values, and each default is a JSON value and its own
+-- filling
 pub record IsRoot (s : Shape) : Type 0 where
   pub api_version : property (codes "apiVersion") (properties s) ≡ no_shape
   pub kind : property (codes "kind") (properties s) ≡ no_shape
   pub metadata : property (codes "metadata") (properties s) ≡ no_shape
   pub defaults : HasOwnDefaults s
+  pub sound : HasSoundDefaults s
 
 -- the spoke has the version's name, and its rules are fitted to the version's schema
 pub record IsSpokeOf (v : VersionView) (s : Spoke) : Type 0 where

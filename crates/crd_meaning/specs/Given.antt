@@ -5,6 +5,7 @@ use Rattle.kj_value.specs.Sound.{IsSoundJson}
 use Rattle.kube_meta.specs.View.{ObjectView}
 use Rattle.struct_schema.specs.Shape.{Shape}
 use Rattle.struct_schema.specs.Filled.{Filled}
+use Rattle.prune_default.specs.SoundDefaults.{HasSoundDefaults}
 use Rattle.keep_laws.specs.Spokes.{Spoke, Spokes, IsDefinition}
 use Rattle.keep_laws.specs.Notes.{IsObject}
 use Rattle.keep_laws.specs.Pair.{IsPairOf}
@@ -23,5 +24,6 @@ pub record Given : Type 0 where
   pub left : (all : Spokes) (v : ℕ) (s : Spoke) → IsDefinition all → slice_get all.items v ≡ Some s
       → (x y z : ObjectView) → SettlesAtSpoke all s x y → SettlesAtSpoke all s x z → y ≡ z
   pub left_at_hub : (all : Spokes) (x y z : ObjectView) → SettlesAtHub all x y → SettlesAtHub all x z → y ≡ z
-  -- a value has one filling
+  -- a value has one filling, and has one where each default of the schema is a JSON value
   pub filling : (s : Shape) (j k l : Json) → IsSoundJson k → IsSoundJson l → Filled s j k → Filled s j l → k ≡ l
+  pub fills : (s : Shape) (j : Json) → HasSoundDefaults s → IsSoundJson j → (k : Json) × Filled s j k × IsSoundJson k

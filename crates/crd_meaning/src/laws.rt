@@ -21,7 +21,7 @@ ghost use Rattle.crd_meaning.specs.Meant.{meant};
 ghost use Rattle.crd_meaning.specs.Given.{Given};
 
 use keep_laws::object_laws::{given, one_each, settling};
-use prune_default::one_filling;
+use prune_default::{one_filling, some_filling};
 
 /// What other crates promise of pairs, of settled objects and of fillings, as one fact.
 pub fn known()
@@ -30,6 +30,7 @@ pub fn known()
     one_each();
     settling();
     one_filling();
+    some_filling();
 }
 
 /// Whole objects stand at the hub, and their forms at their versions.
@@ -72,10 +73,17 @@ pub fn admitting()
     known();
 }
 
-/// A request whose body has a filling is refused for one reason.
+/// The body of each object that a request gives has a filling at the request's version.
+pub fn fillings()
+    ensures { (d : Definition) → IsLoaded d → (r : Request) (x : ObjectView) (e : Option ℕ)
+        → IsTaken d r x e → (k : Pairs) × IsFilling (schema_of d r) x.body k }
+{
+    known();
+}
+
+/// A request is refused for one reason.
 pub fn one_cause()
     ensures { (d : Definition) → IsLoaded d → (r : Request)
-        → ((x : ObjectView) (e : Option ℕ) → IsTaken d r x e → (k : Pairs) × IsFilling (schema_of d r) x.body k)
         → (f g : Fault) → RefusesRequest d r f → RefusesRequest d r g → f ≡ g }
 {
     known();

@@ -8,4 +8,5 @@ returns c = record {
   left = c.settling.ensures.one;
   left_at_hub = c.settling.ensures.one_at_hub;
   filling = c.one_filling.ensures;
+  fills = c.some_filling.ensures;
 }
