@@ -1,6 +1,7 @@
 //! What holds of every history of the server: each law is the contract of a function that does nothing. Its type
-//! parameter is what has a meaning, as a definition of versions has.
-ghost use Rattle.std.specs.Prelude.{◌≡◌, ◌≤◌, ◌<◌, ◌+◌, ◌↔◌, ◌⊎◌, List, ℕ, ◌++◌, [], ◌∷◌, Some, take, IsTrue, true};
+//! parameter is what has a meaning, as a definition of versions has. And the numbers of objects and uids, which no edit
+//! of a constant can turn.
+ghost use Rattle.std.specs.Prelude.{◌≡◌, ◌≤◌, ◌<◌, ◌+◌, ◌^◌, ◌↔◌, ◌⊎◌, List, ℕ, ◌++◌, [], ◌∷◌, Some, take, IsTrue, true};
 ghost use Rattle.kube_meta.specs.Key.{KeyView};
 ghost use Rattle.kube_meta.specs.View.{ObjectView};
 ghost use Rattle.kube_meta.specs.Plan.{Migration, running, is_done};
@@ -15,7 +16,17 @@ ghost use Rattle.api_calls.specs.Snap.{Supersedes, by_number, floor, past_weight
 ghost use Rattle.api_calls.specs.Laws.{AreCounted, Holds, IsSoundState, KeepsStorage, Leaves, MarkedAreHeld, Writes, away, touches_of};
 ghost use Rattle.api_calls.specs.Bodies.{RefusesStart, Starts};
 
+use crate::uid::{BORN_END, UID_BYTES};
+use crate::versions::OBJECT_LEVELS;
 use kj_value::one_reading;
+
+/// An object's document has at most 64 levels. A uid has 36 bytes, and the number of the entry that created its object is
+/// below 2^62.
+pub fn numbers()
+    ensures levels { OBJECT_LEVELS ≡ 64 }
+    ensures uid { UID_BYTES ≡ 36 }
+    ensures born { BORN_END ≡ 2 ^ 62 }
+{}
 
 /// What has a meaning.
 pub trait Means {
