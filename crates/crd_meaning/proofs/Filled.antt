@@ -77,11 +77,13 @@ is_an_object o ps a i ms k h = by_kind (is_object o.kind) k h
 filling_of : (s : Shape) (x : Pairs) → ((k : Json) × Filled s (object (members_of x)) k × IsSoundJson k) → (k : Pairs) × IsFilling s x k
 filling_of (shape o ps a i) x (k, filled, sound) =
     let is = is_an_object o ps a i (members_of x) k filled in
-    let same : k ≡ object (members_of (pairs_of is.0)) = is.1 ∙ ap object (sym (members_pairs is.0)) in
-    (pairs_of is.0, record {
-      filled = subst (Filled (shape o ps a i) (object (members_of x))) same filled;
-      sound = subst IsSoundJson same sound;
-    })
+    let same : k ≡ object (members_of (pairs_of is.0)) = is.1 ∙ ap object (sym (members_pairs is.0)) in (
+      pairs_of is.0,
+      record {
+        filled = subst (Filled (shape o ps a i) (object (members_of x))) same filled;
+        sound = subst IsSoundJson same sound;
+      },
+    )
 
 -- ---- the defaults of each version
 

@@ -109,9 +109,9 @@ from_fits false p =
     chosen FitsNum (reader.is_integer p && nat_lt (numeral_digits p) (2 ^ 64)) (Some (serde.unsigned (numeral_digits p))) (reader.float_of false p) (λ q. tt) (float_fits false p)
 from_fits true p =
     chosen FitsNum (reader.is_integer p && nat_lt 0 (numeral_digits p) && nat_le (numeral_digits p) (2 ^ 63)) (Some (serde.negative (neg_ℤ (pos (numeral_digits p))))) (reader.float_of true p) (λ q.
-      let last = and_last (reader.is_integer p && nat_lt 0 (numeral_digits p)) (nat_le (numeral_digits p) (2 ^ 63)) q in
-      let most : numeral_digits p ≤ 2 ^ 63 = grind (arith, nat_tests) in
-      negative_fits (numeral_digits p) most) (float_fits true p)
+    let last = and_last (reader.is_integer p && nat_lt 0 (numeral_digits p)) (nat_le (numeral_digits p) (2 ^ 63)) q in
+    let most : numeral_digits p ≤ 2 ^ 63 = grind (arith, nat_tests) in
+    negative_fits (numeral_digits p) most) (float_fits true p)
 
 number_fits : (s : List ℕ) → If FitsNum (number_of s)
 unfolding number_of

@@ -15,7 +15,7 @@ mod limits;
 
 pub use document_laws::one_value;
 pub use laws::{
-    admitting, deciding, fillings, finalizers, going_over, known, one_cause, one_hub, one_to_one, standing,
-    unstamped,
+    admitting, deciding, fillings, finalizers, going_over, known, one_cause, one_hub, one_to_one,
+    standing, unstamped,
 };
 pub use limits::MAX_MEASURE;
