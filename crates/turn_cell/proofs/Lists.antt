@@ -1,7 +1,7 @@
 -- Lists of views and of items.
 use Rattle.std.proofs.Common.{◌≡◌, ◌≢◌, ℕ, zero, suc, ◌+◌, ◌-◌, ◌*◌, ◌^◌, ◌<◌, ◌≤◌, nat_eq, Bool, true, false, List, [], ◌∷◌, ◌++◌, length, set, refl, ap, sym, ◌∙◌, arith, length-append, ◌⊎◌, inl, inr, ⊎_elim}
 use Rattle.std.proofs.lemmas.Bool.Decides.{nat_tests}
-use Rattle.std.proofs.lemmas.Nat.{pow-add, pow_pos}
+use Rattle.std.proofs.lemmas.Nat.{pow_pos}
 use Rattle.std.proofs.Common.{suc-mul}
 use mathlib.Core.List.{IsPrefix}
 use mathlib.Core.Option.{some, some-injective, some-ne-none}
@@ -12,8 +12,8 @@ use Rattle.api_calls.specs.Item.{Logged, items_of}
 use Rattle.turn_cell.specs.Numbers.{In, Differ}
 use Rattle.std.proofs.Common.{max, nat_lt, if◌then◌else◌}
 use Rattle.turn_cell.specs.declared.view.Share.{Share}
-use Rattle.turn_cell.specs.Views.{half, both_shares, longer}
-use Rattle.turn_cell.specs.Rule.{total, parts_of}
+use Rattle.turn_cell.specs.Views.{both_shares, longer}
+use Rattle.turn_cell.specs.Rule.{total}
 use Rattle.turn_cell.specs.declared.view.Stage.{Stage}
 use Rattle.turn_cell.specs.declared.view.Stage.TheVariants.{Rest, Waits, Holds, Met}
 use Rattle.turn_cell.specs.Turns.{is_resting}
@@ -106,9 +106,6 @@ pub zero_factor : (a b : ℕ) → a * b ≡ 0 → 0 < b → a ≡ 0
 zero_factor zero b e h = refl
 zero_factor (suc a) b e h = let m = suc-mul a b in absurd (omega arith)
 
-pub parts_whole : (halves scale : ℕ) → halves ≤ scale → 2 ^ halves * 2 ^ (scale - halves) ≡ 2 ^ scale
-parts_whole halves scale le = sym (pow-add 2 halves (scale - halves)) ∙ ap (λ k. 2 ^ k) (let e : halves + (scale - halves) ≡ scale = omega arith in e)
-
 pub none_in : (n : ℕ) (ns : List ℕ) → ns ≡ [] → ¬ In n ns
 none_in n [] e h = h
 none_in n (m ∷ ms) e h = cc (e)
@@ -157,30 +154,6 @@ differ_append (x ∷ xs) ys dx dy apart = (
   (λ h. ⊎_elim (λ (a : In x xs). dx.0 a) (λ (b : In x ys). apart x (inl refl) b) (in_cases x xs ys h)),
   differ_append xs ys dx.1 dy (λ n a. apart n (inr a)),
 )
-
--- a share cut once more often
-pub parts_double : (sh : Share) (k : ℕ) → sh.halves ≤ k → parts_of (k + 1) sh ≡ 2 * parts_of k sh
-parts_double sh k le =
-    let e : k + 1 - sh.halves ≡ 1 + (k - sh.halves) = omega arith in
-    let d : 2 ^ (k + 1 - sh.halves) ≡ 2 ^ 1 * 2 ^ (k - sh.halves) = ap (λ n. 2 ^ n) e ∙ pow-add 2 1 (k - sh.halves) in
-    ap (λ n. sh.top * n) d ∙ (let x : ℕ = 2 ^ (k - sh.halves) in let r : sh.top * (2 * x) ≡ 2 * (sh.top * x) = omega arith in r)
-
-pub parts_half : (sh : Share) (k : ℕ) → parts_of (k + 1) (half sh) ≡ parts_of k sh
-parts_half sh k = ap (λ n. sh.top * 2 ^ n) (let e : k + 1 - (sh.halves + 1) ≡ k - sh.halves = omega arith in e)
-
-lifted : (i m k : ℕ) → i ≤ m → m ≤ k → 2 ^ (m - i) * 2 ^ (k - m) ≡ 2 ^ (k - i)
-lifted i m k a b = sym (pow-add 2 (m - i) (k - m)) ∙ ap (λ n. 2 ^ n) (let e : (m - i) + (k - m) ≡ k - i = omega arith in e)
-
-pub parts_both : (a b : Share) (k : ℕ) → a.halves ≤ k → b.halves ≤ k → parts_of k (both_shares a b) ≡ parts_of k a + parts_of k b
-parts_both a b k la lb =
-    let m : ℕ = max a.halves b.halves in
-    let x : ℕ = 2 ^ (m - a.halves) in
-    let y : ℕ = 2 ^ (m - b.halves) in
-    let z : ℕ = 2 ^ (k - m) in
-    let e : x * z ≡ 2 ^ (k - a.halves) = lifted a.halves m k (omega arith) (omega arith) in
-    let d : y * z ≡ 2 ^ (k - b.halves) = lifted b.halves m k (omega arith) (omega arith) in
-    let s : (a.top * x + b.top * y) * z ≡ a.top * (x * z) + b.top * (y * z) = omega arith in
-    s ∙ (λ i. a.top * e i + b.top * d i)
 
 pub longer_left : (xs ys : List Logged) → length xs ≤ length (longer xs ys)
 longer_left xs ys = longer_cases xs ys (λ zs. length xs ≤ length zs) (λ l. omega arith) (λ l. omega arith)
