@@ -60,7 +60,7 @@ module _ (a : FormName) (b : Bytes) (es : List (FormName × Bytes)) (cap : ℕ) 
   test_of = same a
 
   kept-shown : (o : Option (FormName × Bytes)) → lookup_entry test_of es ≡ o
-    → form_of (a, b) ∷ beside (option_map form_of o) (shown (remove_entry test_of es)) (shown (take (cap - 1) es))
+      → form_of (a, b) ∷ beside (option_map form_of o) (shown (remove_entry test_of es)) (shown (take (cap - 1) es))
       ≡ shown (option_map_or (λ e. (e.0, b) ∷ remove_entry test_of es) o ((a, b) ∷ take (cap - 1) es))
   kept-shown None h = refl
   kept-shown (Some e) h =

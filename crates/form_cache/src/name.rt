@@ -108,14 +108,7 @@ impl Equivalent<FormName> for Sought<'_> {
 fn is_same(key: &Key, number: u64, version: u8, name: &FormName) -> bool
     ensures { result ≡ same_form key.now number version name.now.key name.now.number name.now.version }
 {
-    are_same(
-        key,
-        number,
-        version,
-        &name.key,
-        name.number,
-        name.version,
-    )
+    are_same(key, number, version, &name.key, name.number, name.version)
 }
 
 // The numbers are compared first, since they tell most names apart.

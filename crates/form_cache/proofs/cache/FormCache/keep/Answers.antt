@@ -8,8 +8,8 @@ pub returns-clause-kept : goal.returns-clause-kept
 returns-clause-kept c =
     let es = c.self.inside.forms.entries in let cap = c.self.inside.forms.cap in
     rw (← c.self.view_is) (
-      ap (λ x. forms_of (shown x.entries) x.cap) c.in_ok-put.ensures.entries
-        ∙ ap (λ fs. forms_of fs cap) (sym (kept-put (record { key = c.args.key; number = c.args.number; version = c.args.version }) c.args.text es cap))
+    ap (λ x. forms_of (shown x.entries) x.cap) c.in_ok-put.ensures.entries
+    ∙ ap (λ fs. forms_of fs cap) (sym (kept-put (record { key = c.args.key; number = c.args.number; version = c.args.version }) c.args.text es cap))
     )
 
 pub returns-in_err-put-clause-replaces : goal.returns-in_err-put-clause-replaces
