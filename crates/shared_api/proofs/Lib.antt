@@ -1,0 +1,4 @@
+pub mod Levels
+pub mod Born
+pub mod Showing
+pub mod Turns

@@ -1,0 +1,25 @@
+use Rattle.std.proofs.Common.{◌≡◌, ◌<◌, [], Some, ap, subst, ◌∙◌}
+use Rattle.api_calls.specs.Calls.{get}
+use Rattle.shared_api.specs.Answered.{CallsOn, decided, told}
+use Rattle.shared_api.specs.Base.{server_of}
+use Rattle.shared_api.specs.Passes.{Known}
+use Rattle.shared_api.specs.Places.{IsPlace}
+use Rattle.shared_api.specs.declared.cell.CoreBase.{CoreBase}
+use Rattle.shared_api.proofs.Turns.{get_calls}
+use Rattle.shared_api.proofs.api.SharedApi.get.Goals as goal
+
+pub returns-clause-answer : goal.returns-clause-answer
+returns-clause-answer g c =
+    let based : c.pass.inside.turn.seat.me.0.base ≡ Some c.args.self.now.base = ap (λ (k : Known (CoreBase g.row.V.Denot) g.row.V-Tool.Denot). k.view.base) c.pass.view_is ∙ c.requires.of.base in
+    let looked = c.look-looked.ensures.looks c.args.self.now.base based in
+    let calls = get_calls g.V.Versions.meaning c.args.self.now.base c.given-lent.result.versions.now c.given-lent.result.boot
+    (g.V.Tool.Tool.faults c.pass.inside.tool < g.V.Tool.Tool.faults c.got.new.tool) c.pass.inside.turn.seat.me.0 c.look-looked.new.pass.seat.me.0 c.args.key.now c.place_of-v.result
+    c.look-looked.result (decided c.got.result) (told c.plain.result) c.given-lent.ensures.versions c.given-lent.ensures.boot looked c.got.ensures.came c.plain.ensures in (
+      c.place_of-v.result,
+      subst (λ (x : g.row.V.Denot). IsPlace (g.V.Versions.meaning x) c.args.version.now c.place_of-v.result) c.given-lent.ensures.versions c.place_of-v.ensures,
+      subst
+          (λ (k : Known (CoreBase g.row.V.Denot) g.row.V-Tool.Denot).
+          CallsOn (server_of g.V.Versions.meaning c.args.self.now.base) (g.V.Tool.Tool.faults k.tool < g.V.Tool.Tool.faults c.got.new.tool) []
+          k.view c.look-looked.new.pass.seat.me.0 (get c.place_of-v.result c.args.key.now) (told c.plain.result))
+          c.pass.view_is calls,
+    )

@@ -1,0 +1,105 @@
+//! Why a call has no reply.
+ghost use Rattle.std.specs.Prelude.{◌≡◌, ◌⊎◌, ◌++◌, IfOk, codes};
+ghost use Rattle.api_calls.specs.Calls.{answered};
+ghost use Rattle.api_calls.specs.Refusal.{no_memory, refusal_of, subject_of};
+ghost use Rattle.api_calls.specs.Replies.{object_subject};
+ghost use Rattle.shared_api.specs.Answered.{decided, told};
+ghost use Rattle.shared_api.specs.Faults.{admission};
+
+use api_calls::{AdmitFault, ConvFault, Refusal, Reply, Subject, Versions};
+use kj_value::{NoMemory, Txt};
+use std::alloc::Global;
+
+/// A refusal, as `?` makes it.
+#[derive(Drop)]
+pub struct Refused {
+    pub refusal: Refusal,
+}
+
+impl From<NoMemory> for Refused {
+    ghost use Rattle.std.specs.Prelude.{◌≡◌};
+    ghost use Rattle.api_calls.specs.declared.refusal.Refusal.TheVariants as refusal;
+
+    ghost from_gives = { λ _ e. e.refusal ≡ refusal.NoMemory };
+
+    fn from(_wanted: NoMemory) -> Refused {
+        Refused {
+            refusal: Refusal::NoMemory,
+        }
+    }
+}
+
+impl From<ConvFault> for Refused {
+    ghost use Rattle.std.specs.Prelude.{◌≡◌};
+    ghost use Rattle.api_calls.specs.Refusal.{refusal_of};
+    ghost use Rattle.shared_api.specs.Faults.{failed};
+
+    ghost from_gives = { λ f e. refusal_of e.refusal ≡ failed f };
+
+    fn from(fault: ConvFault) -> Refused {
+        match fault {
+            ConvFault::Tool => Refused {
+                refusal: Refusal::Converter,
+            },
+            ConvFault::NoMemory => Refused {
+                refusal: Refusal::NoMemory,
+            },
+        }
+    }
+}
+
+// A kind, a point and a group.
+fn kind_group(alloc: Global, kind: &str, group: &str) -> Result<Txt, NoMemory>
+    ensures { IfOk result (λ t. t.bytes ≡ kind.now ++ (codes "." ++ group.now)) }
+{
+    let mut text = String::new(alloc);
+    text.push_str(kind)?;
+    text.push_str(".")?;
+    text.push_str(group)?;
+    Ok(Txt::of_string(text))
+}
+
+// An object of the definition, of a name.
+fn subject<V: Versions>(alloc: Global, versions: &V, name: Txt) -> Result<Subject, NoMemory>
+    ensures { IfOk result (λ s. subject_of s ≡ object_subject (V.meaning versions.now) name.bytes) }
+{
+    let kind = versions.kind().as_str();
+    let group = versions.group().as_str();
+    let kind_group = kind_group(alloc, kind, group)?;
+    Ok(Subject { kind_group, name })
+}
+
+/// Why a request wasn't admitted, as a refusal; or want of memory.
+pub fn not_admitted<V: Versions>(alloc: Global, versions: &V, fault: AdmitFault) -> Refused
+    ensures { (refusal_of result.refusal ≡ no_memory) ⊎ (refusal_of result.refusal ≡ admission (V.meaning versions.now) fault) }
+{
+    match fault {
+        AdmitFault::BadRequest(why) => Refused {
+            refusal: Refusal::BadRequest { why },
+        },
+        AdmitFault::Invalid { name, cause } => match subject(alloc, versions, name) {
+            Ok(subject) => Refused {
+                refusal: Refusal::Invalid { subject, cause },
+            },
+            Err(_) => Refused {
+                refusal: Refusal::NoMemory,
+            },
+        },
+        AdmitFault::Tool => Refused {
+            refusal: Refusal::Converter,
+        },
+        AdmitFault::NoMemory => Refused {
+            refusal: Refusal::NoMemory,
+        },
+    }
+}
+
+/// The refusal alone.
+pub fn plain(came: Result<Reply, Refused>) -> Result<Reply, Refusal>
+    ensures { told result ≡ answered (decided came) }
+{
+    match came {
+        Ok(reply) => Ok(reply),
+        Err(refused) => Err(refused.refusal),
+    }
+}
