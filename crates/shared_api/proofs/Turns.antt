@@ -1,32 +1,30 @@
 -- What one turn of a call comes to.
-use Rattle.std.proofs.Common.{◌≡◌, ◌≤◌, ◌<◌, ◌+◌, ◌^◌, ℕ, List, [], ◌∷◌, ◌++◌, Option, None, Some, Ok, Err, length, ap, sym, subst, refl, ◌∙◌, arith}
+use Rattle.std.proofs.Common.{◌≡◌, ◌≤◌, ◌<◌, ◌^◌, ℕ, List, [], ◌∷◌, Option, None, Some, Ok, Err, length, ap, sym, subst, refl, ◌∙◌, arith}
 use Rattle.std.proofs.lemmas.List.{append-nil}
-use Rattle.std.specs.Prelude.{Result, IfOk, IsTrue}
+use Rattle.std.specs.Prelude.{Result, IfOk}
 use Rattle.kj_value.specs.declared.error.NoMemory.{NoMemory}
 use Rattle.api_calls.specs.Versions.{AreFlags, IsStoredList, versions_of}
 use Rattle.api_calls.specs.declared.flags.Flags.{Flags}
 use Rattle.api_calls.specs.declared.flags.StoredList.{StoredList}
 use Rattle.api_core.specs.Prepared.{Sees}
 use Rattle.api_core.specs.declared.seen.Peeked.{Peeked}
-use Rattle.kube_meta.specs.declared.limits.Limits.{Limits}
 use Rattle.api_calls.specs.Calls.{Server, Call, Told, answered, Comes, decided as as_decided, wants_memory, not_converted, Converts, Decides, Failure, no_memory, converter, Fails, failure_refusal, get, raw, crd}
 use Rattle.api_calls.specs.Item.{Logged, Item, items}
 use Rattle.api_calls.specs.Legal.{IsLegal}
 use Rattle.api_calls.specs.Meaning.{Meaning}
 use Rattle.api_calls.specs.Refusal as refusal
 use Rattle.api_calls.specs.Replies.{Answer, GetReply, RawReply, CrdReply}
-use Rattle.api_calls.specs.State.{State, revision, entries, state}
+use Rattle.api_calls.specs.State.{State, revision, state}
 use Rattle.kube_meta.specs.Key.{KeyView}
 use Rattle.api_core.specs.CoreOf.{CoreOf, StandsFor}
 use Rattle.api_core.specs.ListLaws.{entries-few}
 use Rattle.turn_cell.specs.declared.view.View.{View}
-use Rattle.turn_cell.specs.declared.view.Stage.TheVariants.{Rest, Holds}
+use Rattle.turn_cell.specs.declared.view.Stage.TheVariants.{Holds}
 use Rattle.turn_cell.specs.Views.{set_stage, Later}
-use Rattle.turn_cell.specs.Turns.{Turned, Gives, IsResting}
+use Rattle.turn_cell.specs.Turns.{Gives}
 use Rattle.turn_cell.specs.Laws.{turn_reads}
 use Rattle.shared_api.specs.Answered.{Came, CallsOn}
 use Rattle.shared_api.specs.Base.{StandsCell, base_of, server_of}
-use Rattle.shared_api.specs.Passes.{ApiOf}
 use Rattle.shared_api.specs.Turning.{Reads, Looks, Settles}
 use Rattle.shared_api.specs.declared.cell.CoreBase.{CoreBase}
 

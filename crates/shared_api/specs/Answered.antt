@@ -1,6 +1,5 @@
 -- What a call on a pass says: the list at which it was decided, and what it was told there.
 use Rattle.std.specs.Prelude.{◌≡◌, ℕ, List, Option, None, Result, Ok, Err}
-use Rattle.kj_value.specs.declared.error.NoMemory.{NoMemory}
 use Rattle.api_calls.specs.Calls.{Server, Call, Told, answered, Comes}
 use Rattle.api_calls.specs.Item.{Logged, Item, items}
 use Rattle.api_calls.specs.Legal.{IsLegal}

@@ -1,5 +1,5 @@
 -- For private clauses: what one turn of a call tells.
-use Rattle.std.specs.Prelude.{◌≡◌, ℕ, ◌≤◌, ◌^◌, List, None, Result, IfOk}
+use Rattle.std.specs.Prelude.{◌≡◌, ◌≤◌, ◌^◌, List, None, Result, IfOk}
 use Rattle.kj_value.specs.declared.error.NoMemory.{NoMemory}
 use Rattle.kube_meta.specs.Key.{KeyView}
 use Rattle.api_calls.specs.Calls.{Server}

@@ -1,10 +1,3 @@
-use Rattle.std.proofs.Common.{◌≡◌, Some, List}
-use Rattle.api_calls.specs.Item.{Item, items}
-use Rattle.api_core.specs.Prepared.{Sees}
-use Rattle.api_core.specs.CoreOf.{StandsFor}
-use Rattle.api_core.specs.declared.seen.Peeked.{Peeked}
-use Rattle.shared_api.specs.Base.{base_of, server_of}
-use Rattle.shared_api.specs.declared.cell.CoreBase.{CoreBase}
 use Rattle.shared_api.proofs.Turns.{looks}
 use Rattle.shared_api.proofs.look.look.Goals as goal
 
