@@ -1,9 +1,9 @@
 -- What a create makes of an admitted value.
-use Rattle.std.proofs.Common.{◌≡◌, ℕ, pos, List, Option, None, Some, true, sym, subst, refl, ◌∙◌, arith}
+use Rattle.std.proofs.Common.{◌≡◌, ℕ, ◌*◌, ◌<◌, ◌≤◌, pos, List, length, Option, None, Some, true, sym, subst, refl, ◌∙◌, arith}
 use Rattle.std.specs.Prelude.{IsTrue}
 use Rattle.kube_meta.specs.Names.{is_name}
 use Rattle.kube_meta.specs.View.{ObjectView}
-use Rattle.api_calls.specs.Meaning.{Meaning, Request, Weighs}
+use Rattle.api_calls.specs.Meaning.{Meaning, Request, Weighs, stored_text}
 use Rattle.api_calls.specs.Legal.{IsNew, key_of}
 use Rattle.api_calls.specs.Values.{created_value}
 use Rattle.api_calls.specs.Versions.{AdmitsWhole, AreStamps, IgnoresStamps, IsStamp, IsStored, Stand}
@@ -29,6 +29,13 @@ fresh m stand unstamped admitted q old e stamp is_stamp admits =
       name = (stand.whole old is.whole).rules.name;
       new = record { generation = refl; unmarked = refl };
     }
+
+-- a stored text is within its value's weight, where the texts of forms are
+pub text_within : (m : Meaning) (at w : ℕ) (h : ObjectView) (bytes : List ℕ)
+    → ((v w n : ℕ) (h x : ObjectView) → m.whole h → v < m.count → m.pair v h x → Weighs m h w → h.meta.generation ≡ pos n → length (stored_text x) ≤ 256 * w)
+    → h.meta.generation ≡ pos 1 → Weighs m h w → IsStored m at h bytes → length bytes ≤ 256 * w
+text_within m at w h bytes fits one weighs s =
+    subst (λ (b : List ℕ). length b ≤ 256 * w) (sym s.spelled) (fits at w 1 h s.form s.whole s.known s.pairs weighs one)
 
 pub means_new : (m : Meaning) (boot v number : ℕ) (ns : List ℕ) (h : ObjectView) (ready : Ready) → IsFresh m ns h
     → (IsTrue m.honest → Weighs m h ready.prepared.weight)

@@ -1,5 +1,5 @@
 //! A create of an object.
-ghost use Rattle.std.specs.Prelude.{◌≡◌, ◌+◌, ◌*◌, ◌<◌, ◌≤◌, ◌^◌, ◌↔◌, List, length, ℕ, None, Err, IfOk, IsErrOf, IsTrue};
+ghost use Rattle.std.specs.Prelude.{◌≡◌, ◌+◌, ◌*◌, ◌<◌, ◌≤◌, ◌^◌, ◌↔◌, List, length, ℕ, None, Err, IfErr, IfOk, IsErrOf, IsOk, IsTrue};
 ghost use Rattle.http_wire.specs.Response.{HasPhrase};
 ghost use Rattle.kube_meta.specs.View.{ObjectView, object_of};
 ghost use Rattle.api_calls.specs.Item.{Item};
@@ -18,7 +18,9 @@ ghost use Rattle.object_server.specs.View.{base_of};
 use crate::given::Given;
 use crate::refused::{Refused, not_admitted};
 use crate::served::is_served;
-use api_calls::{Admitted, BORN_END, ConvFault, Incoming, Refusal, Reply, Versions, one_weight};
+use api_calls::{
+    Admitted, BORN_END, ConvFault, Incoming, Refusal, Reply, Versions, one_weight, stored_fits,
+};
 use api_core::{Core, CreateEnd, Prepared};
 use kj_value::{Stamp, Txt};
 use kube_meta::{Key, Object};
@@ -48,6 +50,21 @@ fn fits(text: &Txt, chunks: u64) -> bool
     let bytes = text.len() as u64;
     let full = bytes / 256;
     full < chunks || (full == chunks && bytes % 256 == 0)
+}
+
+// A stored text is within its weight. Only where it isn't known what values mean may it be longer, and then there is no room
+// for it.
+fn within<V: Versions>(text: &Txt, weight: u64) -> Result<(), ConvFault>
+    requires known { IsTrue V.HONEST → length text.now.bytes ≤ 256 * weight }
+    ensures known { IsTrue V.HONEST → IsOk result }
+    ensures within { IfOk result (λ _. length text.now.bytes ≤ 256 * weight) }
+    ensures longer { IfErr result (λ e. (e ≡ ConvFault.NoMemory) × (256 * weight < length text.now.bytes)) }
+{
+    if V::HONEST || fits(text, weight) {
+        Ok(())
+    } else {
+        Err(ConvFault::NoMemory)
+    }
 }
 
 // Stores what is ready, and tells how that ended.
@@ -112,8 +129,9 @@ impl<V: Versions> Given<'_, V> {
         ensures tool { IsErrOf result ConvFault.Tool → V.Tool.faults tool.old < V.Tool.faults tool.new }
         ensures rises { V.Tool.faults tool.old ≤ V.Tool.faults tool.new }
     {
-        // Asked for what its clause says: the weight is that of the value with its stamps.
+        // Asked for what their clauses say: the weight is that of the value with its stamps, and its stored text is within it.
         one_weight::<V>();
+        stored_fits::<V>();
         let Admitted {
             hub,
             weight,
@@ -124,10 +142,7 @@ impl<V: Versions> Given<'_, V> {
         let name = Txt::of(self.alloc, hub.meta.name.as_str())?;
         let text = self.shown(tool, input.version, number, number, &hub)?;
         let bytes = self.stored(tool, storage, &hub)?;
-        // Where it isn't known what values mean, the text may be longer than its weight.
-        if !fits(&bytes, weight) {
-            return Err(ConvFault::NoMemory);
-        }
+        within::<V>(&bytes, weight)?;
         Ok(Ready {
             prepared: Prepared {
                 key,

@@ -1,11 +1,11 @@
-use Rattle.std.proofs.Common.{◌≡◌, ℕ, pos, List, None, Some, true, ap, sym, subst, ◌∙◌, arith}
+use Rattle.std.proofs.Common.{◌≡◌, ℕ, pos, List, None, Some, true, ap, refl, sym, subst, ◌∙◌, arith}
 use Rattle.kube_meta.specs.Names.{is_name}
 use Rattle.kube_meta.specs.View.{ObjectView, object_of}
 use Rattle.api_calls.specs.Replies.{IsShown}
 use Rattle.api_calls.specs.Values.{created_value}
 use Rattle.api_calls.specs.Versions.{IsStored, request_of}
 use Rattle.object_server.proofs.Ascii.{name_fits, namespace_fits}
-use Rattle.object_server.proofs.Values.{fresh, means_new}
+use Rattle.object_server.proofs.Values.{fresh, means_new, text_within}
 use Rattle.object_server.proofs.given.Given.prepare.Goals as goal
 
 pub of-requires-clause-ns_fits : goal.of-requires-clause-ns_fits
@@ -33,9 +33,20 @@ stored-requires-clause-whole g c =
     (request_of c.args.input.now) (object_of c.args.admitted.hub) c.args.admitted.expected c.args.stamp.text c.requires.stamp c.requires.admits in
     subst (λ (o : ObjectView). (g.V.Versions.meaning it).whole o) (sym c.new_value-hub.ensures) value.whole
 
+pub within-requires : goal.within-requires
+within-requires g c =
+    let it = c.args.self.now.versions.now in record {
+      known = λ honest. text_within (g.V.Versions.meaning it) c.args.storage c.args.admitted.weight (created_value c.args.stamp.text (object_of c.args.admitted.hub)) c.in_ok-bytes.bytes.bytes
+          (λ v w n h x is known pairs weighs counts. c.stored_fits.ensures.hub it v w n h x honest is known pairs weighs counts)
+          refl
+          (c.one_weight.ensures.unstamped it (object_of c.args.admitted.hub) c.args.admitted.weight (Some c.args.stamp.text) None (pos 1)
+          (c.requires.weighs (g.met.V.Versions.told it ∙ honest)))
+          (subst (λ (o : ObjectView). IsStored (g.V.Versions.meaning it) c.args.storage o c.in_ok-bytes.bytes.bytes) c.new_value-hub.ensures c.in_ok-bytes.ensures.stored);
+    }
+
 pub returns-clause-sized : goal.returns-clause-sized
 returns-clause-sized g c =
-    let some = c.requires.some in record { weighed = λ none. omega (arith, some, none); within = c.fits.ensures.0 c.if-not-fits.false }
+    let some = c.requires.some in record { weighed = λ none. omega (arith, some, none); within = c.in_ok-within.ensures.within }
 
 pub returns-clause-means : goal.returns-clause-means
 returns-clause-means g c =
