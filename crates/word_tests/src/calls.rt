@@ -1,303 +1,168 @@
+//! Refusals, tokens, uids and the order of versions.
+use crate::words::{list, order_word, text_at};
 use api_calls::{
-    Cause, Refusal, Subject, Token, TokenFault, Why, code_of, no_memory_text, priority, read_token,
-    status_text, uid_of, write_token,
+    BORN_END, Cause, Refusal, Subject, Token, TokenFault, Why, code_of, no_memory_text, priority,
+    read_token, status_text, uid_of, write_token,
 };
-use kj_value::{NoMemory, Rule, Txt};
+use kj_value::{Rule, Txt};
 use kube_meta::{Key, Room, RoomKind};
 use std::alloc::Global;
-use std::cmp::Ordering;
-use std::test::Fail;
 
-// The refusal's code and text are these, of `crontabs` in `example.com`.
-fn is_told(alloc: Global, refusal: &Refusal, code: u16, text: &str) -> Result<bool, NoMemory> {
-    let told = status_text(alloc, refusal, "crontabs", "example.com")?;
-    Ok(code_of(refusal) == code && told.as_str() == text)
-}
-
-#[test]
-fn not_found(rt: HostRuntime) -> Result<(), Fail> {
-    let name = Txt::of(rt.alloc(), "zz")?;
-    let refusal = Refusal::NotFound { name };
-    let text =
-        "{\"apiVersion\":\"v1\",\"code\":404,\"details\":{\"group\":\"example.com\",\"kind\":\"crontabs\",\"name\":\"zz\"},\"kind\":\"Status\",\"message\":\"crontabs.example.com \\\"zz\\\" not found\",\"metadata\":{},\"reason\":\"NotFound\",\"status\":\"Failure\"}";
-    assert!(&rt; is_told(rt.alloc(), &refusal, 404, text)?);
-    Ok(())
-}
-
-#[test]
-fn no_resource(rt: HostRuntime) -> Result<(), Fail> {
-    let refusal = Refusal::NoResource;
-    let text =
-        "{\"apiVersion\":\"v1\",\"code\":404,\"kind\":\"Status\",\"message\":\"the server could not find the requested resource\",\"metadata\":{},\"reason\":\"NotFound\",\"status\":\"Failure\"}";
-    assert!(&rt; is_told(rt.alloc(), &refusal, 404, text)?);
-    Ok(())
-}
-
-#[test]
-fn already_exists(rt: HostRuntime) -> Result<(), Fail> {
-    let name = Txt::of(rt.alloc(), "a")?;
-    let refusal = Refusal::AlreadyExists { name };
-    let text =
-        "{\"apiVersion\":\"v1\",\"code\":409,\"details\":{\"group\":\"example.com\",\"kind\":\"crontabs\",\"name\":\"a\"},\"kind\":\"Status\",\"message\":\"crontabs.example.com \\\"a\\\" already exists\",\"metadata\":{},\"reason\":\"AlreadyExists\",\"status\":\"Failure\"}";
-    assert!(&rt; is_told(rt.alloc(), &refusal, 409, text)?);
-    Ok(())
-}
-
-#[test]
-fn conflict(rt: HostRuntime) -> Result<(), Fail> {
-    let name = Txt::of(rt.alloc(), "a")?;
-    let refusal = Refusal::Conflict { name, newer: 2 };
-    let text =
-        "{\"apiVersion\":\"v1\",\"code\":409,\"details\":{\"causes\":[{\"field\":\"metadata.resourceVersion\",\"message\":\"2\",\"reason\":\"ResourceVersionChanged\"}],\"group\":\"example.com\",\"kind\":\"crontabs\",\"name\":\"a\"},\"kind\":\"Status\",\"message\":\"Operation cannot be fulfilled on crontabs.example.com \\\"a\\\": the object has been modified; please apply your changes to the latest version and try again\",\"metadata\":{},\"reason\":\"Conflict\",\"status\":\"Failure\"}";
-    assert!(&rt; is_told(rt.alloc(), &refusal, 409, text)?);
-    Ok(())
-}
-
-#[test]
-fn invalid(rt: HostRuntime) -> Result<(), Fail> {
-    let name = Txt::of(rt.alloc(), "a")?;
-    let kind_group = Txt::of(rt.alloc(), "CronTab.example.com")?;
-    let field = Txt::of(rt.alloc(), "metadata.resourceVersion")?;
-    let refusal = Refusal::Invalid {
-        subject: Subject { kind_group, name },
-        cause: Cause {
-            field,
-            rule: Rule::Required,
-        },
-    };
-    let text =
-        "{\"apiVersion\":\"v1\",\"code\":422,\"details\":{\"causes\":[{\"field\":\"metadata.resourceVersion\",\"message\":\"Required\",\"reason\":\"FieldValueInvalid\"}],\"group\":\"example.com\",\"kind\":\"CronTab\",\"name\":\"a\"},\"kind\":\"Status\",\"message\":\"CronTab.example.com \\\"a\\\" is invalid: metadata.resourceVersion: Required\",\"metadata\":{},\"reason\":\"Invalid\",\"status\":\"Failure\"}";
-    assert!(&rt; is_told(rt.alloc(), &refusal, 422, text)?);
-    Ok(())
-}
-
-#[test]
-fn bad_request(rt: HostRuntime) -> Result<(), Fail> {
-    let refusal = Refusal::BadRequest { why: Why::NotJson };
-    let text =
-        "{\"apiVersion\":\"v1\",\"code\":400,\"kind\":\"Status\",\"message\":\"bad request: NotJson\",\"metadata\":{},\"reason\":\"BadRequest\",\"status\":\"Failure\"}";
-    assert!(&rt; is_told(rt.alloc(), &refusal, 400, text)?);
-    Ok(())
-}
-
-#[test]
-fn bad_query(rt: HostRuntime) -> Result<(), Fail> {
-    let parameter = Txt::of(rt.alloc(), "watch")?;
-    let refusal = Refusal::BadRequest {
-        why: Why::BadQuery { parameter },
-    };
-    let text =
-        "{\"apiVersion\":\"v1\",\"code\":400,\"kind\":\"Status\",\"message\":\"bad request: BadQuery watch\",\"metadata\":{},\"reason\":\"BadRequest\",\"status\":\"Failure\"}";
-    assert!(&rt; is_told(rt.alloc(), &refusal, 400, text)?);
-    Ok(())
-}
-
-#[test]
-fn expired(rt: HostRuntime) -> Result<(), Fail> {
-    let refusal = Refusal::Expired { floor: 7 };
-    let text =
-        "{\"apiVersion\":\"v1\",\"code\":410,\"kind\":\"Status\",\"message\":\"the continue token is older than resource version 7\",\"metadata\":{},\"reason\":\"Expired\",\"status\":\"Failure\"}";
-    assert!(&rt; is_told(rt.alloc(), &refusal, 410, text)?);
-    Ok(())
-}
-
-#[test]
-fn full(rt: HostRuntime) -> Result<(), Fail> {
-    let refusal = Refusal::Full {
-        room: Room {
-            what: RoomKind::Chunks,
-            need: 2,
-            free: 1,
-        },
-    };
-    let text =
-        "{\"apiVersion\":\"v1\",\"code\":507,\"kind\":\"Status\",\"message\":\"no room for chunks: need 2, free 1\",\"metadata\":{},\"reason\":\"InsufficientStorage\",\"status\":\"Failure\"}";
-    assert!(&rt; is_told(rt.alloc(), &refusal, 507, text)?);
-    Ok(())
-}
-
-#[test]
-fn migration_running(rt: HostRuntime) -> Result<(), Fail> {
-    let name = Txt::of(rt.alloc(), "m2")?;
-    let refusal = Refusal::MigrationRunning { name };
-    let text =
-        "{\"apiVersion\":\"v1\",\"code\":409,\"kind\":\"Status\",\"message\":\"migration \\\"m2\\\" is running\",\"metadata\":{},\"reason\":\"MigrationRunning\",\"status\":\"Failure\"}";
-    assert!(&rt; is_told(rt.alloc(), &refusal, 409, text)?);
-    Ok(())
-}
-
-#[test]
-fn still_stored(rt: HostRuntime) -> Result<(), Fail> {
-    let version = Txt::of(rt.alloc(), "v1beta1")?;
-    let key = Key::of(rt.alloc(), "default", "a")?;
-    let refusal = Refusal::StillStored {
-        version,
-        key: Some(key),
-    };
-    let text =
-        "{\"apiVersion\":\"v1\",\"code\":409,\"kind\":\"Status\",\"message\":\"version \\\"v1beta1\\\" is still stored by default/a\",\"metadata\":{},\"reason\":\"StillStored\",\"status\":\"Failure\"}";
-    assert!(&rt; is_told(rt.alloc(), &refusal, 409, text)?);
-    Ok(())
-}
-
-#[test]
-fn storage_version(rt: HostRuntime) -> Result<(), Fail> {
-    let version = Txt::of(rt.alloc(), "v1")?;
-    let refusal = Refusal::StillStored { version, key: None };
-    let text =
-        "{\"apiVersion\":\"v1\",\"code\":409,\"kind\":\"Status\",\"message\":\"version \\\"v1\\\" is the storage version\",\"metadata\":{},\"reason\":\"StillStored\",\"status\":\"Failure\"}";
-    assert!(&rt; is_told(rt.alloc(), &refusal, 409, text)?);
-    Ok(())
-}
-
-#[test]
-fn converter(rt: HostRuntime) -> Result<(), Fail> {
-    let refusal = Refusal::Converter;
-    let text =
-        "{\"apiVersion\":\"v1\",\"code\":502,\"kind\":\"Status\",\"message\":\"the converter failed\",\"metadata\":{},\"reason\":\"ConverterFailed\",\"status\":\"Failure\"}";
-    assert!(&rt; is_told(rt.alloc(), &refusal, 502, text)?);
-    Ok(())
-}
-
-#[test]
-fn no_memory(rt: HostRuntime) -> Result<(), Fail> {
-    let refusal = Refusal::NoMemory;
-    let text =
-        "{\"apiVersion\":\"v1\",\"code\":503,\"kind\":\"Status\",\"message\":\"out of memory\",\"metadata\":{},\"reason\":\"ServiceUnavailable\",\"status\":\"Failure\"}";
-    assert!(&rt; is_told(rt.alloc(), &refusal, 503, text)?);
-    Ok(())
-}
-
-#[test]
-fn no_memory_needs_none(rt: HostRuntime) {
-    assert_eq!(&rt;
-        no_memory_text(),
-        "{\"apiVersion\":\"v1\",\"code\":503,\"kind\":\"Status\",\"message\":\"out of memory\",\"metadata\":{},\"reason\":\"ServiceUnavailable\",\"status\":\"Failure\"}"
-    );
-}
-
-fn spelled(alloc: Global, rv: u64) -> Result<Txt, NoMemory> {
-    let key = Key::of(alloc, "default", "b")?;
-    write_token(alloc, &Token { rv, key })
-}
-
-// The text is read as the token of this number, in `default` and of the name `b`.
-fn is_read(alloc: Global, text: &str, rv: u64) -> Result<bool, TokenFault> {
-    let token = read_token(alloc, text)?;
-    Ok(token.rv == rv && token.key.ns() == "default" && token.key.name() == "b")
-}
-
-fn is_bad(alloc: Global, text: &str) -> bool {
-    match read_token(alloc, text) {
-        Ok(_) => false,
-        Err(TokenFault::BadToken) => true,
-        Err(TokenFault::NoMemory) => false,
+/// The answer to a case of a section.
+pub fn answer(alloc: Global, section: &str, case: &str) -> Option<Txt> {
+    match section {
+        "# refusals" => told(alloc, &plain(case)?),
+        "# refusals of a name" => of_a_name(alloc, case),
+        "# the fixed text" => Txt::of(alloc, no_memory_text()).ok(),
+        "# numbers in tokens" => token(alloc, case),
+        _ => other(alloc, section, case),
     }
 }
 
-#[test]
-fn tokens(rt: HostRuntime) -> Result<(), Fail> {
-    let text = spelled(rt.alloc(), 4)?;
-    assert_eq!(&rt; text.as_str(), "MSA0IGRlZmF1bHQgYg");
-    assert_eq!(&rt; is_read(rt.alloc(), "MSA0IGRlZmF1bHQgYg", 4), Ok(true));
-    let text = spelled(rt.alloc(), 0)?;
-    assert_eq!(&rt; text.as_str(), "MSAwIGRlZmF1bHQgYg");
-    assert_eq!(&rt; is_read(rt.alloc(), "MSAwIGRlZmF1bHQgYg", 0), Ok(true));
-    Ok(())
+fn other(alloc: Global, section: &str, case: &str) -> Option<Txt> {
+    match section {
+        "# tokens" => of_token(alloc, case),
+        "# uids" => uid(alloc, case),
+        "# versions in any order" => preferred(alloc, case),
+        "# two versions" => ranked(alloc, case),
+        _ => None,
+    }
 }
 
-#[test]
-fn bad_tokens(rt: HostRuntime) {
-    // number alone
-    assert!(&rt; is_bad(rt.alloc(), "MSA0"));
-    // empty
-    assert!(&rt; is_bad(rt.alloc(), ""));
-    // padded
-    assert!(&rt; is_bad(rt.alloc(), "MSA0IGRlZmF1bHQgYg=="));
-    // trailing bits
-    assert!(&rt; is_bad(rt.alloc(), "MSA0IGRlZmF1bHQgYh"));
-    // not base64
-    assert!(&rt; is_bad(rt.alloc(), "MSA0IGRlZmF1bHQgY!"));
-    // the other alphabet
-    assert!(&rt; is_bad(rt.alloc(), "MSA0IGRlZmF1bHQg+g"));
-    // space behind
-    assert!(&rt; is_bad(rt.alloc(), "MSA0IGRlZmF1bHQgYg "));
+// The code and the text of a refusal, of `crontabs` in `example.com`.
+fn told(alloc: Global, refusal: &Refusal) -> Option<Txt> {
+    let code = code_of(refusal);
+    let text = status_text(alloc, refusal, "crontabs", "example.com").ok()?;
+    Some(Txt::of_string(format!(in alloc; "{code} {}", text.as_str()).ok()?))
 }
 
-#[test]
-fn bad_lines(rt: HostRuntime) {
-    // a leading zero
-    assert!(&rt; is_bad(rt.alloc(), "MSAwNCBkZWZhdWx0IGI"));
-    // a sign
-    assert!(&rt; is_bad(rt.alloc(), "MSArNCBkZWZhdWx0IGI"));
-    // a number of 65 bits
-    assert!(&rt; is_bad(rt.alloc(), "MSAxODQ0Njc0NDA3MzcwOTU1MTYxNiBkZWZhdWx0IGI"));
-    // no number
-    assert!(&rt; is_bad(rt.alloc(), "MSAgZGVmYXVsdCBi"));
-    // another format
-    assert!(&rt; is_bad(rt.alloc(), "MiA0IGRlZmF1bHQgYg"));
-    // two spaces
-    assert!(&rt; is_bad(rt.alloc(), "MSA0ICBkZWZhdWx0IGI"));
-    // a namespace with a dot
-    assert!(&rt; is_bad(rt.alloc(), "MSA0IGRlLmZhdWx0IGI"));
-    // a capital in the name
-    assert!(&rt; is_bad(rt.alloc(), "MSA0IGRlZmF1bHQgQg"));
-    // no name
-    assert!(&rt; is_bad(rt.alloc(), "MSA0IGRlZmF1bHQg"));
-    // a space behind the name
-    assert!(&rt; is_bad(rt.alloc(), "MSA0IGRlZmF1bHQgYiA"));
-    // a space in front
-    assert!(&rt; is_bad(rt.alloc(), "IDEgNCBkZWZhdWx0IGI"));
-    // a name of 254 bytes
-    assert!(&rt;
-        is_bad(
-            rt.alloc(),
-            "MSA0IGRlZmF1bHQgYmJiYmJiYmJiYmJiYmJiYmJiYmJiYmJiYmJiYmJiYmJiYmJiYmJiYmJiYmJiYmJiYmJiYmJiYmJiYmJiYmJiYmJiYmJiYmJiYmJiYmJiYmJiYmJiYmJiYmJiYmJiYmJiYmJiYmJiYmJiYmJiYmJiYmJiYmJiYmJiYmJiYmJiYmJiYmJiYmJiYmJiYmJiYmJiYmJiYmJiYmJiYmJiYmJiYmJiYmJiYmJiYmJiYmJiYmJiYmJiYmJiYmJiYmJiYmJiYmJiYmJiYmJiYmJiYmJiYmJiYmJiYmJiYmJiYmJiYmJiYmJiYmJiYmJiYmJiYmJiYmJiYmJiYmJiYmJiYmI"
-        )
-    );
+fn plain(word: &str) -> Option<Refusal> {
+    match word {
+        "NoResource" => Some(Refusal::NoResource),
+        "NotJson" => Some(Refusal::BadRequest { why: Why::NotJson }),
+        "Expired" => Some(Refusal::Expired { floor: 7 }),
+        _ => of_the_server(word),
+    }
 }
 
-#[test]
-fn uids(rt: HostRuntime) -> Result<(), Fail> {
-    let first = uid_of(rt.alloc(), 0, 2)?;
-    assert_eq!(&rt; first.as_str(), "00000000-0000-8000-8000-000000000002");
-    let last = uid_of(rt.alloc(), 0xffff_ffff_ffff_ffff, 0x3fff_ffff_ffff_ffff)?;
-    assert_eq!(&rt; last.as_str(), "ffffffff-ffff-8fff-bfff-ffffffffffff");
-    Ok(())
+fn of_the_server(word: &str) -> Option<Refusal> {
+    match word {
+        "Full" => Some(Refusal::Full {
+            room: Room {
+                what: RoomKind::Chunks,
+                need: 2,
+                free: 1,
+            },
+        }),
+        "Converter" => Some(Refusal::Converter),
+        "NoMemory" => Some(Refusal::NoMemory),
+        _ => None,
+    }
 }
 
-#[test]
-fn priorities(rt: HostRuntime) -> Result<(), Fail> {
-    let names = [
-        "foo10",
-        "v1",
-        "v12alpha1",
-        "v10",
-        "v3beta1",
-        "foo1",
-        "v11alpha2",
-        "v2",
-        "v10beta3",
-        "v11beta2",
-    ];
-    let sorted = [
-        "v10",
-        "v2",
-        "v1",
-        "v11beta2",
-        "v10beta3",
-        "v3beta1",
-        "v12alpha1",
-        "v11alpha2",
-        "foo1",
-        "foo10",
-    ];
-    let mut versions = Vec::from_array(rt.alloc(), names)?;
-    versions
+fn of_a_name(alloc: Global, case: &str) -> Option<Txt> {
+    let texts = list(alloc, case)?;
+    let word = text_at(&texts, 0)?;
+    let name = Txt::of(alloc, text_at(&texts, 1)?).ok()?;
+    told(alloc, &named(alloc, word, name)?)
+}
+
+fn named(alloc: Global, word: &str, name: Txt) -> Option<Refusal> {
+    match word {
+        "NotFound" => Some(Refusal::NotFound { name }),
+        "AlreadyExists" => Some(Refusal::AlreadyExists { name }),
+        "Conflict" => Some(Refusal::Conflict { name, newer: 2 }),
+        "Invalid" => invalid(alloc, name),
+        _ => of_a_word(alloc, word, name),
+    }
+}
+
+fn of_a_word(alloc: Global, word: &str, name: Txt) -> Option<Refusal> {
+    match word {
+        "BadQuery" => Some(Refusal::BadRequest {
+            why: Why::BadQuery { parameter: name },
+        }),
+        "MigrationRunning" => Some(Refusal::MigrationRunning { name }),
+        "StillStored" => Some(Refusal::StillStored {
+            version: name,
+            key: Some(Key::of(alloc, "default", "a").ok()?),
+        }),
+        "StorageVersion" => Some(Refusal::StillStored {
+            version: name,
+            key: None,
+        }),
+        _ => None,
+    }
+}
+
+fn invalid(alloc: Global, name: Txt) -> Option<Refusal> {
+    Some(Refusal::Invalid {
+        subject: Subject {
+            kind_group: Txt::of(alloc, "CronTab.example.com").ok()?,
+            name,
+        },
+        cause: Cause {
+            field: Txt::of(alloc, "metadata.resourceVersion").ok()?,
+            rule: Rule::Required,
+        },
+    })
+}
+
+// The token of a number, in `default` and of the name `b`.
+fn token(alloc: Global, number: &str) -> Option<Txt> {
+    let rv = number.parse::<u64>().ok()?;
+    let key = Key::of(alloc, "default", "b").ok()?;
+    write_token(alloc, &Token { rv, key }).ok()
+}
+
+fn of_token(alloc: Global, text: &str) -> Option<Txt> {
+    match read_token(alloc, text) {
+        Ok(token) => Some(Txt::of_string(format!(in alloc;
+            "{} {} {}",
+            token.rv,
+            token.key.ns(),
+            token.key.name()
+        ).ok()?)),
+        Err(TokenFault::BadToken) => Txt::of(alloc, "bad").ok(),
+        Err(TokenFault::NoMemory) => None,
+    }
+}
+
+// The uid of a boot number and the number of an entry.
+fn uid(alloc: Global, case: &str) -> Option<Txt> {
+    let texts = list(alloc, case)?;
+    let boot = text_at(&texts, 0)?.parse::<u64>().ok()?;
+    let born = text_at(&texts, 1)?.parse::<u64>().ok()?;
+    if born >= BORN_END {
+        return None;
+    }
+    uid_of(alloc, boot, born).ok()
+}
+
+fn ranked(alloc: Global, case: &str) -> Option<Txt> {
+    let texts = list(alloc, case)?;
+    let order = priority(text_at(&texts, 0)?, text_at(&texts, 1)?);
+    Txt::of(alloc, order_word(order)).ok()
+}
+
+// Names with spaces between, sorted by priority.
+fn preferred(alloc: Global, case: &str) -> Option<Txt> {
+    let mut names = Vec::new(alloc);
+    for name in case.split(' ') {
+        names.push(name).ok()?;
+    }
+    names
         .as_mut_slice()
-        .sort_by(rt.alloc(), |a, b| priority(a, b))?;
-    assert!(&rt; versions.as_slice() == sorted.as_slice());
-    assert_eq!(&rt; priority("v01", "v1beta1"), Ordering::Greater);
-    assert_eq!(&rt; priority("v1000000000", "v1alpha1"), Ordering::Greater);
-    Ok(())
+        .sort_by(alloc, |a, b| priority(a, b))
+        .ok()?;
+    joined(alloc, names.as_slice())
+}
+
+fn joined(alloc: Global, names: &[&str]) -> Option<Txt> {
+    let mut out = String::new(alloc);
+    for name in names {
+        out.push_str(name).ok()?;
+        out.push_str(" ").ok()?;
+    }
+    Some(Txt::of_string(out))
 }

@@ -1,351 +1,64 @@
+//! Objects out of documents, written, read back and measured.
 ghost use Rattle.std.specs.Prelude.{◌≡◌, IfOk, IfSome, option_map};
-ghost use Rattle.kube_meta.specs.View.{object_of, meta_of, stamp_bytes};
+ghost use Rattle.kube_meta.specs.View.{object_of, stamp_bytes};
 ghost use Rattle.object_reading.specs.Written.{IsMoment, IsWritable};
 
-use kj_value::{
-    JFields, JItems, JVal, MAX_JSON_LEVELS, NoMemory, Stamp, TextList, TextMap, Txt, depth, read,
-    write,
-};
-use kube_meta::{Meta, Object, write_object};
-use object_reading::{
-    ObjectFault, annotation_key_ok, finalizer_ok, label_key_ok, label_value_ok, read_object,
-    read_written,
-};
+use crate::words::{list, text_at};
+use crd_admission::measure_within;
+use kj_value::{JItems, JVal, MAX_JSON_LEVELS, NoMemory, Stamp, Txt, depth, read, write};
+use kube_meta::{Object, write_object};
+use object_reading::{ObjectFault, read_object, read_written};
 use std::alloc::Global;
-use std::process::Abort;
-use std::test::Fail;
 
-// ---- refusals
+/// The answer to a case of a section.
+pub fn answer(alloc: Global, section: &str, case: &str) -> Option<Txt> {
+    match section {
+        "# documents that are read" => told(alloc, document(alloc, case)?),
+        "# documents without their name" => unnamed(alloc, case),
+        "# documents with a number" => numbered(alloc, &list(alloc, case)?),
+        "# documents that are measured" => measured(alloc, case),
+        _ => None,
+    }
+}
 
-fn told(alloc: Global, doc: JVal) -> Result<Txt, Fail> {
+fn document(alloc: Global, text: &str) -> Option<JVal> {
+    read(alloc, text.as_bytes(), MAX_JSON_LEVELS).ok()
+}
+
+// The text of the object that a document submits, or why it is refused.
+fn told(alloc: Global, doc: JVal) -> Option<Txt> {
     match read_object(alloc, doc, "CronTab") {
-        Ok(_) => Ok(Txt::of(alloc, "ok")?),
-        Err(ObjectFault::NotObject) => Ok(Txt::of(alloc, "NotObject")?),
-        Err(ObjectFault::BadVersion) => Ok(Txt::of(alloc, "BadVersion")?),
-        Err(ObjectFault::WrongKind) => Ok(Txt::of(alloc, "WrongKind")?),
-        Err(ObjectFault::BadMeta { field }) => {
-            Ok(Txt::of_string(format!(in alloc; "metadata.{}", field.as_str())?))
-        }
-        Err(ObjectFault::BadName) => Ok(Txt::of(alloc, "BadName")?),
-        Err(ObjectFault::NoMemory) => Err(Fail::from("no memory")),
-    }
-}
-
-fn parsed(alloc: Global, text: &str) -> Result<JVal, Fail> {
-    match read(alloc, text.as_bytes(), 64) {
-        Ok(doc) => Ok(doc),
-        Err(_) => Err(Fail::from("no JSON")),
-    }
-}
-
-// That the text is answered so.
-fn tells(rt: &impl Abort, alloc: Global, text: &str, want: &str) -> Result<(), Fail> {
-    assert_eq!(rt; told(alloc, parsed(alloc, text)?)?.as_str(), want);
-    Ok(())
-}
-
-// That a document with these metadata is answered so.
-fn judges(rt: &impl Abort, alloc: Global, metadata: &str, want: &str) -> Result<(), Fail> {
-    let text = format!(in alloc;
-        "{{\"apiVersion\":\"v\",\"kind\":\"CronTab\",\"metadata\":{metadata}}}"
-    )?;
-    tells(rt, alloc, text.as_str(), want)
-}
-
-#[test]
-fn earlier_refusals_come_first(rt: HostRuntime) -> Result<(), Fail> {
-    let alloc = rt.alloc();
-    tells(&rt, alloc, "[]", "NotObject")?;
-    tells(&rt, alloc, "{}", "BadVersion")?;
-    tells(&rt, alloc, "{\"apiVersion\":null,\"kind\":1}", "BadVersion")?;
-    tells(
-        &rt,
-        alloc,
-        "{\"apiVersion\":\"v\",\"metadata\":1}",
-        "WrongKind",
-    )?;
-    tells(
-        &rt,
-        alloc,
-        "{\"apiVersion\":\"v\",\"kind\":\"Cron\"}",
-        "WrongKind",
-    )
-}
-
-#[test]
-fn metadata_are_an_object(rt: HostRuntime) -> Result<(), Fail> {
-    let alloc = rt.alloc();
-    judges(&rt, alloc, "1", "metadata.")?;
-    judges(&rt, alloc, "null", "BadName")?;
-    judges(&rt, alloc, "{}", "BadName")?;
-    tells(
-        &rt,
-        alloc,
-        "{\"apiVersion\":\"v\",\"kind\":\"CronTab\"}",
-        "BadName",
-    )
-}
-
-#[test]
-fn first_field_by_name(rt: HostRuntime) -> Result<(), Fail> {
-    let alloc = rt.alloc();
-    judges(
-        &rt,
-        alloc,
-        "{\"labels\":1,\"annotations\":1}",
-        "metadata.annotations",
-    )?;
-    judges(
-        &rt,
-        alloc,
-        "{\"labels\":1,\"finalizers\":1}",
-        "metadata.finalizers",
-    )?;
-    judges(&rt, alloc, "{\"labels\":1,\"name\":1}", "metadata.labels")?;
-    judges(
-        &rt,
-        alloc,
-        "{\"namespace\":1,\"ownerReferences\":1}",
-        "metadata.namespace",
-    )?;
-    judges(
-        &rt,
-        alloc,
-        "{\"ownerReferences\":{},\"resourceVersion\":1}",
-        "metadata.ownerReferences",
-    )?;
-    judges(
-        &rt,
-        alloc,
-        "{\"name\":\"A\",\"resourceVersion\":1}",
-        "metadata.resourceVersion",
-    )?;
-    judges(&rt, alloc, "{\"name\":\"A\"}", "BadName")
-}
-
-#[test]
-fn null_fields_are_absent(rt: HostRuntime) -> Result<(), Fail> {
-    let alloc = rt.alloc();
-    judges(
-        &rt,
-        alloc,
-        "{\"annotations\":null,\"finalizers\":null,\"labels\":null,\"name\":\"a\"}",
-        "ok",
-    )?;
-    judges(
-        &rt,
-        alloc,
-        "{\"name\":\"a\",\"namespace\":null,\"ownerReferences\":null,\"resourceVersion\":null}",
-        "ok",
-    )?;
-    judges(&rt, alloc, "{\"name\":null}", "BadName")?;
-    judges(
-        &rt,
-        alloc,
-        "{\"labels\":{\"a\":null},\"name\":\"a\"}",
-        "metadata.labels",
-    )?;
-    judges(
-        &rt,
-        alloc,
-        "{\"annotations\":{\"a\":null},\"name\":\"a\"}",
-        "metadata.annotations",
-    )?;
-    judges(
-        &rt,
-        alloc,
-        "{\"finalizers\":[null],\"name\":\"a\"}",
-        "metadata.finalizers",
-    )
-}
-
-#[test]
-fn namespaces(rt: HostRuntime) -> Result<(), Fail> {
-    let alloc = rt.alloc();
-    judges(
-        &rt,
-        alloc,
-        "{\"name\":\"a\",\"namespace\":\"default\"}",
-        "ok",
-    )?;
-    judges(
-        &rt,
-        alloc,
-        "{\"name\":\"a\",\"namespace\":\"\"}",
-        "metadata.namespace",
-    )
-}
-
-// That a resource version is answered so.
-fn numbers(rt: &impl Abort, alloc: Global, number: &str, want: &str) -> Result<(), Fail> {
-    let metadata = format!(in alloc; "{{\"name\":\"a\",\"resourceVersion\":\"{number}\"}}")?;
-    judges(rt, alloc, metadata.as_str(), want)
-}
-
-#[test]
-fn resource_versions(rt: HostRuntime) -> Result<(), Fail> {
-    let alloc = rt.alloc();
-    numbers(&rt, alloc, "", "ok")?;
-    numbers(&rt, alloc, "0", "ok")?;
-    numbers(&rt, alloc, "18446744073709551615", "ok")?;
-    numbers(
-        &rt,
-        alloc,
-        "18446744073709551616",
-        "metadata.resourceVersion",
-    )?;
-    numbers(&rt, alloc, "01", "metadata.resourceVersion")?;
-    numbers(&rt, alloc, "+1", "metadata.resourceVersion")
-}
-
-// A document with so many finalizers.
-fn held(alloc: Global, count: usize) -> Result<JVal, Fail> {
-    let mut items = JItems::new(alloc);
-    for _ in 0..count {
-        items.push(JVal::Text(Txt::of(alloc, "f")?))?;
-    }
-    let mut metadata = JFields::new(alloc);
-    metadata.set(Txt::of(alloc, "finalizers")?, JVal::List(items))?;
-    metadata.set(Txt::of(alloc, "name")?, JVal::Text(Txt::of(alloc, "a")?))?;
-    let mut fields = JFields::new(alloc);
-    fields.set(
-        Txt::of(alloc, "apiVersion")?,
-        JVal::Text(Txt::of(alloc, "v")?),
-    )?;
-    fields.set(
-        Txt::of(alloc, "kind")?,
-        JVal::Text(Txt::of(alloc, "CronTab")?),
-    )?;
-    fields.set(Txt::of(alloc, "metadata")?, JVal::Obj(metadata))?;
-    Ok(JVal::Obj(fields))
-}
-
-#[test]
-fn count_of_finalizers(rt: HostRuntime) -> Result<(), Fail> {
-    let alloc = rt.alloc();
-    assert_eq!(&rt; told(alloc, held(alloc, 64)?)?.as_str(), "ok");
-    assert_eq!(&rt;
-        told(alloc, held(alloc, 65)?)?.as_str(),
-        "metadata.finalizers"
-    );
-    Ok(())
-}
-
-// ---- texts
-
-// So many letters.
-fn letters(alloc: Global, count: usize) -> Result<Txt, Fail> {
-    let mut bytes = Vec::new(alloc);
-    for _ in 0..count {
-        bytes.push(b'a')?;
-    }
-    match Txt::of_bytes(bytes) {
-        Some(text) => Ok(text),
-        None => Err(Fail::from("no text")),
-    }
-}
-
-#[test]
-fn length_of_finalizers(rt: HostRuntime) -> Result<(), Fail> {
-    assert!(&rt; finalizer_ok(letters(rt.alloc(), 317)?.as_str()));
-    assert!(&rt; !finalizer_ok(letters(rt.alloc(), 318)?.as_str()));
-    assert!(&rt; finalizer_ok("example.com/hold now"));
-    assert!(&rt; !finalizer_ok(""));
-    Ok(())
-}
-
-// Whether a key with a prefix and a name of so many letters is the key of a label.
-fn long_key_ok(alloc: Global, prefix: usize, name: usize) -> Result<bool, Fail> {
-    let prefix = letters(alloc, prefix)?;
-    let name = letters(alloc, name)?;
-    let key = format!(in alloc; "{}/{}", prefix.as_str(), name.as_str())?;
-    Ok(label_key_ok(key.as_str()))
-}
-
-#[test]
-fn length_of_keys(rt: HostRuntime) -> Result<(), Fail> {
-    assert!(&rt; long_key_ok(rt.alloc(), 253, 63)?);
-    assert!(&rt; !long_key_ok(rt.alloc(), 254, 63)?);
-    assert!(&rt; !long_key_ok(rt.alloc(), 253, 64)?);
-    assert!(&rt; !long_key_ok(rt.alloc(), 0, 1)?);
-    assert!(&rt; !long_key_ok(rt.alloc(), 1, 0)?);
-    Ok(())
-}
-
-#[test]
-fn label_keys(rt: HostRuntime) {
-    assert!(&rt; label_key_ok("App_1.x-y"));
-    assert!(&rt; label_key_ok("example.com/App"));
-    assert!(&rt; !label_key_ok("Example.com/app"));
-    assert!(&rt; !label_key_ok("a/b/c"));
-    assert!(&rt; !label_key_ok("-a"));
-    assert!(&rt; !label_key_ok("a_"));
-    assert!(&rt; !label_key_ok("a b"));
-    assert!(&rt; !label_key_ok(""));
-}
-
-#[test]
-fn annotation_keys(rt: HostRuntime) {
-    assert!(&rt; annotation_key_ok("Example.com/app"));
-    assert!(&rt; annotation_key_ok("hub.kubeconv.local/kept"));
-    assert!(&rt; annotation_key_ok("note"));
-    assert!(&rt; !annotation_key_ok("example_1.com/app"));
-    assert!(&rt; !annotation_key_ok("-a.com/app"));
-    assert!(&rt; !annotation_key_ok("a..com/app"));
-    assert!(&rt; !annotation_key_ok("/app"));
-}
-
-#[test]
-fn label_values(rt: HostRuntime) -> Result<(), Fail> {
-    assert!(&rt; label_value_ok(""));
-    assert!(&rt; label_value_ok("Web_1"));
-    assert!(&rt; !label_value_ok("a/b"));
-    assert!(&rt; label_value_ok(letters(rt.alloc(), 63)?.as_str()));
-    assert!(&rt; !label_value_ok(letters(rt.alloc(), 64)?.as_str()));
-    Ok(())
-}
-
-// ---- objects
-
-fn text(alloc: Global, o: &Object) -> Result<Txt, Fail> {
-    let document = write_object(alloc, o)?;
-    if depth(&document) > MAX_JSON_LEVELS {
-        return Err(Fail::from("too deep"));
-    }
-    Ok(write(alloc, &document)?)
-}
-
-fn submits(alloc: Global, document: &str) -> Result<Txt, Fail> {
-    match read_object(alloc, parsed(alloc, document)?, "CronTab") {
         Ok(o) => text(alloc, &o),
-        Err(_) => Err(Fail::from("refused")),
+        Err(fault) => why(alloc, &fault),
     }
 }
 
-#[test]
-fn what_the_server_sets_is_passed_over(rt: HostRuntime) -> Result<(), Fail> {
-    let submitted = submits(
-        rt.alloc(),
-        "{\"apiVersion\":\"v\",\"host\":\"h\",\"kind\":\"CronTab\",\"metadata\":{\"annotations\":{\"note\":\"n\"},\"creationTimestamp\":\"2024-01-02T03:04:05Z\",\"deletionTimestamp\":1,\"finalizers\":[\"f\"],\"generation\":2,\"labels\":{\"app\":\"web\"},\"name\":\"a\",\"namespace\":\"default\",\"other\":1,\"ownerReferences\":[null],\"resourceVersion\":\"\",\"uid\":\"u\"}}",
-    )?;
-    assert_eq!(&rt;
-        submitted.as_str(),
-        "{\"apiVersion\":\"v\",\"host\":\"h\",\"kind\":\"CronTab\",\"metadata\":{\"annotations\":{\"note\":\"n\"},\"finalizers\":[\"f\"],\"labels\":{\"app\":\"web\"},\"name\":\"a\",\"namespace\":\"default\",\"ownerReferences\":[null]}}"
-    );
-    Ok(())
+fn why(alloc: Global, fault: &ObjectFault) -> Option<Txt> {
+    match fault {
+        ObjectFault::NotObject => Txt::of(alloc, "NotObject").ok(),
+        ObjectFault::BadVersion => Txt::of(alloc, "BadVersion").ok(),
+        ObjectFault::WrongKind => Txt::of(alloc, "WrongKind").ok(),
+        ObjectFault::BadMeta { field } => Some(Txt::of_string(format!(in alloc;
+            "metadata.{}",
+            field.as_str()
+        ).ok()?)),
+        ObjectFault::BadName => Txt::of(alloc, "BadName").ok(),
+        ObjectFault::NoMemory => None,
+    }
 }
 
-#[test]
-fn empty_maps_are_absent(rt: HostRuntime) -> Result<(), Fail> {
-    let submitted = submits(
-        rt.alloc(),
-        "{\"apiVersion\":\"v\",\"kind\":\"CronTab\",\"metadata\":{\"annotations\":{},\"finalizers\":[],\"labels\":{},\"name\":\"a\",\"ownerReferences\":[],\"resourceVersion\":\"7\"}}",
-    )?;
-    assert_eq!(&rt;
-        submitted.as_str(),
-        "{\"apiVersion\":\"v\",\"kind\":\"CronTab\",\"metadata\":{\"name\":\"a\",\"resourceVersion\":\"7\"}}"
-    );
-    Ok(())
+fn text(alloc: Global, o: &Object) -> Option<Txt> {
+    let document = write_object(alloc, o).ok()?;
+    if depth(&document) > MAX_JSON_LEVELS {
+        return None;
+    }
+    write(alloc, &document).ok()
+}
+
+fn submitted(alloc: Global, text: &str) -> Option<Object>
+    ensures { IfSome result (λ o. IsWritable (object_of o)) }
+{
+    read_object(alloc, document(alloc, text)?, "CronTab").ok()
 }
 
 fn stamp(text: [u8; 20]) -> Option<Stamp>
@@ -357,45 +70,30 @@ fn stamp(text: [u8; 20]) -> Option<Stamp>
     Some(Stamp { text })
 }
 
-fn full_meta(alloc: Global) -> Result<Meta, NoMemory>
-    ensures created { IfOk result (λ m. IfSome (meta_of m).created IsMoment) }
-    ensures deleted { IfOk result (λ m. IfSome (meta_of m).deleted IsMoment) }
+fn set_stamps(o: &mut Object, generation: i64)
+    requires { IsWritable (object_of o.old) }
+    ensures { IsWritable (object_of o.new) }
 {
-    let mut labels = TextMap::new(alloc);
-    labels.set(Txt::of(alloc, "app")?, Txt::of(alloc, "web")?)?;
-    let mut finalizers = TextList::new(alloc);
-    finalizers.push(Txt::of(alloc, "f")?)?;
-    let mut owners = JItems::new(alloc);
-    owners.push(JVal::Null)?;
-    Ok(Meta {
-        name: Txt::of(alloc, "a")?,
-        namespace: Txt::of(alloc, "default")?,
-        labels,
-        annotations: TextMap::new(alloc),
-        finalizers,
-        owners,
-        created: stamp(*b"2024-01-02T03:04:05Z"),
-        deleted: stamp(*b"2024-01-02T03:04:06Z"),
-        generation: 2,
-        resource_version: Some(Txt::of(alloc, "")?),
-        uid: Some(Txt::of(alloc, "u")?),
-    })
+    o.meta.created = stamp(*b"2024-01-02T03:04:05Z");
+    o.meta.deleted = stamp(*b"2024-01-02T03:04:06Z");
+    o.meta.generation = generation;
 }
 
-fn crontab(alloc: Global) -> Result<Object, NoMemory>
-    ensures { IfOk result (λ o. IsWritable (object_of o)) }
+fn set_number(o: &mut Object, number: Txt, uid: Txt)
+    requires { IsWritable (object_of o.old) }
+    ensures { IsWritable (object_of o.new) }
 {
-    let mut body = JFields::new(alloc);
-    body.set(Txt::of(alloc, "host")?, JVal::Text(Txt::of(alloc, "h")?))?;
-    Ok(Object {
-        api_version: Txt::of(alloc, "v")?,
-        kind: Txt::of(alloc, "CronTab")?,
-        meta: full_meta(alloc)?,
-        body,
-    })
+    o.meta.resource_version = Some(number);
+    o.meta.uid = Some(uid);
 }
 
-fn written_and_read(alloc: Global, o: &Object) -> Result<Object, NoMemory>
+// The body gets a name that the object's own value takes.
+fn set_kind(alloc: Global, o: &mut Object) -> Option<()> {
+    let name = Txt::of(alloc, "kind").ok()?;
+    o.body.set(name, JVal::Bool(true)).ok()
+}
+
+fn again(alloc: Global, o: &Object) -> Result<Object, NoMemory>
     requires { IsWritable (object_of o.now) }
     ensures { IfOk result (λ p. object_of p ≡ object_of o.now) }
 {
@@ -403,17 +101,66 @@ fn written_and_read(alloc: Global, o: &Object) -> Result<Object, NoMemory>
 }
 
 // The text of an object that was written and read back.
-fn text_again(alloc: Global) -> Result<Txt, Fail> {
-    let o = crontab(alloc)?;
-    let again = written_and_read(alloc, &o)?;
-    text(alloc, &again)
+fn text_again(alloc: Global, o: &Object) -> Option<Txt>
+    requires { IsWritable (object_of o.now) }
+{
+    text(alloc, &again(alloc, o).ok()?)
 }
 
-#[test]
-fn written_objects_are_read_back(rt: HostRuntime) -> Result<(), Fail> {
-    assert_eq!(&rt;
-        text_again(rt.alloc())?.as_str(),
-        "{\"apiVersion\":\"v\",\"host\":\"h\",\"kind\":\"CronTab\",\"metadata\":{\"creationTimestamp\":\"2024-01-02T03:04:05Z\",\"deletionTimestamp\":\"2024-01-02T03:04:06Z\",\"finalizers\":[\"f\"],\"generation\":2,\"labels\":{\"app\":\"web\"},\"name\":\"a\",\"namespace\":\"default\",\"ownerReferences\":[null],\"resourceVersion\":\"\",\"uid\":\"u\"}}"
-    );
-    Ok(())
+// The text of an object with stamps, this number and a uid, where it is also that of what is read back from it.
+fn numbered(alloc: Global, texts: &JItems) -> Option<Txt> {
+    let mut o = submitted(alloc, text_at(texts, 1)?)?;
+    let number = Txt::of(alloc, text_at(texts, 0)?).ok()?;
+    set_stamps(&mut o, 2);
+    set_number(&mut o, number, Txt::of(alloc, "u").ok()?);
+    let text = text(alloc, &o)?;
+    if text_again(alloc, &o)?.as_str() != text.as_str() {
+        return None;
+    }
+    Some(text)
+}
+
+// How many bytes an object measures; there is an answer for each limit from there on, and for none below.
+fn measure(o: &Object) -> Option<u64> {
+    let bytes = measure_within(o, u64::MAX)?;
+    if measure_within(o, bytes) != Some(bytes) {
+        return None;
+    }
+    if measure_within(o, 0).is_some() || measure_within(o, bytes.saturating_sub(1)).is_some() {
+        return None;
+    }
+    Some(bytes)
+}
+
+// The measure and the text of an object whose name is empty, and whose body has a kind.
+fn unnamed(alloc: Global, case: &str) -> Option<Txt> {
+    let mut o = submitted(alloc, case)?;
+    o.meta.name = Txt::of(alloc, "").ok()?;
+    set_kind(alloc, &mut o)?;
+    let bytes = measure(&o)?;
+    let text = text(alloc, &o)?;
+    Some(Txt::of_string(format!(in alloc; "{bytes} {}", text.as_str()).ok()?))
+}
+
+// What an object measures with number and uid, as it is, and with stamps; and how long its text is at most.
+fn measured(alloc: Global, case: &str) -> Option<Txt> {
+    let other = with_a_number(alloc, case)?;
+    let (plain, wide, bytes) = with_stamps(alloc, case)?;
+    Some(Txt::of_string(format!(in alloc; "{other} {plain} {wide} {bytes}").ok()?))
+}
+
+fn with_a_number(alloc: Global, case: &str) -> Option<u64> {
+    let mut o = submitted(alloc, case)?;
+    o.meta.generation = 1;
+    set_number(&mut o, Txt::of(alloc, "7").ok()?, Txt::of(alloc, "u").ok()?);
+    set_kind(alloc, &mut o)?;
+    measure(&o)
+}
+
+fn with_stamps(alloc: Global, case: &str) -> Option<(u64, u64, usize)> {
+    let mut o = submitted(alloc, case)?;
+    let plain = measure(&o)?;
+    set_stamps(&mut o, i64::MAX);
+    let wide = measure(&o)?;
+    Some((plain, wide, text(alloc, &o)?.len()))
 }

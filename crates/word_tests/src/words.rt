@@ -1,204 +1,103 @@
-use kj_value::{
-    JFields, JItems, JVal, MAX_JSON_LEVELS, NoMemory, Stamp, TextList, TextMap, Txt, depth, write,
-};
-use kube_meta::{
-    Key, KeySpot, Meta, NAME_BYTES, NAMESPACE_BYTES, NameSpot, Object, name_ok, namespace_ok,
-    write_object,
-};
+//! Names, labels, keys and places.
+use kj_value::{JItems, Txt, read};
+use kube_meta::{Key, KeySpot, NAME_BYTES, NAMESPACE_BYTES, NameSpot, name_ok, namespace_ok};
+use object_reading::{annotation_key_ok, finalizer_ok, label_key_ok, label_value_ok};
 use std::alloc::Global;
 use std::cmp::Ordering;
-use std::test::Fail;
 
-fn bytes_name_ok(bytes: &[u8]) -> bool {
-    match str::from_utf8(bytes) {
-        Ok(text) => name_ok(text),
-        Err(_) => false,
+/// The answer to a case of a section.
+pub fn answer(alloc: Global, section: &str, case: &str) -> Option<Txt> {
+    match section {
+        "# texts that are keys" => keys(alloc, &list(alloc, case)?),
+        "# texts that are names of places" => places(alloc, &list(alloc, case)?),
+        _ => word(alloc, is_one(section, case)?),
     }
 }
 
-fn bytes_namespace_ok(bytes: &[u8]) -> bool {
-    match str::from_utf8(bytes) {
-        Ok(text) => namespace_ok(text),
-        Err(_) => false,
+fn is_one(section: &str, text: &str) -> Option<bool> {
+    match section {
+        "# texts as names" => Some(name_ok(text)),
+        "# texts as namespaces" => Some(namespace_ok(text)),
+        "# texts as finalizers" => Some(finalizer_ok(text)),
+        _ => is_of_a_label(section, text),
     }
 }
 
-#[test]
-fn namespaces(rt: HostRuntime) {
-    assert!(&rt; namespace_ok("default"));
-    assert!(&rt; namespace_ok("0-9"));
-    assert!(&rt; bytes_namespace_ok(&[b'a'; 63]));
-    assert!(&rt; !bytes_namespace_ok(&[b'a'; 64]));
-    assert!(&rt; !namespace_ok(""));
-    assert!(&rt; !namespace_ok("a.b"));
-    assert!(&rt; !namespace_ok("-a"));
-    assert!(&rt; !namespace_ok("a-"));
-    assert!(&rt; !namespace_ok("A"));
+fn is_of_a_label(section: &str, text: &str) -> Option<bool> {
+    match section {
+        "# texts as keys of labels" => Some(label_key_ok(text)),
+        "# texts as keys of annotations" => Some(annotation_key_ok(text)),
+        "# texts as values of labels" => Some(label_value_ok(text)),
+        _ => None,
+    }
 }
 
-#[test]
-fn names(rt: HostRuntime) {
-    assert!(&rt; name_ok("a"));
-    assert!(&rt; name_ok("a-1.b"));
-    assert!(&rt; bytes_name_ok(&[b'a'; 253]));
-    assert!(&rt; !bytes_name_ok(&[b'a'; 254]));
-    assert!(&rt; !name_ok(""));
-    assert!(&rt; !name_ok("a..b"));
-    assert!(&rt; !name_ok("a.-b"));
-    assert!(&rt; !name_ok("a-.b"));
-    assert!(&rt; !name_ok("a.B"));
-    assert!(&rt; !name_ok("a_b"));
+fn word(alloc: Global, yes: bool) -> Option<Txt> {
+    Txt::of(alloc, if yes { "yes" } else { "no" }).ok()
 }
 
-#[test]
-fn keys(rt: HostRuntime) -> Result<(), Fail> {
-    let key = Key::of(rt.alloc(), "a", "b")?;
-    let same = Key::of(rt.alloc(), "a", "b")?;
-    assert_eq!(&rt; key.ns(), "a");
-    assert_eq!(&rt; key.name(), "b");
-    assert_eq!(&rt; key.compare(&same), Ordering::Equal);
-    assert_eq!(&rt; key.compare_with("b", "a"), Ordering::Less);
-    assert_eq!(&rt; key.compare_with("a", "a"), Ordering::Greater);
-    assert_eq!(&rt; key.compare_with("a-", "b"), Ordering::Less);
-    Ok(())
+/// The list that a case is.
+pub fn list(alloc: Global, case: &str) -> Option<JItems> {
+    read(alloc, case.as_bytes(), 4).ok()?.into_list()
 }
 
-fn spot_of(alloc: Global, ns: &str, name: &str) -> Result<KeySpot, Fail> {
+/// The text at a place of a list.
+pub fn text_at(items: &JItems, i: usize) -> Option<&str> {
+    items.get(i)?.as_text()
+}
+
+/// How the first stands to the second.
+pub fn order_word(order: Ordering) -> &'static str {
+    match order {
+        Ordering::Less => "less",
+        Ordering::Equal => "equal",
+        Ordering::Greater => "greater",
+    }
+}
+
+fn key_of(alloc: Global, ns: &str, name: &str) -> Option<Key> {
     if ns.len() > NAMESPACE_BYTES || name.len() > NAME_BYTES {
-        return Err(Fail::from("too long"));
+        return None;
     }
-    Ok(Key::of(alloc, ns, name)?.spot())
+    Key::of(alloc, ns, name).ok()
 }
 
-fn key_order(alloc: Global, ns: &str, name: &str) -> Result<Ordering, Fail> {
-    let other = spot_of(alloc, ns, name)?;
-    Ok(spot_of(alloc, "default", "b")?.compare(&other))
+// A key, and how it stands to another: as keys, as a key and two texts, and as places.
+fn keys(alloc: Global, texts: &JItems) -> Option<Txt> {
+    let first = key_of(alloc, text_at(texts, 0)?, text_at(texts, 1)?)?;
+    let second = key_of(alloc, text_at(texts, 2)?, text_at(texts, 3)?)?;
+    compared(alloc, &first, &second)
 }
 
-fn name_order(name: &str) -> Option<Ordering> {
+fn compared(alloc: Global, first: &Key, second: &Key) -> Option<Txt> {
+    let by_key = order_word(first.compare(second));
+    let by_texts = order_word(first.compare_with(second.ns(), second.name()));
+    let by_place = order_word(first.spot().compare(&second.spot()));
+    let again = again(alloc, &first.spot())?;
+    Some(Txt::of_string(format!(in alloc;
+        "{} {} {by_key} {by_texts} {by_place}",
+        again.ns(),
+        again.name()
+    )
+    .ok()?))
+}
+
+fn again(alloc: Global, spot: &KeySpot) -> Option<Key> {
+    spot.again().key(alloc).ok()
+}
+
+fn place(name: &str) -> Option<NameSpot> {
     if name.len() > NAME_BYTES {
         return None;
     }
-    Some(NameSpot::of("m1").compare(&NameSpot::of(name)))
+    Some(NameSpot::of(name))
 }
 
-#[test]
-fn spot_holds_the_key(rt: HostRuntime) -> Result<(), Fail> {
-    let key = spot_of(rt.alloc(), "default", "b")?
-        .again()
-        .key(rt.alloc())?;
-    assert_eq!(&rt; key.ns(), "default");
-    assert_eq!(&rt; key.name(), "b");
-    Ok(())
-}
-
-#[test]
-fn spots_are_ordered(rt: HostRuntime) -> Result<(), Fail> {
-    assert_eq!(&rt; key_order(rt.alloc(), "default", "a")?, Ordering::Greater);
-    assert_eq!(&rt; key_order(rt.alloc(), "default", "b")?, Ordering::Equal);
-    assert_eq!(&rt; key_order(rt.alloc(), "default-2", "a")?, Ordering::Less);
-    Ok(())
-}
-
-#[test]
-fn spot_holds_the_name(rt: HostRuntime) -> Result<(), Fail> {
-    let name = NameSpot::of("m1").again().name(rt.alloc())?;
-    assert_eq!(&rt; name.as_str(), "m1");
-    Ok(())
-}
-
-#[test]
-fn name_spots_are_ordered(rt: HostRuntime) {
-    assert_eq!(&rt; name_order("m"), Some(Ordering::Greater));
-    assert_eq!(&rt; name_order("m1"), Some(Ordering::Equal));
-    assert_eq!(&rt; name_order("m10"), Some(Ordering::Less));
-}
-
-fn stamp(text: [u8; 20]) -> Option<Stamp> {
-    if !text.as_slice().is_ascii() {
-        return None;
-    }
-    Some(Stamp { text })
-}
-
-fn bare_meta(alloc: Global) -> Result<Meta, NoMemory> {
-    Ok(Meta {
-        name: Txt::of(alloc, "")?,
-        namespace: Txt::of(alloc, "")?,
-        labels: TextMap::new(alloc),
-        annotations: TextMap::new(alloc),
-        finalizers: TextList::new(alloc),
-        owners: JItems::new(alloc),
-        created: None,
-        deleted: None,
-        generation: 0,
-        resource_version: None,
-        uid: None,
-    })
-}
-
-fn full_meta(alloc: Global) -> Result<Meta, NoMemory> {
-    let mut labels = TextMap::new(alloc);
-    labels.set(Txt::of(alloc, "app")?, Txt::of(alloc, "web")?)?;
-    let mut annotations = TextMap::new(alloc);
-    annotations.set(Txt::of(alloc, "note")?, Txt::of(alloc, "n")?)?;
-    let mut finalizers = TextList::new(alloc);
-    finalizers.push(Txt::of(alloc, "example.com/f")?)?;
-    let mut owners = JItems::new(alloc);
-    owners.push(JVal::Null)?;
-    Ok(Meta {
-        name: Txt::of(alloc, "a")?,
-        namespace: Txt::of(alloc, "default")?,
-        labels,
-        annotations,
-        finalizers,
-        owners,
-        created: stamp(*b"2024-01-02T03:04:05Z"),
-        deleted: stamp(*b"2024-01-02T03:04:06Z"),
-        generation: 2,
-        resource_version: Some(Txt::of(alloc, "7")?),
-        uid: Some(Txt::of(alloc, "u")?),
-    })
-}
-
-fn crontab(alloc: Global, meta: Meta) -> Result<Object, NoMemory> {
-    let mut body = JFields::new(alloc);
-    body.set(Txt::of(alloc, "host")?, JVal::Text(Txt::of(alloc, "h")?))?;
-    body.set(Txt::of(alloc, "kind")?, JVal::Null)?;
-    Ok(Object {
-        api_version: Txt::of(alloc, "example.com/v1")?,
-        kind: Txt::of(alloc, "CronTab")?,
-        meta,
-        body,
-    })
-}
-
-fn text(alloc: Global, o: &Object) -> Result<Txt, Fail> {
-    let document = write_object(alloc, o)?;
-    if depth(&document) > MAX_JSON_LEVELS {
-        return Err(Fail::from("too deep"));
-    }
-    Ok(write(alloc, &document)?)
-}
-
-#[test]
-fn bare_object(rt: HostRuntime) -> Result<(), Fail> {
-    let meta = bare_meta(rt.alloc())?;
-    let bare = text(rt.alloc(), &crontab(rt.alloc(), meta)?)?;
-    assert_eq!(&rt;
-        bare.as_str(),
-        "{\"apiVersion\":\"example.com/v1\",\"host\":\"h\",\"kind\":\"CronTab\",\"metadata\":{}}"
-    );
-    Ok(())
-}
-
-#[test]
-fn full_object(rt: HostRuntime) -> Result<(), Fail> {
-    let meta = full_meta(rt.alloc())?;
-    let full = text(rt.alloc(), &crontab(rt.alloc(), meta)?)?;
-    assert_eq!(&rt;
-        full.as_str(),
-        "{\"apiVersion\":\"example.com/v1\",\"host\":\"h\",\"kind\":\"CronTab\",\"metadata\":{\"annotations\":{\"note\":\"n\"},\"creationTimestamp\":\"2024-01-02T03:04:05Z\",\"deletionTimestamp\":\"2024-01-02T03:04:06Z\",\"finalizers\":[\"example.com/f\"],\"generation\":2,\"labels\":{\"app\":\"web\"},\"name\":\"a\",\"namespace\":\"default\",\"ownerReferences\":[null],\"resourceVersion\":\"7\",\"uid\":\"u\"}}"
-    );
-    Ok(())
+// A name out of its place, and how it stands to another.
+fn places(alloc: Global, texts: &JItems) -> Option<Txt> {
+    let first = place(text_at(texts, 0)?)?;
+    let second = place(text_at(texts, 1)?)?;
+    let order = order_word(first.compare(&second));
+    let name = first.again().name(alloc).ok()?;
+    Some(Txt::of_string(format!(in alloc; "{} {order}", name.as_str()).ok()?))
 }
