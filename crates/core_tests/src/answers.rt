@@ -4,32 +4,31 @@ use api_core::{Page, Seen, SetEnd, TrimEnd, TurnEnd};
 use migrate_core::StartEnd;
 use std::alloc::Global;
 use std::fmt::Debug;
-use std::test::Fail;
 
 /// What prints itself.
-pub(crate) fn told<T: Debug>(alloc: Global, end: &T) -> Result<String, Fail> {
-    Ok(format!(in alloc; "{end:?}")?)
+pub fn told<T: Debug>(alloc: Global, end: &T) -> Option<String> {
+    format!(in alloc; "{end:?}").ok()
 }
 
 /// A word, and the versions of a list by their places.
-pub(crate) fn listed(alloc: Global, word: &str, stored: &StoredList) -> Result<String, Fail> {
-    let mut text = String::from_str(alloc, word)?;
+pub fn listed(alloc: Global, word: &str, stored: &StoredList) -> Option<String> {
+    let mut text = String::from_str(alloc, word).ok()?;
     let len = (stored.len as usize).min(8);
     for v in &stored.items[..len] {
-        text.push_str(" @")?;
-        text.push_str(told(alloc, v)?.as_str())?;
+        text.push_str(" @").ok()?;
+        text.push_str(told(alloc, v)?.as_str()).ok()?;
     }
-    Ok(text)
+    Some(text)
 }
 
 // An end with the number of its entry.
-fn done(alloc: Global, rv: u64, stored: &StoredList) -> Result<String, Fail> {
-    let word = format!(in alloc; "Done #{rv}")?;
+fn done(alloc: Global, rv: u64, stored: &StoredList) -> Option<String> {
+    let word = format!(in alloc; "Done #{rv}").ok()?;
     listed(alloc, word.as_str(), stored)
 }
 
 /// How a change of the flags ended.
-pub(crate) fn set_text(alloc: Global, end: SetEnd) -> Result<String, Fail> {
+pub fn set_text(alloc: Global, end: SetEnd) -> Option<String> {
     match end {
         SetEnd::Done { rv, stored } => done(alloc, rv, &stored),
         SetEnd::Unchanged { stored } => listed(alloc, "Unchanged", &stored),
@@ -37,7 +36,7 @@ pub(crate) fn set_text(alloc: Global, end: SetEnd) -> Result<String, Fail> {
 }
 
 /// How a trim ended.
-pub(crate) fn trim_text(alloc: Global, end: TrimEnd) -> Result<String, Fail> {
+pub fn trim_text(alloc: Global, end: TrimEnd) -> Option<String> {
     match end {
         TrimEnd::Done {
             rv,
@@ -45,62 +44,62 @@ pub(crate) fn trim_text(alloc: Global, end: TrimEnd) -> Result<String, Fail> {
             stored,
         } => done(alloc, rv, &stored),
         TrimEnd::Unchanged { flags: _, stored } => listed(alloc, "Unchanged", &stored),
-        TrimEnd::Unknown { v } => Ok(format!(in alloc; "Unknown @{v}")?),
-        TrimEnd::StillStored { v, key: None } => Ok(format!(in alloc; "StillStored @{v}")?),
+        TrimEnd::Unknown { v } => format!(in alloc; "Unknown @{v}").ok(),
+        TrimEnd::StillStored { v, key: None } => format!(in alloc; "StillStored @{v}").ok(),
         TrimEnd::StillStored { v, key: Some(key) } => {
             let name = key.name();
-            Ok(format!(in alloc; "StillStored @{v} {name}")?)
+            format!(in alloc; "StillStored @{v} {name}").ok()
         }
     }
 }
 
 /// How the start of a migration ended.
-pub(crate) fn start_text(alloc: Global, end: StartEnd) -> Result<String, Fail> {
+pub fn start_text(alloc: Global, end: StartEnd) -> Option<String> {
     match end {
-        StartEnd::Done { target } => Ok(format!(in alloc; "Done @{target}")?),
-        StartEnd::AlreadyExists => Ok(String::from_str(alloc, "AlreadyExists")?),
+        StartEnd::Done { target } => format!(in alloc; "Done @{target}").ok(),
+        StartEnd::AlreadyExists => String::from_str(alloc, "AlreadyExists").ok(),
         StartEnd::Running { name } => {
             let name = name.as_str();
-            Ok(format!(in alloc; "Running {name}")?)
+            format!(in alloc; "Running {name}").ok()
         }
         StartEnd::Full(room) => told(alloc, &room),
     }
 }
 
 /// How a worker's turn ended.
-pub(crate) fn turn_text(alloc: Global, end: TurnEnd) -> Result<String, Fail> {
+pub fn turn_text(alloc: Global, end: TurnEnd) -> Option<String> {
     match end {
-        TurnEnd::Idle => Ok(String::from_str(alloc, "Idle")?),
-        TurnEnd::Claimed => Ok(String::from_str(alloc, "Claimed")?),
+        TurnEnd::Idle => String::from_str(alloc, "Idle").ok(),
+        TurnEnd::Claimed => String::from_str(alloc, "Claimed").ok(),
         TurnEnd::Prepare { key, rv } => {
             let name = key.name();
-            Ok(format!(in alloc; "Prepare {name} #{rv}")?)
+            format!(in alloc; "Prepare {name} #{rv}").ok()
         }
-        TurnEnd::Touched { rv } => Ok(format!(in alloc; "Touched #{rv}")?),
-        TurnEnd::Moved => Ok(String::from_str(alloc, "Moved")?),
-        TurnEnd::RangeDone => Ok(String::from_str(alloc, "RangeDone")?),
-        TurnEnd::Finished { rv } => Ok(format!(in alloc; "Finished #{rv}")?),
+        TurnEnd::Touched { rv } => format!(in alloc; "Touched #{rv}").ok(),
+        TurnEnd::Moved => String::from_str(alloc, "Moved").ok(),
+        TurnEnd::RangeDone => String::from_str(alloc, "RangeDone").ok(),
+        TurnEnd::Finished { rv } => format!(in alloc; "Finished #{rv}").ok(),
     }
 }
 
 /// An object: its version, its number, that of its creation, and its text.
-pub(crate) fn seen_text(alloc: Global, seen: &Seen) -> Result<String, Fail> {
+pub fn seen_text(alloc: Global, seen: &Seen) -> Option<String> {
     let name = seen.key.name();
     let at = seen.at;
     let rv = seen.rv;
     let born = seen.born;
     let text = seen.bytes.as_str();
-    Ok(format!(in alloc; "{name} @{at} #{rv} of #{born} {text}")?)
+    format!(in alloc; "{name} @{at} #{rv} of #{born} {text}").ok()
 }
 
 /// A page: its number, its objects, and how many are left behind them.
-pub(crate) fn page_text(alloc: Global, page: &Page) -> Result<String, Fail> {
+pub fn page_text(alloc: Global, page: &Page) -> Option<String> {
     let rv = page.rv;
     let remaining = page.remaining;
-    let mut text = format!(in alloc; "#{rv} before {remaining}:")?;
+    let mut text = format!(in alloc; "#{rv} before {remaining}:").ok()?;
     for seen in page.items.as_slice() {
-        text.push_str(" ")?;
-        text.push_str(seen_text(alloc, seen)?.as_str())?;
+        text.push_str(" ").ok()?;
+        text.push_str(seen_text(alloc, seen)?.as_str()).ok()?;
     }
-    Ok(text)
+    Some(text)
 }

@@ -1,6 +1,8 @@
 //! Turns of clients and of whoever changes the settings. They know of `Versions` alone, so that what the definition means
 //! stays outside their proofs, and they tell their callers nothing.
-ghost use Rattle.std.specs.Prelude.{◌^◌, ◌≤◌, IfOk};
+ghost use Rattle.std.specs.Prelude.{◌≡◌, ◌^◌, ◌≤◌, IfSome, IsSome, option_map};
+ghost use Rattle.record_store.specs.ByKey.{find};
+ghost use Rattle.record_store.specs.View.{item_key};
 ghost use Rattle.api_core.specs.Prepared.{IsSized};
 
 use crate::order::Order;
@@ -10,149 +12,171 @@ use kj_value::Txt;
 use kube_meta::{Key, Limits, name_ok};
 use migrate_core::StartEnd;
 use std::alloc::Global;
-use std::process::Abort;
 use std::sync::Arc;
-use std::test::Fail;
 
 /// A core that nothing has happened to.
-pub(crate) fn opened<V: Versions + Drop>(
-    rt: &impl Abort,
-    alloc: Global,
-    versions: V,
-    limits: Limits,
-) -> Result<Core<V>, Fail> {
-    assert!(rt; limits.chunks < 10_000);
-    assert!(rt; limits.window_chunks < 10_000);
-    let versions = Arc::new(alloc, versions)?;
-    Ok(Core::open(alloc, versions, limits, 0)?)
+pub fn opened<V: Versions + Drop>(alloc: Global, versions: V, limits: Limits) -> Option<Core<V>> {
+    if limits.chunks >= 10_000 || limits.window_chunks >= 10_000 {
+        return None;
+    }
+    let versions = Arc::new(alloc, versions).ok()?;
+    Core::open(alloc, versions, limits, 7).ok()
 }
 
 /// The revision is far from its bound.
-pub(crate) fn young<V: Versions>(rt: &impl Abort, core: &Core<V>)
-    ensures { core.now.view.revision ≤ 2 ^ 61 }
+pub fn young<V: Versions>(core: &Core<V>) -> Option<()>
+    ensures { IsSome result → core.now.view.revision ≤ 2 ^ 61 }
 {
     let (_flags, _stored, revision) = core.settings();
-    assert!(rt; revision < 1_000_000);
+    if revision >= 1_000_000 {
+        return None;
+    }
+    Some(())
 }
 
 /// The key of a name.
-pub(crate) fn key_of(rt: &impl Abort, alloc: Global, name: &str) -> Result<Key, Fail> {
-    assert!(rt; name.len() <= 253);
-    Ok(Key::of(alloc, "default", name)?)
+pub fn key_of(alloc: Global, name: &str) -> Option<Key> {
+    if name.len() > 253 {
+        return None;
+    }
+    Key::of(alloc, "default", name).ok()
 }
 
 /// What an order has prepared.
-pub(crate) fn value(rt: &impl Abort, alloc: Global, order: &Order<'_>) -> Result<Prepared, Fail>
-    ensures { IfOk result IsSized }
+pub fn value(alloc: Global, order: &Order<'_>) -> Option<Prepared>
+    ensures { IfSome result IsSized }
 {
-    let weight = order.weight;
-    assert!(rt; weight >= 1);
-    assert!(rt; order.text.len() <= 256);
-    Ok(Prepared {
-        key: key_of(rt, alloc, order.name)?,
-        at: order.at,
-        bytes: Txt::of(alloc, order.text)?,
-        weight,
-    })
+    let key = key_of(alloc, order.name)?;
+    prepared(alloc, key, order.at, order.text, order.weight)
+}
+
+/// A text that was prepared for a version, of this weight.
+pub fn prepared(alloc: Global, key: Key, at: u8, text: &str, weight: u64) -> Option<Prepared>
+    ensures sized { IfSome result IsSized }
+    ensures key { IfSome result (λ p. p.key ≡ key) }
+    ensures weight { IfSome result (λ p. p.weight ≡ weight) }
+{
+    if weight < 1 || text.len() > 256 {
+        return None;
+    }
+    match Txt::of(alloc, text) {
+        Ok(bytes) => Some(Prepared {
+            key,
+            at,
+            bytes,
+            weight,
+        }),
+        Err(_) => None,
+    }
 }
 
 /// Creates the object of a name.
-pub(crate) fn create<V: Versions>(
-    rt: &impl Abort,
+pub fn create<V: Versions>(
     alloc: Global,
     core: &mut Core<V>,
     order: &Order<'_>,
-) -> Result<CreateEnd, Fail> {
-    let new = value(rt, alloc, order)?;
-    young(rt, core);
-    Ok(core.commit_create(order.asked, new))
+) -> Option<CreateEnd> {
+    let new = value(alloc, order)?;
+    young(core)?;
+    Some(core.commit_create(order.asked, new))
 }
 
 /// Replaces the object of a name.
-pub(crate) fn replace<V: Versions>(
-    rt: &impl Abort,
+pub fn replace<V: Versions>(
     alloc: Global,
     core: &mut Core<V>,
     order: &Order<'_>,
-) -> Result<ReplaceEnd, Fail> {
-    let new = value(rt, alloc, order)?;
-    young(rt, core);
-    Ok(core.commit_replace(order.asked, order.number, new))
+) -> Option<ReplaceEnd> {
+    let new = value(alloc, order)?;
+    young(core)?;
+    Some(core.commit_replace(order.asked, order.number, new))
 }
 
 /// Deletes the object of a name, which has no finalizer.
-pub(crate) fn delete<V: Versions>(
-    rt: &impl Abort,
+pub fn delete<V: Versions>(
     alloc: Global,
     core: &mut Core<V>,
     order: &Order<'_>,
-) -> Result<DeleteEnd, Fail> {
-    let key = key_of(rt, alloc, order.name)?;
-    young(rt, core);
-    Ok(core.commit_delete(order.asked, &key, order.number, None))
+) -> Option<DeleteEnd> {
+    let key = key_of(alloc, order.name)?;
+    young(core)?;
+    Some(core.commit_delete(order.asked, &key, order.number, None))
 }
 
 /// Deletes the object of a name, which has a finalizer: the text `stamped` was prepared for a version, where an object
 /// stands there.
-pub(crate) fn mark<V: Versions>(
-    rt: &impl Abort,
+pub fn mark<V: Versions>(
     alloc: Global,
     core: &mut Core<V>,
     order: &Order<'_>,
-) -> Result<DeleteEnd, Fail> {
-    let key = key_of(rt, alloc, order.name)?;
-    let Some(seen) = core.peek(alloc, &key)?.found else {
-        return Ok(DeleteEnd::NotFound);
+) -> Option<DeleteEnd> {
+    let key = key_of(alloc, order.name)?;
+    let Some(weight) = weight_of(alloc, core, &key)? else {
+        return Some(DeleteEnd::NotFound);
     };
-    assert!(rt; seen.weight >= 1);
-    young(rt, core);
-    let stamped = Prepared {
-        key: Key::of(alloc, key.ns(), key.name())?,
-        at: order.at,
-        bytes: Txt::of(alloc, "stamped")?,
-        weight: seen.weight,
-    };
-    Ok(core.commit_delete(order.asked, &key, order.number, Some(stamped)))
+    let stamped = prepared(alloc, again(alloc, &key)?, order.at, "stamped", weight)?;
+    young(core)?;
+    Some(core.commit_delete(order.asked, &key, order.number, Some(stamped)))
+}
+
+fn again(alloc: Global, key: &Key) -> Option<Key>
+    ensures { IfSome result (λ k. k ≡ key.now) }
+{
+    match Key::of(alloc, key.ns(), key.name()) {
+        Ok(key) => Some(key),
+        Err(_) => None,
+    }
+}
+
+// The weight of the object of a key, where one stands.
+fn weight_of<V: Versions>(alloc: Global, core: &Core<V>, key: &Key) -> Option<Option<u64>>
+    ensures { IfSome result (λ w. w ≡ option_map (λ x. x.weight) (find item_key key.now core.now.view.store.items)) }
+{
+    match core.peek(alloc, key) {
+        Ok(peeked) => match peeked.found {
+            Some(seen) => Some(Some(seen.weight)),
+            None => Some(None),
+        },
+        Err(_) => None,
+    }
 }
 
 /// Removes the object of a name, which is being deleted.
-pub(crate) fn release<V: Versions>(
-    rt: &impl Abort,
+pub fn release<V: Versions>(
     alloc: Global,
     core: &mut Core<V>,
     order: &Order<'_>,
-) -> Result<ReleaseEnd, Fail> {
-    let key = key_of(rt, alloc, order.name)?;
-    young(rt, core);
-    Ok(core.commit_release(order.asked, &key, order.number))
+) -> Option<ReleaseEnd> {
+    let key = key_of(alloc, order.name)?;
+    young(core)?;
+    Some(core.commit_release(order.asked, &key, order.number))
 }
 
 /// Stores one of the first two versions from now on.
-pub(crate) fn store<V: Versions>(rt: &impl Abort, core: &mut Core<V>, v: u8) -> SetEnd {
-    young(rt, core);
-    assert!(rt; v < 2);
+pub fn store<V: Versions>(core: &mut Core<V>, v: u8) -> Option<SetEnd> {
+    young(core)?;
+    if v >= 2 {
+        return None;
+    }
     let (flags, _stored, _revision) = core.settings();
     let served = flags.served;
-    core.set_versions(Flags { served, storage: v })
+    Some(core.set_versions(Flags { served, storage: v }))
 }
 
 /// Keeps one version in the stored list.
-pub(crate) fn keep<V: Versions>(rt: &impl Abort, core: &mut Core<V>, v: u8) -> TrimEnd {
-    young(rt, core);
-    core.trim(&StoredList {
+pub fn keep<V: Versions>(core: &mut Core<V>, v: u8) -> Option<TrimEnd> {
+    young(core)?;
+    Some(core.trim(&StoredList {
         len: 1,
         items: [v, 0, 0, 0, 0, 0, 0, 0],
-    })
+    }))
 }
 
 /// Starts a migration.
-pub(crate) fn start<V: Versions>(
-    rt: &impl Abort,
-    alloc: Global,
-    core: &mut Core<V>,
-    name: &str,
-) -> Result<StartEnd, Fail> {
-    young(rt, core);
-    assert!(rt; name_ok(name));
-    Ok(core.start_migration(Txt::of(alloc, name)?))
+pub fn start<V: Versions>(alloc: Global, core: &mut Core<V>, name: &str) -> Option<StartEnd> {
+    young(core)?;
+    if !name_ok(name) {
+        return None;
+    }
+    Some(core.start_migration(Txt::of(alloc, name).ok()?))
 }
