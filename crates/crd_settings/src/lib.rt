@@ -22,6 +22,3 @@ pub use keeping::read_keep;
 pub use laws::decided;
 pub use pieces::Pieces;
 pub use setting::read_flags;
-
-#[cfg(test)]
-mod tests;
