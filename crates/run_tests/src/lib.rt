@@ -1,14 +1,12 @@
-//! Tests of the program as its user sees it: whole inputs of `kubeconv_cmd::run`, and what comes out.
+//! Tests of the program and of the server that cases of `program_tests` can't be: a run for each place of an input, and a server
+//! with room for one object.
 //!
-//! They stand in a crate of their own, since a crate with tests is proved once more together with them. A table is a text, so
-//! that the proof of a test doesn't grow with its rows.
+//! It has no code of its own.
 #![tactic(auto)]
 
 #[cfg(test)]
-mod files;
-#[cfg(test)]
-mod plain;
+mod full;
 #[cfg(test)]
 mod running;
 #[cfg(test)]
-mod talks;
+mod splits;

@@ -5,6 +5,8 @@
 #![tactic(auto)]
 
 #[cfg(test)]
+mod entries;
+#[cfg(test)]
 mod object;
 #[cfg(test)]
 mod tests;

@@ -1,4 +1,4 @@
-//! Tests of the versions of a definition as a server meets them: the shared definition, and small ones beside it.
+//! Tests of what a definition does for a server that no request shows yet: weights, flags, conversions and replaces.
 //!
 //! It has no code of its own, only tests. They are tables of cases, each a text with a case a line, and a step for each kind of
 //! case. The steps know of `Versions` alone, so that what a definition means stays outside their proofs; those of loading and
@@ -8,11 +8,7 @@
 #[cfg(test)]
 mod conversions;
 #[cfg(test)]
-mod forms;
-#[cfg(test)]
 mod loaded;
-#[cfg(test)]
-mod refusals;
 #[cfg(test)]
 mod requests;
 #[cfg(test)]

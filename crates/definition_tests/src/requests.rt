@@ -1,4 +1,4 @@
-//! Requests to store an object of the shared definition, in the namespace `default`.
+//! Requests to replace an object of the shared definition, in the namespace `default`.
 use crate::loaded::shared;
 use crate::spelled::spelled;
 use api_calls::{AdmitFault, Admitted, Incoming, NoTool, Versions};
@@ -127,76 +127,28 @@ fn have_answers<V: Versions>(
 
 // ---- cases
 
-// Bad requests, bad metadata and bad values, in the order in which they are looked for. Behind most faults stands a later one.
+// Bad requests, bad metadata and bad values of replaces; creates are cases of `program_tests`.
 fn refused_ones() -> &'static str {
     r#"
-v1beta1 { => NotJson
-v1beta1 ([*65) => NotJson
-v1beta1 ([*128)(]*128) => NotJson
-v1beta1 ([*127)1.0(]*127) => TooDeep
-v1beta1 ([*65)(]*65) => TooDeep
-v1beta1 {"apiVersion":1.0} => NotWhole
-v1beta1 1.0 => NotWhole
-v1beta1 1e3 => NotWhole
-v1beta1 9223372036854775808 => NotWhole
-v1beta1 ([*64)(]*64) => NotObject
-v1beta1 [] => NotObject
-v1beta1 {"apiVersion":"example.com/v1","kind":"Cron"} => WrongVersion
-v1beta1 {"kind":"Cron"} => WrongVersion
-v1 {BASE,"metadata":{"name":"a"}} => WrongVersion
-v1beta1 {"apiVersion":"example.com/v1beta1","kind":"Cron","metadata":{"namespace":"other"}} => WrongKind
-v1beta1 {"apiVersion":"example.com/v1beta1","metadata":{"namespace":"other"}} => WrongKind
 v1beta1/a {BASE,"metadata":{"name":"b","namespace":"other"}} => WrongNamespace
-v1beta1 {BASE,"metadata":{"labels":1,"namespace":1}} => WrongNamespace
 v1beta1/a {BASE,"metadata":{"labels":1,"name":"b"}} => WrongName
 v1beta1/a {BASE,"metadata":{"labels":1}} => WrongName
 v1beta1/a {BASE,"metadata":1} => WrongName
-
-v1beta1 {BASE,"metadata":1,"timeoutSeconds":1001} => "": metadata Type
-v1beta1 {BASE,"metadata":{"annotations":{"a":1},"labels":1,"name":"a"}} => "a": metadata.annotations Type
-v1beta1 {BASE,"metadata":{"finalizers":[""],"labels":{"a":null},"name":"a"}} => "a": metadata.finalizers Type
-v1beta1 {BASE,"metadata":{"labels":{"a":null},"name":"A"}} => "A": metadata.labels Type
-v1beta1 {BASE,"metadata":{"name":"A","ownerReferences":{}}} => "A": metadata.ownerReferences Type
-v1beta1 {BASE,"metadata":{"name":"A","resourceVersion":"01"}} => "A": metadata.resourceVersion Type
-v1beta1 {BASE,"metadata":{"name":"A","resourceVersion":"1"}} => "A": metadata.name Name
-v1beta1 {BASE,"metadata":{"name":1,"resourceVersion":"1"}} => "": metadata.name Name
-v1beta1 {BASE,"metadata":{"namespace":null},"timeoutSeconds":1001} => "": metadata.name Name
-v1beta1 {BASE,"metadata":{"name":"a","resourceVersion":1}} => "a": metadata.resourceVersion Type
 v1beta1/a {BASE,"metadata":{"name":"a","resourceVersion":"18446744073709551616"}} => "a": metadata.resourceVersion Type
-v1beta1 {BASE,"metadata":{"name":"a","resourceVersion":"0"},"timeoutSeconds":1001} => "a": metadata.resourceVersion Forbidden
 v1beta1/a {BASE,"metadata":{"name":"a","resourceVersion":""},"timeoutSeconds":1001} => "a": metadata.resourceVersion Required
 v1beta1/a {BASE,"metadata":{"name":"a","resourceVersion":null},"timeoutSeconds":1001} => "a": metadata.resourceVersion Required
 v1beta1/a {BASE,"metadata":{"name":"a"},"timeoutSeconds":1001} => "a": metadata.resourceVersion Required
-
-v1beta1 {BASE,"extra":{"known":{"a":"x"}},"metadata":{"name":"a"},"timeoutSeconds":1001} => "a": extra.known.a Type
-v1beta1 {BASE,"hostPort":1,"metadata":{"name":"a"},"timeoutSeconds":-1} => "a": hostPort Type
-v1beta1 {BASE,"metadata":{"name":"a"},"timeoutSeconds":-1} => "a": timeoutSeconds Minimum
-v1beta1 {BASE,"metadata":{"annotations":{"hub.kubeconv.local/kept":"["},"name":"a"},"timeoutSeconds":1001} => "a": timeoutSeconds Maximum
-v1 {"apiVersion":"example.com/v1","kind":"CronTab","metadata":{"annotations":{"spoke.kubeconv.local/v1beta1":"["},"name":"a"},"timeoutMillis":1001000} => "a": timeoutMillis Maximum
-v1beta1 {BASE,"metadata":{"annotations":{"hub.kubeconv.local/kept":"["},"name":"a"}} => "a": metadata.annotations.hub.kubeconv.local/kept Kept
-v1beta1 {BASE,"metadata":{"annotations":{"hub.kubeconv.local/kept":"["},"name":"a"},"note":"(x*262144)"} => "a": metadata.annotations.hub.kubeconv.local/kept Kept
-v1 {"apiVersion":"example.com/v1","kind":"CronTab","metadata":{"annotations":{"hub.kubeconv.local/kept":"[","spoke.kubeconv.local/v1beta1":"["},"name":"a"}} => "a": metadata.annotations.spoke.kubeconv.local/v1beta1 Kept
 v1beta1/a {BASE,"metadata":{"name":"a","resourceVersion":"1"},"note":"(x*262144)"} => "a": object Size
 "#
 }
 
-// The answer is the hub value, and the number of a request that replaces. The fourth body has 1,048,576 bytes. The last four
-// have kept texts, which are dropped where they are no longer true or stand where nothing is kept.
+// The answer is the hub value, and the number of the request. The last two have kept texts, of which the second is no longer true.
 fn admitted_ones() -> &'static str {
     r#"
-v1beta1 {BASE,"metadata":{"name":"a"}} => {"apiVersion":"example.com/v1","kind":"CronTab","metadata":{"name":"a","namespace":"default"},"paused":false}
-v1beta1 {BASE,"metadata":{"name":"a","namespace":"default","resourceVersion":""},"note":null,"paused":null} => {"apiVersion":"example.com/v1","kind":"CronTab","metadata":{"name":"a","namespace":"default"},"note":null,"paused":false}
-v1beta1 {BASE,"extra":{"free":{"x":1},"known":{"a":1,"b":2}},"metadata":{"name":"a"},"zzz":1} => {"apiVersion":"example.com/v1","extra":{"free":{"x":1},"known":{"a":1}},"kind":"CronTab","metadata":{"name":"a","namespace":"default"},"paused":false}
-v1beta1 {BASE,"metadata":{"name":"a"}}( *1048499) => {"apiVersion":"example.com/v1","kind":"CronTab","metadata":{"name":"a","namespace":"default"},"paused":false}
-v1beta1 {"kind":"Cron",BASE,"metadata":{"name":"a"}} => {"apiVersion":"example.com/v1","kind":"CronTab","metadata":{"name":"a","namespace":"default"},"paused":false}
-v1 {"apiVersion":"example.com/v1","kind":"CronTab","metadata":{"name":"a"},"paused":true} => {"apiVersion":"example.com/v1","kind":"CronTab","metadata":{"name":"a","namespace":"default"},"paused":true}
 v1beta1/a {BASE,"metadata":{"creationTimestamp":"x","generation":7,"name":"a","resourceVersion":"18446744073709551615","uid":"u"}} => {"apiVersion":"example.com/v1","kind":"CronTab","metadata":{"name":"a","namespace":"default"},"paused":false} 18446744073709551615
 v1beta1/a {BASE,"metadata":{"name":"a","resourceVersion":"0"}} => {"apiVersion":"example.com/v1","kind":"CronTab","metadata":{"name":"a","namespace":"default"},"paused":false} 0
-
-v1beta1 {BASE,"metadata":{"annotations":{"hub.kubeconv.local/kept":"[{\"at\":[],\"was\":{\"timeoutMillis\":-1500}}]"},"name":"a"},"timeoutSeconds":5} => {"apiVersion":"example.com/v1","kind":"CronTab","metadata":{"name":"a","namespace":"default"},"paused":false,"timeoutMillis":5000}
 v1beta1/a {BASE,"metadata":{"annotations":{"hub.kubeconv.local/kept":"[{\"at\":[],\"was\":{\"timeoutMillis\":1500}}]"},"name":"a","resourceVersion":"2"},"timeoutSeconds":1} => {"apiVersion":"example.com/v1","kind":"CronTab","metadata":{"name":"a","namespace":"default"},"paused":false,"timeoutMillis":1500} 2
 v1beta1/a {BASE,"metadata":{"annotations":{"hub.kubeconv.local/kept":"[{\"at\":[],\"was\":{\"timeoutMillis\":1500}}]"},"name":"a","resourceVersion":"2"},"timeoutSeconds":2} => {"apiVersion":"example.com/v1","kind":"CronTab","metadata":{"name":"a","namespace":"default"},"paused":false,"timeoutMillis":2000} 2
-v1beta1 {BASE,"metadata":{"annotations":{"hub.kubeconv.local/other":"[","spoke.kubeconv.local/v1beta1":"[","spoke.kubeconv.local/v9":"["},"name":"a"}} => {"apiVersion":"example.com/v1","kind":"CronTab","metadata":{"annotations":{"hub.kubeconv.local/other":"["},"name":"a","namespace":"default"},"paused":false}
 "#
 }
 

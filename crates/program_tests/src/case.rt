@@ -1,0 +1,84 @@
+//! What the lines of a case have said so far.
+use std::alloc::Global;
+
+/// The two files.
+#[derive(Drop)]
+pub(crate) struct Documents {
+    pub(crate) base: String,
+    pub(crate) crd: String,
+    pub(crate) rules: String,
+    pub(crate) old: String,
+}
+
+/// The input, and a request that isn't whole yet.
+#[derive(Drop)]
+pub(crate) struct Asked {
+    pub(crate) words: String,
+    pub(crate) target: String,
+    pub(crate) body: String,
+    pub(crate) input: String,
+}
+
+/// How the outside behaves.
+#[derive(Clone, Copy)]
+pub(crate) struct Outside {
+    pub(crate) piece: usize,
+    pub(crate) failing_read: u64,
+    pub(crate) failing_write: u64,
+    pub(crate) last: usize,
+    pub(crate) spoils_crd: bool,
+    pub(crate) spoils_rules: bool,
+}
+
+/// A case.
+#[derive(Drop)]
+pub(crate) struct Case {
+    pub(crate) documents: Documents,
+    pub(crate) asked: Asked,
+    pub(crate) outside: Outside,
+    pub(crate) times: usize,
+}
+
+impl Outside {
+    /// Nothing fails.
+    pub(crate) fn new() -> Outside {
+        Outside {
+            piece: 4_096,
+            failing_read: u64::MAX,
+            failing_write: u64::MAX,
+            last: usize::MAX,
+            spoils_crd: false,
+            spoils_rules: false,
+        }
+    }
+}
+
+fn no_documents(alloc: Global) -> Documents {
+    Documents {
+        base: String::new(alloc),
+        crd: String::new(alloc),
+        rules: String::new(alloc),
+        old: String::new(alloc),
+    }
+}
+
+fn nothing_asked(alloc: Global) -> Asked {
+    Asked {
+        words: String::new(alloc),
+        target: String::new(alloc),
+        body: String::new(alloc),
+        input: String::new(alloc),
+    }
+}
+
+impl Case {
+    /// Nothing said.
+    pub(crate) fn new(alloc: Global) -> Case {
+        Case {
+            documents: no_documents(alloc),
+            asked: nothing_asked(alloc),
+            outside: Outside::new(),
+            times: 1,
+        }
+    }
+}

@@ -1,0 +1,44 @@
+//! Cases of the program as a function: `run`, over files and streams in memory.
+//!
+//! Standard input is a list of cases, and what each comes to is printed: what `run` wrote on its output, its error line, its
+//! status, and how many files it read. The answers that are wanted stand in `stdout`. A line is a word and a text behind one
+//! space, and its first byte tells what it is:
+//!
+//! | line | what it says |
+//! |---|---|
+//! | `# TEXT` | it is printed as it stands |
+//! | `words TEXT` | the words of the command line, a space between two, for this case and those behind it |
+//! | `definition TEXT`, `rules TEXT` | the files `crd.json` and `rules.json`, for this case and those behind it |
+//! | `- TEXT`, `+ TEXT` | in this case's `crd.json` the second text stands where the first stands first |
+//! | `Definition`, `Rules` | in this case a byte that is no text stands behind the file |
+//! | `times NUMBER` | the next line stands so many times |
+//! | `GET TARGET` | a request |
+//! | `POST TARGET` | the target of a request, whose body is each `part TEXT` and the `body TEXT` that come next |
+//! | `head TEXT`, `input TEXT` | the text in the input, with the end of a line and without |
+//! | `size NUMBER` | a read gives so many bytes at most |
+//! | `fails NUMBER`, `unwritten NUMBER` | the read, or the write, with this number fails, counted from 0 |
+//! | `last NUMBER` | only so many bytes of the output are printed, behind the number of those before them |
+//! | `.` | the case ends |
+//!
+//! Nothing here has a contract.
+#![tactic(auto)]
+
+mod case;
+mod going;
+mod steps;
+
+use case::Case;
+use steps::take;
+
+fn main(rt: HostRuntime) -> std::io::Result<()> {
+    let alloc = rt.alloc();
+    let mut case = Case::new(alloc);
+    for line in rt.lines(alloc) {
+        let line = line?;
+        match take(&rt, alloc, &mut case, line.as_str()) {
+            Some(text) => print!(rt; "{}", text.as_str())?,
+            None => println!(rt; "no such line: {}", line.as_str())?,
+        }
+    }
+    Ok(())
+}
