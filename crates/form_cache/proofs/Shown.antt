@@ -1,5 +1,5 @@
 -- How the words for forms stand to the words for the pairs that hold them.
-use Rattle.std.proofs.Common.{◌≡◌, ℕ, ◌-◌, Bool, true, false, cond, List, [], ◌∷◌, map, take, Option, Some, None, IsSome, option_map, refl, sym, ap, ◌∙◌}
+use Rattle.std.proofs.Common.{◌≡◌, ℕ, ◌-◌, Bool, true, false, cond, List, [], ◌∷◌, take, Option, Some, None, IsSome, option_map, refl, ap}
 use Rattle.std.proofs.lemmas.List.{take-map}
 use Rattle.std.specs.Option.{option_map_or}
 use Rattle.std.specs.Map.{lookup, lookup_entry, remove_entry}
@@ -7,7 +7,7 @@ use Rattle.lru.specs.LruCache.{lru_cache, promoted, put_entries}
 use Rattle.lru.proofs.CallerLemmas.{Contains-lookup_entry}
 use Rattle.kj_value.specs.Txt.{Bytes}
 use Rattle.kube_meta.specs.Key.{KeyView}
-use Rattle.form_cache.specs.Forms.{Form, forms_of, same_form, shows, found, without, in_front, used, beside, kept}
+use Rattle.form_cache.specs.Forms.{forms_of, same_form, shows, found, without, in_front, used, beside, kept}
 use Rattle.form_cache.specs.Same.{same_parts}
 use Rattle.form_cache.specs.View.{form_of, shown}
 use Rattle.form_cache.specs.declared.name.FormName.{FormName}

@@ -1,8 +1,8 @@
 -- What follows of a cache's forms, for those who keep a fact of each of them.
 use Rattle.std.specs.Prelude.{◌≡◌, ℕ, zero, suc, ◌-◌, Bool, true, false, cond, List, [], ◌∷◌, take, Option, Some, None, refl}
-use Rattle.std.proofs.Common.{sym, ap, subst, ◌∙◌}
+use Rattle.std.proofs.Common.{ap, subst}
 use Rattle.kube_meta.specs.Key.{KeyView}
-use Rattle.form_cache.specs.Forms.{Form, Forms, same_form, shows, found, without, in_front, used, beside, kept}
+use Rattle.form_cache.specs.Forms.{Form, Forms, shows, found, without, in_front, used, beside, kept}
 use Rattle.form_cache.specs.Same.{same_parts, same_itself}
 
 -- P holds of each form
