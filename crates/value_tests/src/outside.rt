@@ -2,9 +2,9 @@
 ghost use Rattle.std.specs.Prelude.{◌≡◌, ◌<◌};
 
 use edge_io::{
-    Clock, DiskFiles, Ears, Failed, FileFault, Files, FixedClock, MOST_FILE_BYTES, MemConnection,
-    MemEars, MemFile, MemFiles, MemSink, MemSource, RealClock, Sink, Source, StdSink, StdSource,
-    SureFiles, SureSink, SureSource, send, stamp_of,
+    Clock, DiskFiles, Ears, Failed, FileFault, Files, FixedClock, Link, LinkFault, MOST_FILE_BYTES,
+    MemConnection, MemEars, MemFile, MemFiles, MemLink, MemSink, MemSource, RealClock, Sink,
+    Source, StdSink, StdSource, SureFiles, SureSink, SureSource, send, stamp_of,
 };
 use kj_value::Txt;
 use std::alloc::Global;
@@ -268,6 +268,37 @@ fn ears_in_memory(rt: HostRuntime) -> Result<(), Fail> {
     assert_eq!(rt; ears.handed_out(), 1);
     assert_eq!(rt; ears.calls(), 4);
     assert_eq!(rt; ears.faults(), 2);
+    Ok(())
+}
+
+// One exchange: what it is answered, or that it fails.
+fn one_exchange<L: Link>(rt: &impl Abort, alloc: Global, link: &mut L, want: Option<&[u8]>) {
+    match link.exchange(alloc, b"ask") {
+        Ok(answer) => assert_eq!(rt; Some(answer.as_slice()), want),
+        Err(fault) => {
+            assert_eq!(rt; fault, LinkFault::Failed);
+            assert!(rt; want.is_none());
+        }
+    }
+}
+
+#[test]
+fn links_in_memory(rt: HostRuntime) -> Result<(), Fail> {
+    let alloc = rt.alloc();
+    let mut answers = Vec::new(alloc);
+    answers.push(b"one".to_vec(alloc)?)?;
+    answers.push(b"two".to_vec(alloc)?)?;
+    let mut link = MemLink::new(alloc, answers, vec![in alloc; 1u64]?);
+    one_exchange(&rt, alloc, &mut link, Some(b"one"));
+    one_exchange(&rt, alloc, &mut link, None);
+    one_exchange(&rt, alloc, &mut link, Some(b"two"));
+    one_exchange(&rt, alloc, &mut link, None);
+    assert_eq!(rt; link.calls(), 4);
+    assert_eq!(rt; link.faults(), 2);
+    assert_eq!(rt; link.made().len(), 4);
+    assert_eq!(rt; link.made()[0].request(), b"ask".as_slice());
+    assert!(rt; link.made()[1].answer().is_none());
+    assert_eq!(rt; link.made()[2].answer(), Some(b"two".as_slice()));
     Ok(())
 }
 
