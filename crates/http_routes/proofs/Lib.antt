@@ -1,0 +1,5 @@
+mod Ascii
+mod Pieces
+mod Nothing
+mod Named
+mod Values

@@ -1,0 +1,49 @@
+-- What a request asks for: a call, or why there is none. First the path, then the method, then the query.
+use Rattle.std.specs.Prelude.{◌≡◌, ◌==◌, ℕ, List, None, Some}
+use Rattle.std.specs.List.{before_first, after_first}
+use Rattle.api_calls.specs.Meaning.{Meaning}
+use Rattle.api_calls.specs.Calls.{Call}
+use Rattle.api_calls.specs.Cause.{WhyView}
+use Rattle.http_routes.specs.Paths.{Resource, Names, NamesNothing, segments}
+use Rattle.http_routes.specs.Actions.{Action, Paging, row_of, cell, call_of}
+use Rattle.http_routes.specs.Queries.{Pairs, Reads, pairs_of, paged, bad}
+
+pub data Route : Type 0 where
+  calls : Call → Route
+  -- nothing has the path
+  no_resource : Route
+  -- what the path names doesn't have the method
+  method_not_allowed : Route
+  bad_request : WhyView → Route
+
+-- a target is a path and, behind the first question mark, a query (RFC 9112, section 3.2.1)
+abbrev pub question_mark : ℕ
+question_mark = 63
+
+abbrev pub path_in : List ℕ → List ℕ
+path_in target = before_first (λ b. b == question_mark) target
+
+abbrev pub query_in : List ℕ → List ℕ
+query_in target = after_first (λ b. b == question_mark) target
+
+-- the path names this resource, and the method asks this of it
+pub record Asks (m : Meaning) (method target : List ℕ) (r : Resource) (a : Action) : Type 0 where
+  pub named : Names m (segments (path_in target)) r
+  pub asked : cell (row_of r) method ≡ Some a
+
+abbrev pub Routes : Meaning → List ℕ → List ℕ → List ℕ → Route → Type 0
+Routes m method target body (calls c) = (r : Resource) × (a : Action) × (p : Paging) × Asks m method target r a
+    × Reads a (pairs_of (query_in target)) (paged p) × (c ≡ call_of a body p)
+Routes m method target body no_resource = NamesNothing m (segments (path_in target))
+Routes m method target body method_not_allowed = (r : Resource) × Names m (segments (path_in target)) r × (cell (row_of r) method ≡ None)
+Routes m method target body (bad_request why) = (r : Resource) × (a : Action) × Asks m method target r a
+    × Reads a (pairs_of (query_in target)) (bad why)
+
+-- ---- for private clauses
+
+-- what a request comes to whose path and method are right
+abbrev pub IsAsked : Action → Pairs → List ℕ → Route → Type 0
+IsAsked a ps body (calls c) = (p : Paging) × Reads a ps (paged p) × (c ≡ call_of a body p)
+IsAsked a ps body no_resource = ⊥
+IsAsked a ps body method_not_allowed = ⊥
+IsAsked a ps body (bad_request why) = Reads a ps (bad why)
