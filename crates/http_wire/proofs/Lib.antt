@@ -3,5 +3,7 @@ pub mod HeadLemmas
 pub mod LineLemmas
 pub mod InboxLemmas
 pub mod ReadingLemmas
+pub mod StatusLemmas
+pub mod ReceivingLemmas
 pub mod Unique
 pub mod Ends

@@ -1,12 +1,14 @@
 -- A head ends in an empty line behind a line that isn't empty.
-use Rattle.std.proofs.Common.{◌≡◌, ℕ, ◌+◌, ◌-◌, ◌<◌, ◌≤◌, Bool, false, IsTrue, ◌↔◌, List, [], ◌∷◌, ◌++◌, length, get_or, take, All, suc, refl, ap, sym, ◌∙◌, subst, arith, append_assoc, add-one}
+use Rattle.std.proofs.Common.{◌≡◌, ℕ, ◌+◌, ◌-◌, ◌<◌, ◌≤◌, Bool, false, IsTrue, ◌↔◌, List, [], ◌∷◌, ◌++◌, length, get_or, take, All, Option, Some, None, suc, refl, ap, sym, ◌∙◌, subst, arith, append_assoc, add-one}
 use Rattle.std.proofs.Math.Seq.{take-suc}
 use Rattle.std.proofs.lemmas.List.{same_from_push, append_cancel_right, append-nil, take_all}
 use Rattle.std.specs.List.{flat_map}
+use Rattle.std.specs.Char.{is_ascii_digit}
+use Rattle.std.proofs.lemmas.Bool.Decides.{nat_tests}
 use Rattle.std.specs.Prelude.{codes}
-use Rattle.httparse.proofs.GrammarLemmas.{print_request-append, cons-append}
-use Rattle.httparse.specs.Ascii.{line_feed, colon, digit_zero}
-use Rattle.httparse.specs.Grammar.{LineEnd, crlf, lf, print_end, print_blank, print_version, Field, print_field, IsField, AllPass, is_value_byte, RequestHead, IsRequestHead, print_request}
+use Rattle.httparse.proofs.GrammarLemmas.{print_request-append, print_response-append, cons-append}
+use Rattle.httparse.specs.Ascii.{line_feed, colon, space, digit_zero}
+use Rattle.httparse.specs.Grammar.{LineEnd, crlf, lf, print_end, print_blank, print_version, Field, print_field, IsField, AllPass, is_value_byte, RequestHead, IsRequestHead, print_request, ResponseHead, IsResponseHead, print_response, print_reason, reason_phrase}
 use Rattle.http_wire.specs.Lines.{IsInside, EndsIn, EndsInEmptyLine}
 
 pub no_false : IsTrue false → ⊥
@@ -164,3 +166,35 @@ head_ends h is =
     ∙ regroup (print_blank h.blank) h.method h.target (print_version h.minor) (print_end h.line_end) fields (print_end h.last) in
     let line = fields_line (before ++ (print_version h.minor ++ print_end h.line_end)) h.fields (version_line before h.minor h.line_end is.minor) is.fields in
     subst (λ (xs : List ℕ). EndsInEmptyLine xs) (sym whole) (empty_behind ((before ++ (print_version h.minor ++ print_end h.line_end)) ++ fields) h.last line)
+
+digit_is_value : (b : ℕ) → IsTrue (is_ascii_digit b) → IsTrue (is_value_byte b)
+digit_is_value b digit = grind (arith, nat_tests)
+
+space_inside : IsInside space
+space_inside = (λ is. cc, λ is. cc)
+
+-- the code and the phrase, which may be empty or missing
+code_line : (before digits : List ℕ) (reason : Option (List ℕ)) (end : LineEnd) → AllPass is_ascii_digit digits
+    → AllPass is_value_byte (reason_phrase reason) → EndsInLine ((before ++ space ∷ (digits ++ print_reason reason)) ++ print_end end)
+code_line before digits None end all phrase =
+    subst (λ (xs : List ℕ). EndsInLine ((before ++ space ∷ xs) ++ print_end end)) (sym (append-nil digits))
+    (raw_line before digits space end space_inside (λ i d within. digit_is_value (get_or digits i d) (all i d within)))
+code_line before digits (Some text) end all phrase =
+    subst (λ (xs : List ℕ). EndsInLine (xs ++ print_end end)) (append_assoc before (space ∷ digits) (space ∷ text))
+    (raw_line (before ++ space ∷ digits) text space end space_inside phrase)
+
+regroup_status : (a v d r e s l : List ℕ) → a ++ (v ++ 32 ∷ (d ++ (r ++ (e ++ ((s ++ l) ++ [])))))
+    ≡ ((((a ++ v) ++ 32 ∷ (d ++ r)) ++ e) ++ s) ++ l
+regroup_status a v d r e s l = simp (append_assoc, cons-append, append-nil)
+
+-- so does the head of a response
+pub status_ends : (h : ResponseHead) → IsResponseHead h → EndsInEmptyLine (print_response h)
+status_ends h is =
+    let before = print_blank h.blank ++ print_version h.minor in
+    let fields = flat_map print_field h.fields in
+    let start = (before ++ space ∷ (h.digits ++ print_reason h.reason)) ++ print_end h.line_end in
+    let whole : print_response h ≡ (start ++ fields) ++ print_end h.last =
+    sym (append-nil (print_response h)) ∙ print_response-append h []
+    ∙ regroup_status (print_blank h.blank) (print_version h.minor) h.digits (print_reason h.reason) (print_end h.line_end) fields (print_end h.last) in
+    let line = fields_line start h.fields (code_line before h.digits h.reason h.line_end is.digits.1 is.reason) is.fields in
+    subst (λ (xs : List ℕ). EndsInEmptyLine xs) (sym whole) (empty_behind (start ++ fields) h.last line)

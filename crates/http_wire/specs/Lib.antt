@@ -5,4 +5,6 @@ pub mod Stream
 pub mod Asking
 pub mod Inboxes
 pub mod Response
+pub mod Requesting
+pub mod Received
 pub mod Phrases

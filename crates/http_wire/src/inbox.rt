@@ -4,6 +4,7 @@ ghost use Rattle.std.specs.Io.KnownBytes.{prepend_known, IsAtEnd};
 ghost use Rattle.edge_io.specs.Causes.{HasCause, Rose};
 ghost use Rattle.http_wire.specs.declared.inbox.TheConstants.{ROOM};
 ghost use Rattle.http_wire.specs.Head.{HasNoWhole};
+ghost use Rattle.http_wire.specs.Received.{LacksResponse};
 ghost use Rattle.http_wire.specs.Inboxes.{Held, LiesIn, part_of};
 
 use crate::Span;
@@ -44,6 +45,7 @@ fn read_behind<S: Source>(bytes: &mut [u8], at: usize, input: &mut S) -> Result<
     ensures within { IfOk result (λ n. at + n ≤ length bytes.new) }
     ensures end { IfOk result (λ n. n ≡ 0 → IsAtEnd (S.left input.new)) }
     ensures cause { HasCause (S.faults input.old) (S.faults input.new) result }
+    ensures origin { S.origin input.new ≡ S.origin input.old }
 {
     input.read(&mut bytes[at..])
 }
@@ -88,6 +90,7 @@ fn refill<S: Source>(bytes: &mut [u8], start: usize, end: usize, input: &mut S) 
     ensures more { IfOk result.count (λ n. result.start + (end - start) + n ≤ length bytes.new) }
     ensures end { IfOk result.count (λ n. n ≡ 0 → IsAtEnd (S.left input.new)) }
     ensures cause { HasCause (S.faults input.old) (S.faults input.new) result.count }
+    ensures origin { S.origin input.new ≡ S.origin input.old }
 {
     let at = make_room(bytes, start, end);
     let count = read_behind(bytes, at + (end - start), input);
@@ -140,8 +143,8 @@ impl Inbox {
         self.request = request;
     }
 
-    /// Reads some more bytes, and answers how many: none at the end of the input. This is the one place where the input
-    /// is read, and nothing is read once a whole request is held.
+    /// Reads some more bytes, and answers how many: none at the end of the input. Nothing is read once a whole request is
+    /// held.
     pub(crate) fn fill<S: Source>(&mut self, input: &mut S) -> Result<usize, Failed>
         requires room { length self.old.bytes < ROOM }
         requires needed { HasNoWhole self.old.bytes }
@@ -151,6 +154,36 @@ impl Inbox {
         ensures room { length self.new.bytes ≤ ROOM }
         ensures end { IfOk result (λ n. n ≡ 0 → IsAtEnd (S.left input.new)) }
         ensures cause { HasCause (S.faults input.old) (S.faults input.new) result }
+        ensures origin { S.origin input.new ≡ S.origin input.old }
+    {
+        self.read_more(input)
+    }
+
+    /// The same for a response: nothing is read once a whole one is held.
+    pub(crate) fn fill_response<S: Source>(&mut self, input: &mut S) -> Result<usize, Failed>
+        requires room { length self.old.bytes < ROOM }
+        requires needed { LacksResponse self.old.bytes }
+        ensures bytes { prepend_known self.new.bytes (S.left input.new) ≡ prepend_known self.old.bytes (S.left input.old) }
+        ensures more { IfOk result (λ n. length self.new.bytes ≡ length self.old.bytes + n) }
+        ensures front { take (length self.old.bytes) self.new.bytes ≡ self.old.bytes }
+        ensures room { length self.new.bytes ≤ ROOM }
+        ensures end { IfOk result (λ n. n ≡ 0 → IsAtEnd (S.left input.new)) }
+        ensures cause { HasCause (S.faults input.old) (S.faults input.new) result }
+        ensures origin { S.origin input.new ≡ S.origin input.old }
+    {
+        self.read_more(input)
+    }
+
+    // Reads some more bytes, and answers how many. This is the one place where the input is read.
+    fn read_more<S: Source>(&mut self, input: &mut S) -> Result<usize, Failed>
+        requires { length self.old.bytes < ROOM }
+        ensures bytes { prepend_known self.new.bytes (S.left input.new) ≡ prepend_known self.old.bytes (S.left input.old) }
+        ensures more { IfOk result (λ n. length self.new.bytes ≡ length self.old.bytes + n) }
+        ensures front { take (length self.old.bytes) self.new.bytes ≡ self.old.bytes }
+        ensures room { length self.new.bytes ≤ ROOM }
+        ensures end { IfOk result (λ n. n ≡ 0 → IsAtEnd (S.left input.new)) }
+        ensures cause { HasCause (S.faults input.old) (S.faults input.new) result }
+        ensures origin { S.origin input.new ≡ S.origin input.old }
     {
         let found = refill(&mut self.bytes, self.start, self.end, input);
         self.end = found.start + (self.end - self.start);

@@ -55,6 +55,7 @@ fn last_lines(closing: bool) -> &'static [u8]
 fn send_number<K: Sink>(out: &mut K, n: usize) -> Result<(), Failed>
     ensures sent { Sends (K.written out.old) (K.written out.new) (decimal n) result }
     ensures cause { HasCause (K.faults out.old) (K.faults out.new) result }
+    ensures number { K.number out.new ≡ K.number out.old }
 {
     let mut buffer = Buffer::new();
     send(out, buffer.format(n).as_bytes())
@@ -63,6 +64,7 @@ fn send_number<K: Sink>(out: &mut K, n: usize) -> Result<(), Failed>
 fn send_code<K: Sink>(out: &mut K, code: u16) -> Result<(), Failed>
     ensures sent { Sends (K.written out.old) (K.written out.new) (decimal code) result }
     ensures cause { HasCause (K.faults out.old) (K.faults out.new) result }
+    ensures number { K.number out.new ≡ K.number out.old }
 {
     send_number(out, usize::from(code))
 }
@@ -71,6 +73,7 @@ fn send_phrase<K: Sink>(out: &mut K, code: u16) -> Result<(), Failed>
     requires { HasPhrase code }
     ensures sent { Sends (K.written out.old) (K.written out.new) (phrase code) result }
     ensures cause { HasCause (K.faults out.old) (K.faults out.new) result }
+    ensures number { K.number out.new ≡ K.number out.old }
 {
     send(out, phrase_of(code))
 }
@@ -78,6 +81,7 @@ fn send_phrase<K: Sink>(out: &mut K, code: u16) -> Result<(), Failed>
 fn send_type<K: Sink>(out: &mut K, code: u16) -> Result<(), Failed>
     ensures sent { Sends (K.written out.old) (K.written out.new) (type_field_of code) result }
     ensures cause { HasCause (K.faults out.old) (K.faults out.new) result }
+    ensures number { K.number out.new ≡ K.number out.old }
 {
     send(out, type_field(code))
 }
@@ -85,6 +89,7 @@ fn send_type<K: Sink>(out: &mut K, code: u16) -> Result<(), Failed>
 fn send_last_lines<K: Sink>(out: &mut K, closing: bool) -> Result<(), Failed>
     ensures sent { Sends (K.written out.old) (K.written out.new) (last_lines_of closing) result }
     ensures cause { HasCause (K.faults out.old) (K.faults out.new) result }
+    ensures number { K.number out.new ≡ K.number out.old }
 {
     send(out, last_lines(closing))
 }
@@ -93,6 +98,7 @@ fn write_status_line<K: Sink>(out: &mut K, code: u16) -> Result<(), Failed>
     requires { HasPhrase code }
     ensures sent { Sends (K.written out.old) (K.written out.new) (status_line code) result }
     ensures cause { HasCause (K.faults out.old) (K.faults out.new) result }
+    ensures number { K.number out.new ≡ K.number out.old }
 {
     send(out, VERSION)?;
     send_code(out, code)?;
@@ -101,9 +107,10 @@ fn write_status_line<K: Sink>(out: &mut K, code: u16) -> Result<(), Failed>
     send(out, LINE_END)
 }
 
-fn write_length<K: Sink>(out: &mut K, len: usize) -> Result<(), Failed>
+pub(crate) fn write_length<K: Sink>(out: &mut K, len: usize) -> Result<(), Failed>
     ensures sent { Sends (K.written out.old) (K.written out.new) (length_field len) result }
     ensures cause { HasCause (K.faults out.old) (K.faults out.new) result }
+    ensures number { K.number out.new ≡ K.number out.old }
 {
     send(out, LENGTH)?;
     send_number(out, len)?;
@@ -122,6 +129,7 @@ pub fn write_response<K: Sink>(
     requires { HasPhrase code }
     ensures sent { Sends (K.written out.old) (K.written out.new) (says code body.now closing) result }
     ensures cause { HasCause (K.faults out.old) (K.faults out.new) result }
+    ensures number { K.number out.new ≡ K.number out.old }
 {
     write_status_line(out, code)?;
     send_type(out, code)?;

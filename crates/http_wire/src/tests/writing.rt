@@ -2,8 +2,8 @@
 
 ghost use Rattle.std.specs.Prelude.{None, Some};
 
-use crate::write_response;
-use edge_io::{Failed, MemSink, Sink};
+use crate::{Inbox, read_request, write_request, write_response};
+use edge_io::{Failed, MemSink, MemSource, Sink};
 use std::test::*;
 
 const CREATED: &[u8] =
@@ -72,6 +72,41 @@ fn failing_writes(rt: HostRuntime) -> Result<(), Fail> {
         assert!(&rt; write_response(&mut out, 201, b"{\"a\":\"b c\"}\n", true).is_err());
         assert!(&rt; CREATED.starts_with(out.bytes()));
         assert!(&rt; out.bytes().len() < CREATED.len());
+    }
+    Ok(())
+}
+
+// A request as RFC 9112 has it, and what is read of it.
+#[test]
+fn a_request_and_its_reading(rt: HostRuntime) -> Result<(), Fail> {
+    let alloc = rt.alloc();
+    let mut out = MemSink::new(alloc, 200, Vec::new(alloc))?;
+    write_request(&mut out, "POST", "/convert?a=b", b"{\"a\":1}\n")?;
+    let want =
+        b"POST /convert?a=b HTTP/1.1\r\nHost: kubeconv\r\nContent-Type: application/json\r\nContent-Length: 8\r\nConnection: close\r\n\r\n{\"a\":1}\n".as_slice();
+    assert_eq!(&rt; out.bytes(), want);
+    let mut source = MemSource::new(want.to_vec(alloc)?, 3, Vec::new(alloc));
+    let mut inbox = Inbox::open(alloc)?;
+    let parts = read_request(&mut inbox, &mut source)?;
+    assert_eq!(&rt; inbox.part(parts.method), b"POST".as_slice());
+    assert_eq!(&rt; inbox.part(parts.target), b"/convert?a=b".as_slice());
+    assert_eq!(&rt; inbox.part(parts.body), b"{\"a\":1}\n".as_slice());
+    assert!(&rt; parts.closing);
+    Ok(())
+}
+
+// Each of its writes fails in turn.
+#[test]
+fn failing_requests(rt: HostRuntime) -> Result<(), Fail> {
+    let alloc = rt.alloc();
+    for call in 0..10 {
+        let mut out = MemSink::new(alloc, 200, vec![in alloc; call]?)?;
+        assert!(&rt; write_request(&mut out, "GET", "/", b"x").is_err());
+        assert!(&rt;
+            b"GET / HTTP/1.1\r\nHost: kubeconv\r\nContent-Type: application/json\r\nContent-Length: 1\r\nConnection: close\r\n\r\n".starts_with(
+                out.bytes()
+            )
+        );
     }
     Ok(())
 }

@@ -10,6 +10,7 @@ invariant-loop-count g l = record {
   more : length l.fn.inbox.bytes ≤ length l.inbox.bytes;
   room : length l.inbox.bytes < MOST_HEAD_BYTES;
   none : HasNoHead l.inbox.bytes;
+  origin : g.S.Source.origin l.input ≡ g.S.Source.origin l.fn.input;
   later : g.S.Source.faults l.fn.input ≤ g.S.Source.faults l.input;
 }
 

@@ -1,0 +1,18 @@
+use Rattle.std.proofs.Common.{ℕ, List, length, ap, ◌∙◌, arith}
+use Rattle.http_wire.proofs.ReceivingLemmas.{no_whole, no_head_grown}
+use Rattle.http_wire.proofs.ReadingLemmas.{no_line}
+use Rattle.http_wire.proofs.receiving.fill_status.Goals as goal
+
+pub fill_response-requires-clause-needed : goal.fill_response-requires-clause-needed
+fill_response-requires-clause-needed g c = no_whole _ c.loop-count.invariant.none
+
+pub loop-count-preserved : goal.loop-count-preserved
+loop-count-preserved g c = record {
+  same = c.in_ok-count.ensures.bytes ∙ c.loop-count.invariant.same;
+  more = omega (arith, c.in_ok-count.ensures.more, c.loop-count.invariant.more);
+  room = omega (arith, c.in_ok-count.ensures.more, ap (λ (xs : List ℕ). length xs) c.held-held.ensures);
+  none = no_head_grown c.loop-count.inbox.bytes c.fill_response.new.self.bytes c.in_ok-count.ensures.front c.loop-count.invariant.none
+      (no_line _ _ _ _ c.held-held.ensures c.held.ensures c.if-has_empty_line.ensures.1);
+  origin = c.in_ok-count.ensures.origin ∙ c.loop-count.invariant.origin;
+  later = omega (arith, c.in_ok-count.ensures.cause.later, c.loop-count.invariant.later);
+}
