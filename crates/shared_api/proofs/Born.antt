@@ -14,10 +14,10 @@ use Rattle.api_calls.specs.EachObject.{each-find}
 use Rattle.api_calls.specs.Growth.{next_number-revision}
 
 -- an object that was created before a number
-abbrev BornBelow : ℕ → Stored → Type 0
+abbrev pub BornBelow : ℕ → Stored → Type 0
 BornBelow n e = e.born < n
 
-later : (n k : ℕ) → n ≤ k → (es : List Stored) → Each (BornBelow n) es → Each (BornBelow k) es
+pub later : (n k : ℕ) → n ≤ k → (es : List Stored) → Each (BornBelow n) es → Each (BornBelow k) es
 later n k le [] h = tt
 later n k le (e ∷ es) h = let first = h.0 in (omega (arith, first, le), later n k le es h.1)
 
@@ -77,7 +77,7 @@ born-effect n (note (Claim c)) s b = b
 born-effect n (note (RangeDone c)) s b = b
 born-effect n (note (GiveBack c)) s b = b
 
-born-from : (n : ℕ) (s : State) (log : List Item) → Each (BornBelow n) s.objects → Each (BornBelow (number_from n log)) (state_from n s log).objects
+pub born-from : (n : ℕ) (s : State) (log : List Item) → Each (BornBelow n) s.objects → Each (BornBelow (number_from n log)) (state_from n s log).objects
 born-from n s [] b = b
 born-from n s (i ∷ log) b = born-from (number_after n i) (effect n i s) log (born-effect n i s b)
 

@@ -25,6 +25,7 @@ use Rattle.turn_cell.specs.Turns.{Gives}
 use Rattle.turn_cell.specs.Laws.{turn_reads}
 use Rattle.shared_api.specs.Answered.{Came, CallsOn}
 use Rattle.shared_api.specs.Base.{StandsCell, base_of, server_of}
+use Rattle.shared_api.specs.Passes.{ApiOf, Known, IsOf}
 use Rattle.shared_api.specs.Turning.{Reads, Looks, Settles}
 use Rattle.shared_api.specs.declared.cell.CoreBase.{CoreBase}
 
@@ -49,7 +50,7 @@ reads meaning c v w z took later stands short given = record {
   few = few_entries w.seen short;
 }
 
-if_ok : {A E : Type 0} (P Q : A → Type 0) (r : Result A E) → ((a : A) → P a → Q a) → IfOk r P → IfOk r Q
+pub if_ok : {A E : Type 0} (P Q : A → Type 0) (r : Result A E) → ((a : A) → P a → Q a) → IfOk r P → IfOk r Q
 if_ok P Q (Ok a) f p = f a p
 if_ok P Q (Err e) f p = p
 
@@ -129,6 +130,15 @@ reads_calls {B = B} s rose v z log c D decides fails converts d t reads came tol
       comes = subst (λ (x : Told). Comes s rose [] (items v.seen) (items log) c x None) (sym told)
           (comes s rose [] (items v.seen) (items log) c D decides fails converts d None came);
     }
+
+-- a pass after its call is one of the server still
+pub is_of : {V A : Type 0} (meaning : V → Meaning) (a : ApiOf (CoreBase V)) (p q : Known (CoreBase V) A) (rose : Type 0) (stamp : List ℕ) (c : Call) (t : Told)
+    → IsOf meaning a p → q.table ≡ p.table → CallsOn (server_of meaning a.base) rose stamp p.view q.view c t → IsOf meaning a q
+is_of {V = V} meaning a p q rose stamp c t of same calls = record {
+  table = same ∙ of.table;
+  base = ap (λ (v : View (CoreBase V)). v.base) calls.turned.3 ∙ of.base;
+  legal = calls.legal;
+}
 
 -- ---- a get
 

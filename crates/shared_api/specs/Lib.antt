@@ -4,3 +4,12 @@ pub mod Places
 pub mod Faults
 pub mod Answered
 pub mod Turning
+pub mod PageTexts
+pub mod Offered
+pub mod Listing
+pub mod Migrating
+pub mod Changing
+pub mod Sealed
+pub mod Readying
+pub mod Steps
+pub mod Working

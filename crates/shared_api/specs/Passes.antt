@@ -3,6 +3,8 @@ use Rattle.std.specs.Prelude.{◌≡◌, ℕ, Some, refl}
 use Rattle.std.specs.Coded.{Coded, code_by, coded_ℕ, coded×}
 use Rattle.atomic_table.specs.Seated.{TableId, table_id_coded}
 use Rattle.kube_meta.specs.declared.limits.Limits.{Limits}
+use Rattle.api_calls.specs.Legal.{IsLegal}
+use Rattle.api_calls.specs.Meaning.{Meaning}
 use Rattle.turn_cell.specs.declared.view.View.{View}
 use Rattle.turn_cell.specs.ViewCode.{view_code}
 use Rattle.shared_api.specs.declared.cell.CoreBase.{CoreBase}
@@ -18,10 +20,11 @@ pub record ApiOf (B : Type 0) : Type 0 where
   pub table : TableId
   pub base : B
 
--- the pass was made by the server
-pub record IsOf {B A : Type 0} (a : ApiOf B) (p : Known B A) : Type 0 where
+-- the pass was made by the server, and what it has seen is a legal list
+pub record IsOf {V A : Type 0} (meaning : V → Meaning) (a : ApiOf (CoreBase V)) (p : Known (CoreBase V) A) : Type 0 where
   pub table : p.table ≡ a.table
   pub base : p.view.base ≡ Some a.base
+  pub legal : IsLegal (meaning a.base.versions) a.base.limits p.view.seen
 
 -- ---- how the logic stores them
 

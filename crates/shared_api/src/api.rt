@@ -75,7 +75,7 @@ impl<V: Versions + Drop> SharedApi<V> {
         boot: u64,
     ) -> Result<(SharedApi<V>, Pass<V>), NoMemory>
         requires { limits.chunks + limits.window_chunks < 2 ^ 32 }
-        ensures of { IfOk result (λ r. IsOf r.0 r.1) }
+        ensures of { IfOk result (λ r. IsOf V.meaning r.0 r.1) }
         ensures base { IfOk result (λ r. r.0.base ≡ record { versions = versions; limits = limits; boot = boot }) }
         ensures new { IfOk result (λ r. r.1.view ≡ opening_view r.0.base) }
         ensures tool { IfOk result (λ r. r.1.tool ≡ tool) }
@@ -102,8 +102,8 @@ impl<V: Versions + Drop> SharedApi<V> {
         from: &mut Pass<V>,
         tool: V::Tool,
     ) -> Result<Pass<V>, NoMemory>
-        requires of { IsOf self.now from.old }
-        ensures of { IsOf self.now from.new × IsOk result × IfOk result (λ p. IsOf self.now p) }
+        requires of { IsOf V.meaning self.now from.old }
+        ensures of { IsOf V.meaning self.now from.new × IsOk result × IfOk result (λ p. IsOf V.meaning self.now p) }
         ensures left { from.new ≡ record from.old { view = halved from.old.view } }
         ensures new { IfOk result (λ p. IsNew from.old.view p.view) }
         ensures tool { IfOk result (λ p. p.tool ≡ tool) }
@@ -115,8 +115,8 @@ impl<V: Versions + Drop> SharedApi<V> {
     /// Takes in another pass: what it had seen, its numbers and its share. Afterwards `into` has seen the longer of the two
     /// lists, and each is a beginning of it. The other tool is dropped. It takes no memory.
     pub fn meet(&self, into: &mut Pass<V>, from: Pass<V>)
-        requires of { IsOf self.now into.old × IsOf self.now from }
-        ensures of { IsOf self.now into.new }
+        requires of { IsOf V.meaning self.now into.old × IsOf V.meaning self.now from }
+        ensures of { IsOf V.meaning self.now into.new }
         ensures met { Meets into.old.view from.view into.new.view }
         ensures tool { into.new.tool ≡ into.old.tool }
     {

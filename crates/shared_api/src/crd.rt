@@ -34,8 +34,8 @@ impl<V: Versions + Drop> SharedApi<V> {
     /// The definition with its flags and its stored versions: 200 with its text (apiextensions.k8s.io/v1,
     /// CustomResourceDefinition). It is refused for want of memory alone.
     pub fn crd<R: Wait>(&self, rt: &R, pass: &mut Pass<V>) -> Result<Reply, Refusal>
-        requires of { IsOf self.now pass.old }
-        ensures of { IsOf self.now pass.new }
+        requires of { IsOf V.meaning self.now pass.old }
+        ensures of { IsOf V.meaning self.now pass.new }
         ensures answer { CallsOn (server_of V.meaning self.now.base) ⊥ [] pass.old.view pass.new.view crd (told result) }
         ensures tool { pass.new.tool ≡ pass.old.tool }
     {

@@ -91,8 +91,8 @@ impl<V: Versions + Drop> SharedApi<V> {
         version: &str,
         key: &Key,
     ) -> Result<Reply, Refusal>
-        requires of { IsOf self.now pass.old }
-        ensures of { IsOf self.now pass.new }
+        requires of { IsOf V.meaning self.now pass.old }
+        ensures of { IsOf V.meaning self.now pass.new }
         ensures answer { (v : ℕ) × IsPlace (V.meaning self.now.base.versions) version.now v
             × CallsOn (server_of V.meaning self.now.base) (V.Tool.faults pass.old.tool < V.Tool.faults pass.new.tool) []
             pass.old.view pass.new.view (get v key.now) (told result) }

@@ -15,14 +15,34 @@ mod served;
 // What is shown, and why it isn't.
 mod documents;
 mod given;
+mod item;
+mod page_text;
+mod prepare;
 mod refused;
+mod seal;
+mod tried;
 
 // The turns and the calls.
 mod crd;
+mod create;
+mod enter;
 mod get;
+mod give_back;
+mod group;
+mod list;
 mod look;
+mod look_migrations;
+mod look_page;
+mod migrations;
+mod moving;
 mod raw;
+mod set;
 mod settle;
+mod step;
+mod trim;
+mod worker;
+mod writing;
 
 pub use api::{Pass, SharedApi};
 pub use cell::{CoreBase, CoreCell};
+pub use step::{TurnStep, WorkFault};

@@ -56,8 +56,8 @@ impl<V: Versions + Drop> SharedApi<V> {
     /// The stored text of the object of a key, at the version at which it stands: 200 with it, or `NotFound` where no
     /// object has the key. It converts nothing.
     pub fn raw<R: Wait>(&self, rt: &R, pass: &mut Pass<V>, key: &Key) -> Result<Reply, Refusal>
-        requires of { IsOf self.now pass.old }
-        ensures of { IsOf self.now pass.new }
+        requires of { IsOf V.meaning self.now pass.old }
+        ensures of { IsOf V.meaning self.now pass.new }
         ensures answer { CallsOn (server_of V.meaning self.now.base) ⊥ [] pass.old.view pass.new.view (raw key.now) (told result) }
         ensures tool { pass.new.tool ≡ pass.old.tool }
     {

@@ -1,12 +1,13 @@
 //! Why a call has no reply.
 ghost use Rattle.std.specs.Prelude.{◌≡◌, ◌⊎◌, ◌++◌, IfOk, codes};
 ghost use Rattle.api_calls.specs.Calls.{answered};
-ghost use Rattle.api_calls.specs.Refusal.{no_memory, refusal_of, subject_of};
-ghost use Rattle.api_calls.specs.Replies.{object_subject};
+ghost use Rattle.api_calls.specs.Cause.{cause_of};
+ghost use Rattle.api_calls.specs.Refusal.{invalid, no_memory, refusal_of, subject_of};
+ghost use Rattle.api_calls.specs.Replies.{definition_subject, object_subject};
 ghost use Rattle.shared_api.specs.Answered.{decided, told};
-ghost use Rattle.shared_api.specs.Faults.{admission};
+ghost use Rattle.shared_api.specs.Faults.{admission, unread};
 
-use api_calls::{AdmitFault, ConvFault, Refusal, Reply, Subject, Versions};
+use api_calls::{AdmitFault, Cause, ConvFault, Refusal, Reply, Subject, Versions};
 use kj_value::{NoMemory, Txt};
 use std::alloc::Global;
 
@@ -85,6 +86,49 @@ pub fn not_admitted<V: Versions>(alloc: Global, versions: &V, fault: AdmitFault)
                 refusal: Refusal::NoMemory,
             },
         },
+        AdmitFault::Tool => Refused {
+            refusal: Refusal::Converter,
+        },
+        AdmitFault::NoMemory => Refused {
+            refusal: Refusal::NoMemory,
+        },
+    }
+}
+
+// The definition, by its name.
+fn definition<V: Versions>(alloc: Global, versions: &V) -> Result<Subject, NoMemory>
+    ensures { IfOk result (λ s. subject_of s ≡ definition_subject (V.meaning versions.now)) }
+{
+    let plural = versions.plural().as_str();
+    let group = versions.group().as_str();
+    let name = kind_group(alloc, plural, group)?;
+    let kind_group = Txt::of(alloc, "CustomResourceDefinition.apiextensions.k8s.io")?;
+    Ok(Subject { kind_group, name })
+}
+
+/// A rule that a field of the definition breaks, as a refusal; or want of memory.
+pub fn bad_definition<V: Versions>(alloc: Global, versions: &V, cause: Cause) -> Refused
+    ensures { (refusal_of result.refusal ≡ no_memory) ⊎ (refusal_of result.refusal ≡ invalid (definition_subject (V.meaning versions.now)) (cause_of cause)) }
+{
+    match definition(alloc, versions) {
+        Ok(subject) => Refused {
+            refusal: Refusal::Invalid { subject, cause },
+        },
+        Err(_) => Refused {
+            refusal: Refusal::NoMemory,
+        },
+    }
+}
+
+/// Why a body isn't taken for the definition, as a refusal; or want of memory.
+pub fn not_read<V: Versions>(alloc: Global, versions: &V, fault: AdmitFault) -> Refused
+    ensures { (refusal_of result.refusal ≡ no_memory) ⊎ (refusal_of result.refusal ≡ unread (V.meaning versions.now) fault) }
+{
+    match fault {
+        AdmitFault::BadRequest(why) => Refused {
+            refusal: Refusal::BadRequest { why },
+        },
+        AdmitFault::Invalid { name: _, cause } => bad_definition(alloc, versions, cause),
         AdmitFault::Tool => Refused {
             refusal: Refusal::Converter,
         },

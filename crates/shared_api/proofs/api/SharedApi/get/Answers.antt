@@ -5,7 +5,7 @@ use Rattle.shared_api.specs.Base.{server_of}
 use Rattle.shared_api.specs.Passes.{Known}
 use Rattle.shared_api.specs.Places.{IsPlace}
 use Rattle.shared_api.specs.declared.cell.CoreBase.{CoreBase}
-use Rattle.shared_api.proofs.Turns.{get_calls}
+use Rattle.shared_api.proofs.Turns.{is_of, get_calls}
 use Rattle.shared_api.proofs.api.SharedApi.get.Goals as goal
 
 pub returns-clause-answer : goal.returns-clause-answer
@@ -23,3 +23,11 @@ returns-clause-answer g c =
           k.view c.look-looked.new.pass.seat.me.0 (get c.place_of-v.result c.args.key.now) (told c.plain.result))
           c.pass.view_is calls,
     )
+
+pub returns-clause-of : goal.returns-clause-of
+unfolding returns-clause-answer
+returns-clause-of g c =
+    is_of g.V.Versions.meaning c.args.self.now c.args.pass.now
+    (record { table = c.look-looked.new.pass.seat.table_id; view = c.look-looked.new.pass.seat.me.0; tool = c.got.new.tool })
+    (g.V.Tool.Tool.faults c.args.pass.now.tool < g.V.Tool.Tool.faults c.got.new.tool) [] (get c.place_of-v.result c.args.key.now) (told c.plain.result) c.requires.of
+    (c.look-looked.ensures.own ∙ ap (λ (k : Known (CoreBase g.row.V.Denot) g.row.V-Tool.Denot). k.table) c.pass.view_is) (returns-clause-answer g c).2

@@ -1,0 +1,214 @@
+-- What a turn that copies a page comes to.
+use Rattle.std.proofs.Common.{◌≡◌, ℕ, ◌+◌, ◌-◌, ◌≤◌, ◌<◌, ◌^◌, List, [], ◌∷◌, Option, None, Some, Ok, Err, Bool, true, false, length, map, take, zero, suc, sym, subst, refl, ◌∙◌, arith}
+use Rattle.std.specs.Prelude.{Result, IfOk, IfErr, filter, not, nat_eq, nat_lt, if◌then◌else◌}
+use Rattle.kube_meta.specs.Key.{KeyView}
+use Rattle.kube_meta.specs.Page.{Page as PageOf, listed}
+use Rattle.kube_meta.specs.WindowPairs.{AllPair}
+use Rattle.kube_meta.specs.declared.limits.Limits.{Limits}
+use Rattle.api_calls.specs.Calls.{Told, answered, Failure, no_memory, converter, Fails, failure_refusal, list}
+use Rattle.api_calls.specs.Growth.{next_number-revision}
+use Rattle.api_calls.specs.Item.{Item, entry, note, items}
+use Rattle.api_calls.specs.Legal.{Each}
+use Rattle.api_calls.specs.Meaning.{Meaning}
+use Rattle.api_calls.specs.Objects.{Stored}
+use Rattle.api_calls.specs.Pages.{PageEnd, Place, page_decision, place_page}
+use Rattle.api_calls.specs.Pages as page
+use Rattle.api_calls.specs.Replies.{Answer, ListReply, Pages}
+use Rattle.api_calls.specs.Snap.{floor, page_at, snap, upto}
+use Rattle.api_calls.specs.State.{next_number, number_from, opening, revision, served, state}
+use Rattle.api_calls.specs.Versions.{IsStored}
+use Rattle.api_calls.specs.declared.flags.Flags.{Flags}
+use Rattle.api_core.specs.CoreOf.{CoreOf, StandsFor}
+use Rattle.api_core.specs.Keeps.{KeepsObject}
+use Rattle.api_core.specs.Pages.{RefusesPage, ShowsPage}
+use Rattle.api_core.specs.Prepared.{seen_item}
+use Rattle.api_core.specs.declared.page_ends.Page.{Page}
+use Rattle.api_core.specs.declared.page_ends.PageFault.{PageFault}
+use Rattle.api_core.specs.declared.seen.Seen.{Seen}
+use Rattle.turn_cell.specs.declared.view.View.{View}
+use Rattle.turn_cell.specs.declared.view.Stage.TheVariants.{Holds}
+use Rattle.turn_cell.specs.Views.{set_stage, Later}
+use Rattle.turn_cell.specs.Turns.{Gives}
+use Rattle.shared_api.specs.Answered.{Came, CallsOn}
+use Rattle.shared_api.specs.Base.{StandsCell, base_of, server_of}
+use Rattle.shared_api.specs.Listing.{IsSeen, LooksPage}
+use Rattle.shared_api.specs.Turning.{Reads}
+use Rattle.shared_api.specs.declared.cell.CoreBase.{CoreBase}
+use Rattle.shared_api.proofs.Born.{BornBelow, born-from, later}
+use Rattle.shared_api.proofs.Turns.{if_ok, reads, reads_calls}
+
+-- ---- births of the objects of a page
+
+each-take : {X : Type 0} (P : X → Type 0) (n : ℕ) (xs : List X) → Each P xs → Each P (take n xs)
+each-take P zero xs h = tt
+each-take P (suc n) [] h = tt
+each-take P (suc n) (x ∷ xs) h = (h.0, each-take P n xs h.1)
+
+each-filter : {X : Type 0} (P : X → Type 0) (f : X → Bool) (xs : List X) → Each P xs → Each P (filter f xs)
+each-filter P f [] h = tt
+each-filter P f (x ∷ xs) h = by (f x) (each-filter P f xs h.1)
+  where
+    by : (b : Bool) → Each P (filter f xs) → Each P (if b then x ∷ filter f xs else filter f xs)
+    by true more = (h.0, more)
+    by false more = more
+
+number-grows : (n : ℕ) (log : List Item) → n ≤ number_from n log
+number-grows n [] = omega arith
+number-grows n (entry e ∷ log) = let more = number-grows (n + 1) log in omega (arith, more)
+number-grows n (note x ∷ log) = number-grows n log
+
+number-upto : (n r : ℕ) (log : List Item) → number_from n (upto n r log) ≤ number_from n log
+number-upto n r [] = omega arith
+number-upto n r (entry e ∷ log) = by (nat_lt r n) (number-upto (n + 1) r log)
+  where
+    by : (b : Bool) → number_from (n + 1) (upto (n + 1) r log) ≤ number_from (n + 1) log → number_from n (if b then [] else entry e ∷ upto (n + 1) r log) ≤ number_from (n + 1) log
+    by true more = let grows = number-grows (n + 1) log in omega (arith, grows)
+    by false more = more
+number-upto n r (note x ∷ log) = number-upto n r log
+
+snap-born : (m : Meaning) (log : List Item) (r : ℕ) → Each (BornBelow (next_number log)) (snap m log r)
+snap-born m log r = later (next_number (upto 2 r log)) (next_number log) (number-upto 2 r log) (snap m log r) (born-from 2 (opening m) (upto 2 r log) tt)
+
+page-born : (m : Meaning) (log : List Item) (ns : Option (List ℕ)) (after : Option KeyView) (r limit : ℕ) → Each (BornBelow (next_number log)) (page_at m log ns after r limit).items
+page-born m log ns after r limit = by (nat_eq limit 0)
+  where
+    of_ns : List Stored
+    of_ns = listed (λ (e : Stored). e.key) ns after (snap m log r)
+
+    born : Each (BornBelow (next_number log)) of_ns
+    born = each-filter (BornBelow (next_number log)) _ (snap m log r) (snap-born m log r)
+
+    of_births : PageOf Stored → Type 0
+    of_births p = Each (BornBelow (next_number log)) p.items
+
+    by : (b : Bool) → of_births (if b then record { number = r; items = of_ns; remaining = 0 } else record { number = r; items = take limit of_ns; remaining = length of_ns - limit })
+    by true = born
+    by false = each-take (BornBelow (next_number log)) limit of_ns born
+
+-- ---- a page that is decided
+
+-- the version is served, and the objects were created before the next entry
+record IsDecided (m : Meaning) (log : List Item) (at : ℕ) (q : PageOf Stored) : Type 0 where
+  served : served (state m log).flags at ≡ true
+  born : Each (BornBelow (next_number log)) q.items
+
+same-page : (p q : PageOf Stored) → page.shown p ≡ page.shown q → p ≡ q
+same-page p q is = cc
+
+decided-page : (limits : Limits) (m : Meaning) (log : List Item) (at : ℕ) (ns : Option (List ℕ)) (limit : ℕ) (token : Option Place) (q : PageOf Stored)
+    → page_decision limits m log at ns limit token ≡ page.shown q → IsDecided m log at q
+decided-page limits m log at ns limit token q is = by (served (state m log).flags at) refl is
+  where
+    Born : PageOf Stored → Type 0
+    Born p = Each (BornBelow (next_number log)) p.items
+
+    at_token : (t : Place) (a b : Bool)
+        → (if a then page.ahead (revision log) else if b then page.expired (floor limits m log) else page.shown (page_at m log ns (Some t.key) t.number limit)) ≡ page.shown q → Born q
+    at_token t true b is = absurd (cc)
+    at_token t false true is = absurd (cc)
+    at_token t false false is = subst Born (same-page (page_at m log ns (Some t.key) t.number limit) q is) (page-born m log ns (Some t.key) t.number limit)
+
+    at_place : (t : Option Place) → place_page limits m log ns limit t ≡ page.shown q → Born q
+    at_place None is = subst Born (same-page (page_at m log ns None (revision log) limit) q is) (page-born m log ns None (revision log) limit)
+    at_place (Some t) is = at_token t (nat_lt (revision log) t.number) (nat_lt t.number (floor limits m log)) is
+
+    by : (b : Bool) → served (state m log).flags at ≡ b → (if not b then page.unserved else place_page limits m log ns limit token) ≡ page.shown q → IsDecided m log at q
+    by true may is = record { served = may; born = at_place token is }
+    by false may is = absurd (cc)
+
+are-seen : (m : Meaning) (n : ℕ) (ss : List Seen) (es : List Stored) → n ≤ 2 ^ 62 → AllPair (KeepsObject m) (map seen_item ss) es → Each (BornBelow n) es → Each (IsSeen m) ss
+are-seen m n [] [] few keeps born = tt
+are-seen m n (s ∷ ss) (e ∷ es) few keeps born = (
+  record {
+    value = keeps.0.text.value;
+    stored = subst (λ (a : ℕ). IsStored m a keeps.0.text.value s.bytes.bytes) (sym keeps.0.at) keeps.0.text.stored;
+    born = let same = keeps.0.born in let below = born.0 in omega (arith, same, below, few);
+  },
+  are-seen m n ss es few keeps.1 born.1,
+)
+are-seen m n [] (e ∷ es) few keeps born = absurd keeps
+are-seen m n (s ∷ ss) [] few keeps born = absurd keeps
+
+-- what is known of a page that is shown
+record IsKnown (m : Meaning) (at : ℕ) (p : Page) : Type 0 where
+  known : at < m.count
+  stored : Each (IsSeen m) p.items
+
+known-page : (limits : Limits) (m : Meaning) (log : List Item) (at : ℕ) (ns : Option (List ℕ)) (limit : ℕ) (token : Option Place) (p : Page)
+    → (served (state m log).flags at ≡ true → at < m.count) → revision log ≤ 2 ^ 61 → ShowsPage m p (page_decision limits m log at ns limit token) → IsKnown m at p
+known-page limits m log at ns limit token p may few shows = by (page_decision limits m log at ns limit token) refl shows
+  where
+    by : (d : PageEnd) → page_decision limits m log at ns limit token ≡ d → ShowsPage m p d → IsKnown m at p
+    by (page.shown q) is keeps =
+        let decided = decided-page limits m log at ns limit token q is in
+        let next = next_number-revision log in
+        record { known = may decided.served; stored = are-seen m (next_number log) p.items q.items (omega (arith, next, few)) keeps.records decided.born }
+    by page.unserved is keeps = absurd keeps
+    by (page.ahead n) is keeps = absurd keeps
+    by (page.expired n) is keeps = absurd keeps
+    by page.no_memory is keeps = absurd keeps
+
+-- ---- the turn
+
+if_err : {A E : Type 0} (P Q : E → Type 0) (r : Result A E) → ((e : E) → P e → Q e) → IfErr r P → IfErr r Q
+if_err P Q (Ok a) f p = p
+if_err P Q (Err e) f p = f e p
+
+-- a turn that copied a page
+pub looks_page : {V : Type 0} (meaning : V → Meaning) (c : CoreOf V) (b : CoreBase V) (v w z : View (CoreBase V)) (at : ℕ) (ns : Option (List ℕ)) (limit : ℕ) (token : Option Place)
+    (r : Result Page PageFault) (f : Flags)
+    → v.base ≡ Some (base_of c) → v.base ≡ Some b → (t : ℕ) × (w ≡ set_stage v w.seen (Holds t 0)) → Later v w.seen
+    → StandsCell meaning c w.seen → length w.seen < 2 ^ 61 → Gives w z
+    → IfOk r (λ p. (log : List Item) → StandsFor meaning c log → ShowsPage (meaning c.versions) p (page_decision c.view.limits (meaning c.versions) log at ns limit token))
+    → IfErr r (λ e. (log : List Item) → StandsFor meaning c log → RefusesPage e (page_decision c.view.limits (meaning c.versions) log at ns limit token))
+    → f ≡ c.view.flags → (served f at ≡ true → at < (meaning c.versions).count)
+    → LooksPage (server_of meaning b) v z at ns limit token r
+looks_page {V = V} meaning c b v w z at ns limit token r f based is took behind stands short given shows refuses flags may =
+    let same : base_of c ≡ b = cc (based, is) in
+    subst (λ (x : CoreBase V). LooksPage (server_of meaning x) v z at ns limit token r) same (record {
+      log = w.seen;
+      reads = turn;
+      known = if_ok showing (λ p. at < m.count) r (λ p s. (known p s).known) here;
+      stored = if_ok showing (λ p. Each (IsSeen m) p.items) r (λ p s. (known p s).stored) here;
+      shows = here;
+      refuses = if_err (λ e. (log : List Item) → StandsFor meaning c log → RefusesPage e (page_decision c.view.limits m log at ns limit token))
+          (λ e. RefusesPage e (page_decision c.view.limits m (items w.seen) at ns limit token)) r (λ e s. s (items w.seen) stands.0) refuses;
+    })
+  where
+    m : Meaning
+    m = meaning c.versions
+
+    showing : Page → Type 0
+    showing p = ShowsPage m p (page_decision c.view.limits m (items w.seen) at ns limit token)
+
+    turn : Reads (server_of meaning (base_of c)) v z w.seen
+    turn = reads meaning c v w z took behind stands short given
+
+    here : IfOk r showing
+    here = if_ok (λ p. (log : List Item) → StandsFor meaning c log → ShowsPage m p (page_decision c.view.limits m log at ns limit token)) showing r (λ p s. s (items w.seen) stands.0) shows
+
+    known : (p : Page) → showing p → IsKnown m at p
+    known p s =
+        let same_flags : f ≡ (state m (items w.seen)).flags = flags ∙ stands.0.present.flags in
+        known-page c.view.limits m (items w.seen) at ns limit token p (subst (λ (x : Flags). served x at ≡ true → at < m.count) same_flags may) turn.few s
+
+-- ---- the call
+
+list_fails : (place : ℕ) (ns : Option (List ℕ)) (limit : ℕ) (token : Option Place) (f : Failure) → Fails f (list place ns limit token) (answered (Err (failure_refusal f)))
+list_fails place ns limit token no_memory = refl
+list_fails place ns limit token converter = refl
+
+pub list_calls : {V : Type 0} (meaning : V → Meaning) (b : CoreBase V) (it : V) (boot : ℕ) (rose : Type 0) (v z : View (CoreBase V)) (place : ℕ) (ns : Option (List ℕ)) (limit : ℕ)
+    (token : Option Place) (r : Result Page PageFault) (d : Answer) (t : Told)
+    → it ≡ b.versions → boot ≡ b.boot → LooksPage (server_of meaning b) v z place ns limit token r
+    → ((e : PageEnd) → IfOk r (λ p. ShowsPage (meaning it) p e) → IfErr r (λ f. RefusesPage f e) → Came rose (λ a i. (i ≡ None) × Pages (meaning it) boot place e a) d None)
+    → t ≡ answered d
+    → CallsOn (server_of meaning b) rose [] v z (list place ns limit token) t
+list_calls {V = V} meaning b it boot rose v z place ns limit token r d t same booted looked came told =
+    let log : List Item = items looked.log in
+    let e : PageEnd = page_decision b.limits (meaning b.versions) log place ns limit token in
+    let shows = subst (λ (x : V). IfOk r (λ p. ShowsPage (meaning x) p e)) (sym same) looked.shows in
+    let here = subst (λ (n : ℕ). Came rose (λ a i. (i ≡ None) × Pages (meaning it) n place e a) d None) booted (came e shows looked.refuses) in
+    let there = subst (λ (x : V). Came rose (λ a i. (i ≡ None) × Pages (meaning x) b.boot place e a) d None) same here in
+    reads_calls (server_of meaning b) rose v z looked.log (list place ns limit token) (ListReply (meaning b.versions) b.limits b.boot log place ns limit token)
+    (λ a i h. (a, refl, h)) (list_fails place ns limit token) (λ h. tt) d t looked.reads there told
