@@ -15,6 +15,7 @@ ALLOWED_TYPES = {"object", "array", "string", "integer", "boolean"}
 PASSED_OVER = {"description", "title", "example", "externalDocs"}
 # Keywords by the type at whose nodes they may stand.
 OF_TYPE = {
+    "boolean": set(),
     "integer": {"minimum", "maximum", "format"},
     "string": {"minLength", "maxLength"},
     "array": {"minItems", "maxItems", "items"},

@@ -9,7 +9,8 @@
 //! moves all of them to the other version, `N` times, at most 256. `load SIZE N` loads a definition with its rules `N` times,
 //! `small` or as `large` as one may be. `admit BODY N` admits an object `N` times by a definition that is loaded once: `small`,
 //! or as large as an object may be: `large`, a list of Kubernetes objects, `deep`, of lists inside lists, or `wide`, of many
-//! names. With 0 for `N` these two tell how many bytes the texts or the body have. It knows nothing of what the documents mean.
+//! names. `review OBJECTS N` answers a review of `OBJECTS` small objects `N` times. With 0 for `N` these three tell how many bytes the texts,
+//! the body or the review have. It knows nothing of what the documents mean.
 #![tactic(auto)]
 
 mod admissions;
@@ -19,6 +20,7 @@ mod documents;
 mod loads;
 mod migrations;
 mod records;
+mod reviews;
 mod rounds;
 mod task;
 mod turns;
@@ -27,6 +29,7 @@ use admissions::admit_often;
 use commits::{CoreChore, drive};
 use loads::load_often;
 use records::keep;
+use reviews::answer_often;
 use rounds::{WorkFault, repeat};
 use std::alloc::Global;
 use std::env;
@@ -38,7 +41,7 @@ use turns::take_turns;
 use versions_fixture::TwoNames;
 
 const USAGE: &str =
-    "give `json BYTES N`, `wide NAMES N`, `turns THREADS N`, `store creates|puts|touches|pages RECORDS N`, `core commits|turns OBJECTS N`, `load small|large N` or `admit small|large|deep|wide N`, whole numbers below 2^32, and 1, 2, 4 or 8 threads";
+    "give `json BYTES N`, `wide NAMES N`, `turns THREADS N`, `store creates|puts|touches|pages RECORDS N`, `core commits|turns OBJECTS N`, `load small|large N`, `admit small|large|deep|wide N` or `review OBJECTS N`, whole numbers below 2^32, and 1, 2, 4 or 8 threads";
 
 const FAILED: u8 = 1;
 
@@ -88,6 +91,7 @@ fn work<R: Threads + Wait + Sync>(
         }
         Task::Load { size, rounds } => load_often(alloc, *size, *rounds),
         Task::Admit { body, rounds } => admit_often(alloc, *body, *rounds),
+        Task::Review { objects, rounds } => answer_often(alloc, *objects, *rounds),
     }
 }
 

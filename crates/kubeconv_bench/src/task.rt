@@ -45,6 +45,11 @@ pub enum Task {
         body: Body,
         rounds: u32,
     },
+    /// To answer a review of so many objects so many times.
+    Review {
+        objects: u32,
+        rounds: u32,
+    },
 }
 
 // So many threads, where there is a way to start them.
@@ -136,6 +141,10 @@ fn sized(kind: &str, size: u32, rounds: u32) -> Option<Task> {
         }),
         "turns" => Some(Task::Turns {
             threads: threaded(size)?,
+            rounds,
+        }),
+        "review" => Some(Task::Review {
+            objects: size,
             rounds,
         }),
         _ => None,

@@ -8,9 +8,9 @@ use Rattle.http_wire.specs.declared.WireFault.TheVariants.{HeadTooLong}
 use Rattle.object_talk.specs.Conversed.{Blames}
 use Rattle.object_talk.specs.declared.conversation.PipeEnd.{PipeEnd}
 use Rattle.object_talk.specs.declared.conversation.PipeEnd.TheVariants.{Closed, Closing, Torn, Refused, Spent, ReadFault, WriteFault}
-use Rattle.kubeconv_cmd.specs.Lines.{Line}
+use Rattle.kubeconv_cmd.specs.Lines.{Named}
 use Rattle.kubeconv_cmd.specs.Serving.{Start, ServesTexts, Converses, Held, IsUnheld}
-use Rattle.kubeconv_cmd.specs.Refusal.{RefusesCommandLine, RefusesSome, IsServed}
+use Rattle.kubeconv_cmd.specs.Refusal.{RefusesNamed, RefusesSome, IsServed}
 use Rattle.kubeconv_cmd.specs.Status.{status_of, pipe_status, error_line, refusal_line}
 use Rattle.kubeconv_cmd.specs.Ends.{OnRefused, OnUnread, status_at, line_at, why_text}
 use Rattle.kubeconv_cmd.specs.declared.stop.Stop.{Stop}
@@ -36,32 +36,32 @@ same_status b rs d e (inr free) = free_status free.0 d free.2.1 ∙ sym (free_st
 -- ---- what a run came to. The counts of faults of files, input and output rose where `files`, `reads` and `writes` hold
 
 -- a run of a line over told texts and a told input
-pub record Came (line : Line) (crd rules : List ℕ) (start : Start) (b : List ℕ) (before written : Option (List ℕ)) (files reads writes : Type 0) (came : Result PipeEnd Stop) : Type 0 where
+pub record Came (named : Named) (crd rules : List ℕ) (start : Start) (b : List ℕ) (before written : Option (List ℕ)) (files reads writes : Type 0) (came : Result PipeEnd Stop) : Type 0 where
   pub talk : IfOk came (Converses crd rules start b before written)
   pub blames : IfOk came (λ end. Blames end reads writes)
-  pub refused : IfErr came (λ stop. OnRefused stop (RefusesCommandLine line crd rules))
+  pub refused : IfErr came (λ stop. OnRefused stop (RefusesNamed named crd rules))
   pub unread : IfErr came (λ stop. OnUnread stop files)
 
 -- it served the line, was refused, or wanted memory
-pub talks : (line : Line) (crd rules : List ℕ) (start : Start) (b : List ℕ) (before written : Option (List ℕ)) (files reads writes : Type 0) (came : Result PipeEnd Stop) (s : ℕ)
-    → Came line crd rules start b before written files reads writes came → s ≡ status_at came → ¬ files → ¬ reads → ¬ writes
-    → ServesTexts crd rules start b before written s ⊎ (((s ≡ REFUSED) × RefusesSome line crd rules) ⊎ (s ≡ NO_MEMORY))
-talks line crd rules start b before written files reads writes (Ok Closed) s c is nf nr nw =
+pub talks : (named : Named) (crd rules : List ℕ) (start : Start) (b : List ℕ) (before written : Option (List ℕ)) (files reads writes : Type 0) (came : Result PipeEnd Stop) (s : ℕ)
+    → Came named crd rules start b before written files reads writes came → s ≡ status_at came → ¬ files → ¬ reads → ¬ writes
+    → ServesTexts crd rules start b before written s ⊎ (((s ≡ REFUSED) × RefusesSome named crd rules) ⊎ (s ≡ NO_MEMORY))
+talks named crd rules start b before written files reads writes (Ok Closed) s c is nf nr nw =
     inl (record { loaded = c.talk.loaded; loads = c.talk.loads; answered = record { end = closed; conversation = c.talk.conversed; is_status = is } })
-talks line crd rules start b before written files reads writes (Ok Closing) s c is nf nr nw =
+talks named crd rules start b before written files reads writes (Ok Closing) s c is nf nr nw =
     inl (record { loaded = c.talk.loaded; loads = c.talk.loads; answered = record { end = closing; conversation = c.talk.conversed; is_status = is } })
-talks line crd rules start b before written files reads writes (Ok (Torn held)) s c is nf nr nw =
+talks named crd rules start b before written files reads writes (Ok (Torn held)) s c is nf nr nw =
     inl (record { loaded = c.talk.loaded; loads = c.talk.loads; answered = record { end = torn held; conversation = c.talk.conversed; is_status = is } })
-talks line crd rules start b before written files reads writes (Ok (Refused f)) s c is nf nr nw =
+talks named crd rules start b before written files reads writes (Ok (Refused f)) s c is nf nr nw =
     inl (record { loaded = c.talk.loaded; loads = c.talk.loads; answered = record { end = refused f; conversation = c.talk.conversed; is_status = is } })
-talks line crd rules start b before written files reads writes (Ok Spent) s c is nf nr nw =
+talks named crd rules start b before written files reads writes (Ok Spent) s c is nf nr nw =
     inl (record { loaded = c.talk.loaded; loads = c.talk.loads; answered = record { end = spent; conversation = c.talk.conversed; is_status = is } })
-talks line crd rules start b before written files reads writes (Ok ReadFault) s c is nf nr nw = absurd (nr c.blames)
-talks line crd rules start b before written files reads writes (Ok WriteFault) s c is nf nr nw = absurd (nw c.blames)
-talks line crd rules start b before written files reads writes (Err stops.ReadFailed) s c is nf nr nw = absurd (nf c.unread)
-talks line crd rules start b before written files reads writes (Err (stops.Refused file why)) s c is nf nr nw =
+talks named crd rules start b before written files reads writes (Ok ReadFault) s c is nf nr nw = absurd (nr c.blames)
+talks named crd rules start b before written files reads writes (Ok WriteFault) s c is nf nr nw = absurd (nw c.blames)
+talks named crd rules start b before written files reads writes (Err stops.ReadFailed) s c is nf nr nw = absurd (nf c.unread)
+talks named crd rules start b before written files reads writes (Err (stops.Refused file why)) s c is nf nr nw =
     inr (inl (is, (file.now, why_text why, c.refused)))
-talks line crd rules start b before written files reads writes (Err stops.NoMemory) s c is nf nr nw = inr (inr is)
+talks named crd rules start b before written files reads writes (Err stops.NoMemory) s c is nf nr nw = inr (inr is)
 
 -- a conversation was held, or none
 pub held : (C : PipeEnd → Type 0) (U V files reads writes : Type 0) (came : Result PipeEnd Stop) (s : ℕ)
@@ -81,26 +81,26 @@ told_ends T L C (Ok end) each = each
 told_ends T L C (Err stop) each = tt
 
 -- what is served has the status of the one end of its input
-pub exactly : (line : Line) (crd rules : List ℕ) (start : Start) (b : List ℕ) (before written : Option (List ℕ)) (s : ℕ) (requests : List Request) (end : End)
+pub exactly : (named : Named) (crd rules : List ℕ) (start : Start) (b : List ℕ) (before written : Option (List ℕ)) (s : ℕ) (requests : List Request) (end : End)
     → ((budget : ℕ) (b : List ℕ) (rs qs : List Request) (d e : End) → Asks budget b rs d → Asks budget b qs e → (rs ≡ qs) × SameEnd b rs d e)
-    → ServesTexts crd rules start b before written s ⊎ (((s ≡ REFUSED) × RefusesSome line crd rules) ⊎ (s ≡ NO_MEMORY))
-    → IsServed line crd rules → Asks MOST_REQUESTS b requests end → (s ≡ status_of end) ⊎ (s ≡ NO_MEMORY)
-exactly line crd rules start b before written s requests end one (inl serves) served asks =
+    → ServesTexts crd rules start b before written s ⊎ (((s ≡ REFUSED) × RefusesSome named crd rules) ⊎ (s ≡ NO_MEMORY))
+    → IsServed named crd rules → Asks MOST_REQUESTS b requests end → (s ≡ status_of end) ⊎ (s ≡ NO_MEMORY)
+exactly named crd rules start b before written s requests end one (inl serves) served asks =
     let talk = serves.answered.conversation in
     inl (serves.answered.is_status
     ∙ same_status b talk.requests serves.answered.end end (one MOST_REQUESTS b talk.requests requests serves.answered.end end talk.asks asks).1)
-exactly line crd rules start b before written s requests end one (inr (inl bad)) served asks =
-    absurd (not_both line crd rules bad.1.0 bad.1.1 served bad.1.2)
-exactly line crd rules start b before written s requests end one (inr (inr memory)) served asks = inr memory
+exactly named crd rules start b before written s requests end one (inr (inl bad)) served asks =
+    absurd (not_both named crd rules bad.1.0 bad.1.1 served bad.1.2)
+exactly named crd rules start b before written s requests end one (inr (inr memory)) served asks = inr memory
 
 -- a line that is refused isn't served
-pub refuses : (line : Line) (crd rules name why : List ℕ) (files : Type 0) (came : Result PipeEnd Stop) (s : ℕ)
-    → OnOk came (IsServed line crd rules) → IfErr came (λ stop. OnUnread stop files) → s ≡ status_at came → ¬ files → RefusesCommandLine line crd rules name why
+pub refuses : (named : Named) (crd rules name why : List ℕ) (files : Type 0) (came : Result PipeEnd Stop) (s : ℕ)
+    → OnOk came (IsServed named crd rules) → IfErr came (λ stop. OnUnread stop files) → s ≡ status_at came → ¬ files → RefusesNamed named crd rules name why
     → (s ≡ REFUSED) ⊎ (s ≡ NO_MEMORY)
-refuses line crd rules name why files (Ok end) s served unread is nf bad = absurd (not_both line crd rules name why served bad)
-refuses line crd rules name why files (Err stops.ReadFailed) s served unread is nf bad = absurd (nf unread)
-refuses line crd rules name why files (Err (stops.Refused file because)) s served unread is nf bad = inl is
-refuses line crd rules name why files (Err stops.NoMemory) s served unread is nf bad = inr is
+refuses named crd rules name why files (Ok end) s served unread is nf bad = absurd (not_both named crd rules name why served bad)
+refuses named crd rules name why files (Err stops.ReadFailed) s served unread is nf bad = absurd (nf unread)
+refuses named crd rules name why files (Err (stops.Refused file because)) s served unread is nf bad = inl is
+refuses named crd rules name why files (Err stops.NoMemory) s served unread is nf bad = inr is
 
 -- ---- by its status
 
@@ -140,15 +140,15 @@ stopped P (Ok end) s n p is e m = absurd (not_ended end s n is e m)
 stopped P (Err stop) s n p is e m = p
 
 -- a file that is refused has its line
-pub refusal : (line : Line) (Q : Type 0) (written : List ℕ → Type 0) (told : List ℕ → List ℕ → Type 0) (came : Result PipeEnd Stop) (s : ℕ)
-    → ((crd rules : List ℕ) → told crd rules → IfErr came (λ stop. OnRefused stop (RefusesCommandLine line crd rules)))
+pub refusal : (named : Named) (Q : Type 0) (written : List ℕ → Type 0) (told : List ℕ → List ℕ → Type 0) (came : Result PipeEnd Stop) (s : ℕ)
+    → ((crd rules : List ℕ) → told crd rules → IfErr came (λ stop. OnRefused stop (RefusesNamed named crd rules)))
     → (Q → written (line_at came)) → s ≡ status_at came → s ≡ REFUSED
-    → (name : List ℕ) × (why : List ℕ) × ((crd rules : List ℕ) → told crd rules → RefusesCommandLine line crd rules name why) × (Q → written (refusal_line name why))
-refusal line Q written told (Ok end) s bad says is e = absurd (not_ended end s REFUSED is e (inl refl))
-refusal line Q written told (Err stops.ReadFailed) s bad says is e = absurd (omega (arith, is, e))
-refusal line Q written told (Err (stops.Refused file why)) s bad says is e =
+    → (name : List ℕ) × (why : List ℕ) × ((crd rules : List ℕ) → told crd rules → RefusesNamed named crd rules name why) × (Q → written (refusal_line name why))
+refusal named Q written told (Ok end) s bad says is e = absurd (not_ended end s REFUSED is e (inl refl))
+refusal named Q written told (Err stops.ReadFailed) s bad says is e = absurd (omega (arith, is, e))
+refusal named Q written told (Err (stops.Refused file why)) s bad says is e =
     (file.now, why_text why, bad, says)
-refusal line Q written told (Err stops.NoMemory) s bad says is e = absurd (omega (arith, is, e))
+refusal named Q written told (Err stops.NoMemory) s bad says is e = absurd (omega (arith, is, e))
 
 -- a status of a failed read
 pub read_failed : (C : PipeEnd → Type 0) (U V files reads writes : Type 0) (came : Result PipeEnd Stop) (s : ℕ)

@@ -3,3 +3,5 @@ pub mod Refusing
 pub mod Taking
 pub mod Serving
 pub mod Ending
+pub mod TaskEnding
+pub mod TaskLemmas

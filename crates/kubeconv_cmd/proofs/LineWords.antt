@@ -1,98 +1,201 @@
--- What the words of a line are.
-use Rattle.std.proofs.Common.{◌≡◌, ◌∙◌, ℕ, ◌<◌, ◌≤◌, List, [], ◌∷◌, ◌⊎◌, length, map, suc, get_or, inl, inr, refl, ap, sym, subst, arith}
-use Rattle.std.specs.Prelude.{codes}
+-- What words are as options, and which line they are.
+use Rattle.std.proofs.Common.{◌≡◌, ◌≢◌, ◌∙◌, ℕ, ◌<◌, ◌≤◌, List, [], ◌∷◌, ◌++◌, suc, ◌-◌, length, map, take, drop, get_or, refl, ap, sym, subst, arith, Option, Some, None}
+use Rattle.std.specs.Prelude.{codes, MatchOption}
+use Rattle.std.proofs.Math.Seq.{take-length}
+use Rattle.std.proofs.lemmas.List.{append_cancel_left}
 use Rattle.kj_value.specs.Texts.{bytes_of}
 use Rattle.kj_value.specs.declared.txt.Txt.{Txt}
-use Rattle.kubeconv_cmd.specs.Lines.{Line, built_in, from_files, IsLine, IsValue, built_in_words, file_words}
+use Rattle.kubeconv_cmd.specs.declared.words.Taken.{Taken}
+use Rattle.kubeconv_cmd.specs.declared.words.Given.{Given}
+use Rattle.kubeconv_cmd.specs.declared.words.Command.{Command}
+use Rattle.kubeconv_cmd.specs.Given.{line_of, values_in, TakesFirst, GivesOne, IsCommand}
+use Rattle.kubeconv_cmd.specs.Lines.{built_in, from_files, convert, review, Line, pipe, task, Flag, crd_flag, rules_flag, to_flag, flag_text, IsValue, Begins, apart, joined, Values, no_values, value_at, with_value, Gives, no_more, one_more, command_word, values_of, IsLine}
 
--- ---- texts, by their places
+-- ---- one option
 
-pub one_text : (ws : List Txt) (a : Txt) → length ws ≡ 1 → a ≡ get_or ws 0 a → map bytes_of ws ≡ bytes_of a ∷ []
-one_text [] a n ea = absurd (omega (arith, n))
-one_text (x ∷ []) a n ea = ap (λ (y : List ℕ). y ∷ []) (ap bytes_of (sym ea))
-one_text (x ∷ y ∷ ws) a n ea = absurd (omega (arith, n))
+-- no option's name is the front of another one's
+pub same_flag : (f g : Flag) (x y : List ℕ) → flag_text f ++ x ≡ flag_text g ++ y → (f ≡ g) × (x ≡ y)
+same_flag crd_flag crd_flag x y e = (refl, append_cancel_left (codes "--crd") x y e)
+same_flag rules_flag rules_flag x y e = (refl, append_cancel_left (codes "--rules") x y e)
+same_flag to_flag to_flag x y e = (refl, append_cancel_left (codes "--to") x y e)
+same_flag crd_flag rules_flag x y e = let third : 99 ≡ 114 = ap (λ (s : List ℕ). get_or s 2 0) e in absurd (omega (arith, third))
+same_flag crd_flag to_flag x y e = let third : 99 ≡ 116 = ap (λ (s : List ℕ). get_or s 2 0) e in absurd (omega (arith, third))
+same_flag rules_flag crd_flag x y e = let third : 114 ≡ 99 = ap (λ (s : List ℕ). get_or s 2 0) e in absurd (omega (arith, third))
+same_flag rules_flag to_flag x y e = let third : 114 ≡ 116 = ap (λ (s : List ℕ). get_or s 2 0) e in absurd (omega (arith, third))
+same_flag to_flag crd_flag x y e = let third : 116 ≡ 99 = ap (λ (s : List ℕ). get_or s 2 0) e in absurd (omega (arith, third))
+same_flag to_flag rules_flag x y e = let third : 116 ≡ 114 = ap (λ (s : List ℕ). get_or s 2 0) e in absurd (omega (arith, third))
 
-pub five_texts : (ws : List Txt) (a b c d e : Txt) → length ws ≡ 5
-    → a ≡ get_or ws 0 a → b ≡ get_or ws 1 b → c ≡ get_or ws 2 c → d ≡ get_or ws 3 d → e ≡ get_or ws 4 e
-    → map bytes_of ws ≡ bytes_of a ∷ bytes_of b ∷ bytes_of c ∷ bytes_of d ∷ bytes_of e ∷ []
-five_texts [] a b c d e n ea eb ec ed ee = absurd (omega (arith, n))
-five_texts (p ∷ []) a b c d e n ea eb ec ed ee = absurd (omega (arith, n))
-five_texts (p ∷ q ∷ []) a b c d e n ea eb ec ed ee = absurd (omega (arith, n))
-five_texts (p ∷ q ∷ r ∷ []) a b c d e n ea eb ec ed ee = absurd (omega (arith, n))
-five_texts (p ∷ q ∷ r ∷ s ∷ []) a b c d e n ea eb ec ed ee = absurd (omega (arith, n))
-five_texts (p ∷ q ∷ r ∷ s ∷ t ∷ []) a b c d e n ea eb ec ed ee = cc
-five_texts (p ∷ q ∷ r ∷ s ∷ t ∷ u ∷ ws) a b c d e n ea eb ec ed ee = absurd (omega (arith, n))
+flag_alone : (f : Flag) → flag_text f ≡ flag_text f ++ []
+flag_alone crd_flag = refl
+flag_alone rules_flag = refl
+flag_alone to_flag = refl
 
-map_length : (ws : List Txt) → length (map bytes_of ws) ≡ length ws
+-- the first word begins with the option's name
+pub front : (w : List ℕ) (ws : List (List ℕ)) (f : Flag) (v : List ℕ) (r : List (List ℕ)) → Begins (w ∷ ws) f v r
+    → (end : List ℕ) × (w ≡ flag_text f ++ end)
+front w ws f v r (apart is value) = let e : w ≡ flag_text f = cc in ([], e ∙ flag_alone f)
+front w ws f v r (joined is value) = (codes "=" ++ v, cc)
+
+pub none_begins : (f : Flag) (v : List ℕ) (r : List (List ℕ)) → Begins [] f v r → ⊥
+none_begins f v r (apart is value) = cc
+none_begins f v r (joined is value) = cc
+
+-- a word that is an option's name has its value in the next one
+pub record IsApart (f g : Flag) (ws : List (List ℕ)) (v : List ℕ) (r : List (List ℕ)) : Type 0 where
+  pub flag : f ≡ g
+  pub words : ws ≡ v ∷ r
+  pub value : IsValue v
+
+pub is_apart : (f g : Flag) (ws : List (List ℕ)) (v : List ℕ) (r : List (List ℕ)) → Begins (flag_text g ∷ ws) f v r → IsApart f g ws v r
+is_apart f g ws v r (apart is value) =
+    let e : flag_text f ≡ flag_text g = cc in
+    let p : flag_text f ++ [] ≡ flag_text g ++ [] = sym (flag_alone f) ∙ e ∙ flag_alone g in
+    record { flag = (same_flag f g [] [] p).0; words = cc; value = value }
+is_apart f g ws v r (joined is value) =
+    let d : flag_text f ++ (codes "=" ++ v) ≡ flag_text g = cc in
+    let p : flag_text f ++ (codes "=" ++ v) ≡ flag_text g ++ [] = d ∙ flag_alone g in
+    let e : codes "=" ++ v ≡ [] = (same_flag f g (codes "=" ++ v) [] p).1 in cc
+
+-- a longer one has its value behind it
+pub record IsJoined (f g : Flag) (end : List ℕ) (ws : List (List ℕ)) (v : List ℕ) (r : List (List ℕ)) : Type 0 where
+  pub flag : f ≡ g
+  pub end_is : end ≡ codes "=" ++ v
+  pub rest : ws ≡ r
+  pub value : IsValue v
+
+pub is_joined : (f g : Flag) (end : List ℕ) (ws : List (List ℕ)) (v : List ℕ) (r : List (List ℕ)) → end ≢ []
+    → Begins ((flag_text g ++ end) ∷ ws) f v r → IsJoined f g end ws v r
+is_joined f g end ws v r some (apart is value) =
+    let d : flag_text g ++ end ≡ flag_text f = cc in
+    let p : flag_text g ++ end ≡ flag_text f ++ [] = d ∙ flag_alone f in
+    absurd (some (same_flag g f end [] p).1)
+is_joined f g end ws v r some (joined is value) =
+    let p : flag_text g ++ end ≡ flag_text f ++ (codes "=" ++ v) = cc in
+    let s = same_flag g f end (codes "=" ++ v) p in
+    record { flag = sym s.0; end_is = s.1; rest = cc; value = value }
+
+-- words begin with one option
+pub record AreSame (f g : Flag) (v w : List ℕ) (r s : List (List ℕ)) : Type 0 where
+  pub flag : f ≡ g
+  pub value : v ≡ w
+  pub rest : r ≡ s
+
+pub one_option : (ws : List (List ℕ)) (f g : Flag) (v w : List ℕ) (r s : List (List ℕ)) → Begins ws f v r → Begins ws g w s → AreSame f g v w r s
+one_option ws f g v w r s (apart is value) b =
+    let a = is_apart g f (v ∷ r) w s (subst (λ (x : List (List ℕ)). Begins x g w s) is b) in
+    let e : v ∷ r ≡ w ∷ s = a.words in
+    record { flag = sym a.flag; value = cc; rest = cc }
+one_option ws f g v w r s (joined is value) b =
+    let a = is_joined g f (codes "=" ++ v) r w s (λ e. cc) (subst (λ (x : List (List ℕ)). Begins x g w s) is b) in
+    record { flag = sym a.flag; value = append_cancel_left (codes "=") v w a.end_is; rest = a.rest }
+
+-- ---- all options
+
+pub gives_rest : (ws : List (List ℕ)) (f : Flag) (v : List ℕ) (r : List (List ℕ)) (before after : Values) → Begins ws f v r
+    → Gives ws before after → (value_at f before ≡ None) × Gives r (with_value f v before) after
+gives_rest ws f v r before after b (no_more values) = absurd (none_begins f v r b)
+gives_rest ws f v r before after b (one_more words g w s first last c free gives) =
+    let same = one_option ws f g v w r s b c in
+    (rw same.flag free, rw (same.flag, same.value, same.rest) gives)
+
+-- ---- the line
+
+pub one_line : (a b : Line) → command_word a ≡ command_word b → values_of a ≡ values_of b → a ≡ b
+one_line (pipe built_in) (pipe built_in) e f =
+    refl
+one_line (pipe built_in) (pipe (from_files d s)) e f =
+    let crd_is : None ≡ Some d = ap (λ (v : Values). v.crd) f in
+    let rules_is : None ≡ Some s = ap (λ (v : Values). v.rules) f in
+    cc
+one_line (pipe built_in) (task d s (convert w)) e f = let first : 112 ≡ 99 = ap (λ (s : List ℕ). get_or s 0 0) e in absurd (omega (arith, first))
+one_line (pipe built_in) (task d s review) e f = let first : 112 ≡ 114 = ap (λ (s : List ℕ). get_or s 0 0) e in absurd (omega (arith, first))
+one_line (pipe (from_files c r)) (pipe built_in) e f =
+    let crd_is : Some c ≡ None = ap (λ (v : Values). v.crd) f in
+    let rules_is : Some r ≡ None = ap (λ (v : Values). v.rules) f in
+    cc
+one_line (pipe (from_files c r)) (pipe (from_files d s)) e f =
+    let crd_is : Some c ≡ Some d = ap (λ (v : Values). v.crd) f in
+    let rules_is : Some r ≡ Some s = ap (λ (v : Values). v.rules) f in
+    cc
+one_line (pipe (from_files c r)) (task d s (convert w)) e f = let first : 112 ≡ 99 = ap (λ (s : List ℕ). get_or s 0 0) e in absurd (omega (arith, first))
+one_line (pipe (from_files c r)) (task d s review) e f = let first : 112 ≡ 114 = ap (λ (s : List ℕ). get_or s 0 0) e in absurd (omega (arith, first))
+one_line (task c r (convert v)) (pipe built_in) e f = let first : 99 ≡ 112 = ap (λ (s : List ℕ). get_or s 0 0) e in absurd (omega (arith, first))
+one_line (task c r (convert v)) (pipe (from_files d s)) e f = let first : 99 ≡ 112 = ap (λ (s : List ℕ). get_or s 0 0) e in absurd (omega (arith, first))
+one_line (task c r (convert v)) (task d s (convert w)) e f =
+    let crd_is : Some c ≡ Some d = ap (λ (v : Values). v.crd) f in
+    let rules_is : Some r ≡ Some s = ap (λ (v : Values). v.rules) f in
+    let to_is : Some v ≡ Some w = ap (λ (v : Values). v.to) f in
+    cc
+one_line (task c r (convert v)) (task d s review) e f = let first : 99 ≡ 114 = ap (λ (s : List ℕ). get_or s 0 0) e in absurd (omega (arith, first))
+one_line (task c r review) (pipe built_in) e f = let first : 114 ≡ 112 = ap (λ (s : List ℕ). get_or s 0 0) e in absurd (omega (arith, first))
+one_line (task c r review) (pipe (from_files d s)) e f = let first : 114 ≡ 112 = ap (λ (s : List ℕ). get_or s 0 0) e in absurd (omega (arith, first))
+one_line (task c r review) (task d s (convert w)) e f = let first : 114 ≡ 99 = ap (λ (s : List ℕ). get_or s 0 0) e in absurd (omega (arith, first))
+one_line (task c r review) (task d s review) e f =
+    let crd_is : Some c ≡ Some d = ap (λ (v : Values). v.crd) f in
+    let rules_is : Some r ≡ Some s = ap (λ (v : Values). v.rules) f in
+    cc
+
+-- ---- words in memory
+
+pub map_length : (ws : List Txt) → length (map bytes_of ws) ≡ length ws
 map_length [] = refl
 map_length (x ∷ ws) = ap (λ n. suc n) (map_length ws)
 
-pub length_of : (words : List (List ℕ)) (ws : List Txt) → map bytes_of ws ≡ words → length words ≡ length ws
-length_of words ws is = ap length (sym is) ∙ map_length ws
+-- nothing stands behind the name
+pub no_end : (f : Flag) (end : List ℕ) (ws : List (List ℕ)) (o : Option Taken) → length end ≡ 0 → TakesFirst (flag_text f ∷ ws) o → TakesFirst ((flag_text f ++ end) ∷ ws) o
+no_end f [] ws o n first = subst (λ (x : List ℕ). TakesFirst (x ∷ ws) o) (flag_alone f) first
+no_end f (b ∷ bs) ws o n first = absurd (omega (arith, n))
 
-pub one_word : (words : List (List ℕ)) (ws : List Txt) (a : Txt) (p : List ℕ) → map bytes_of ws ≡ words → length ws ≡ 1
-    → a ≡ get_or ws 0 a → p ≡ bytes_of a → words ≡ p ∷ []
-one_word words ws a p is n ea ep = sym is ∙ one_text ws a n ea ∙ ap (λ (x : List ℕ). x ∷ []) (sym ep)
+pub first_word : (ws : List Txt) (first : Txt) (w : List ℕ) → 1 ≤ length ws → first ≡ get_or ws 0 first → w ≡ bytes_of first → map bytes_of ws ≡ w ∷ map bytes_of (take (length ws - 1) (drop 1 ws))
+first_word [] first w n is spelled = absurd (omega (arith, n))
+first_word (x ∷ ws) first w n is spelled =
+    let k : length (x ∷ ws) - 1 ≡ length ws = omega arith in
+    let t : take (length (x ∷ ws) - 1) ws ≡ ws = ap (λ (i : ℕ). take i ws) k ∙ take-length ws in
+    let h : bytes_of x ≡ w = ap bytes_of (sym is) ∙ sym spelled in
+    ap (λ (b : List ℕ). b ∷ map bytes_of ws) h ∙ ap (λ (y : List Txt). w ∷ map bytes_of y) (sym t)
 
-pub five_words : (words : List (List ℕ)) (ws : List Txt) (a b c d e : Txt) (p q r s t : List ℕ) → map bytes_of ws ≡ words → length ws ≡ 5
-    → a ≡ get_or ws 0 a → b ≡ get_or ws 1 b → c ≡ get_or ws 2 c → d ≡ get_or ws 3 d → e ≡ get_or ws 4 e
-    → p ≡ bytes_of a → q ≡ bytes_of b → r ≡ bytes_of c → s ≡ bytes_of d → t ≡ bytes_of e
-    → words ≡ p ∷ q ∷ r ∷ s ∷ t ∷ []
-five_words words ws a b c d e p q r s t is n ea eb ec ed ee ep eq er es et =
-    let texts = five_texts ws a b c d e n ea eb ec ed ee in
-    rw (ep, eq, er, es, et) (sym is ∙ texts)
+-- the first word begins with no option's name
+pub no_flag : (w : List ℕ) (ws all : List (List ℕ)) → all ≡ w ∷ ws → ((f : Flag) (end : List ℕ) → w ≢ flag_text f ++ end)
+    → (f : Flag) (v : List ℕ) (r : List (List ℕ)) → Begins all f v r → ⊥
+no_flag w ws all is none f v r begins =
+    let e = front w ws f v r (subst (λ (x : List (List ℕ)). Begins x f v r) is begins) in
+    none f e.0 e.1
 
--- ---- words, by their line
+pub no_words : (ws : List Txt) (values : Values) → length ws < 1 → Gives (map bytes_of ws) values values
+no_words [] values n = no_more values
+no_words (x ∷ ws) values n = absurd (omega (arith, n))
 
--- five words that name files are a line
-pub file_line : (words : List (List ℕ)) (a b c d e : List ℕ) → words ≡ a ∷ b ∷ c ∷ d ∷ e ∷ []
-    → a ≡ codes "pipe" → b ≡ codes "--crd" → IsValue c → d ≡ codes "--rules" → IsValue e → IsLine words (from_files c e)
-unfolding IsLine
-file_line words a b c d e is ea eb vc ed ve =
-    let same : a ∷ b ∷ c ∷ d ∷ e ∷ [] ≡ file_words c e = cc in (is ∙ same, vc, ve)
+pub none_given : (ws : List (List ℕ)) (before after : Values) → 1 ≤ length ws → ((f : Flag) (v : List ℕ) (r : List (List ℕ)) → Begins ws f v r → ⊥)
+    → Gives ws before after → ⊥
+none_given ws before after n none (no_more values) = omega (arith, n)
+none_given ws before after n none (one_more words f v r first last begins free gives) = none f v r begins
 
--- no other number of words is a line's
-pub neither : (n : ℕ) → (n ≡ 1) ⊎ (n ≡ 5) → (n ≡ 1 → ⊥) → (n ≡ 5 → ⊥) → ⊥
-neither n (inl is) one five = one is
-neither n (inr is) one five = five is
+pub gives_more : (ws : List (List ℕ)) (f : Flag) (v : List ℕ) (r : List (List ℕ)) (before more : Values) (o : Option Given) → Begins ws f v r
+    → value_at f before ≡ None → more ≡ with_value f v before → GivesOne r more o → GivesOne ws before o
+gives_more ws f v r before more None begins free is gives = λ after g.
+    gives after (rw is (gives_rest ws f v r before after begins g).1)
+gives_more ws f v r before more (Some g) begins free is gives =
+    one_more ws f v r before (values_in g) begins free (subst (λ (x : Values). Gives r x (values_in g)) is gives)
 
--- one word is the first line, or none
-pub only_one : (words : List (List ℕ)) (w : List ℕ) (line : Line) → words ≡ w ∷ [] → IsLine words line
-    → (line ≡ built_in) × (w ≡ codes "pipe")
-unfolding IsLine
-only_one words w built_in is e = (refl, cc)
-only_one words w (from_files c r) is e =
-    let same : w ∷ [] ≡ file_words c r = sym is ∙ e.0 in cc
+-- a line's words are its command and its options
+pub line_found : (words : List (List ℕ)) (first : List ℕ) (rest : List (List ℕ)) (values : Values) (o : Option Command) (line : Line) → words ≡ first ∷ rest
+    → ((after : Values) → Gives rest no_values after → after ≡ values) → IsCommand first values o → IsLine words line → MatchOption o ⊥ (λ c. line ≡ line_of c)
+line_found words first rest values None line is one command l =
+    let same : first ∷ rest ≡ command_word line ∷ l.options = sym is ∙ l.command in
+    let e : first ≡ command_word line = cc in
+    let t : l.options ≡ rest = cc in
+    let g : Gives rest no_values (values_of line) = rw (sym t) l.gives in
+    command line e (sym (one (values_of line) g))
+line_found words first rest values (Some c) line is one command l =
+    let same : first ∷ rest ≡ command_word line ∷ l.options = sym is ∙ l.command in
+    let e : first ≡ command_word line = cc in
+    let t : l.options ≡ rest = cc in
+    let g : Gives rest no_values (values_of line) = rw (sym t) l.gives in
+    one_line line (line_of c) (sym e ∙ command.0) (one (values_of line) g ∙ command.1)
 
--- five words are the other, or none
-pub record AreFive (words : List (List ℕ)) (a b c d e : List ℕ) (line : Line) : Type 0 where
-  pub is : line ≡ from_files c e
-  pub pipe : a ≡ codes "pipe"
-  pub first : b ≡ codes "--crd"
-  pub crd : IsValue c
-  pub second : d ≡ codes "--rules"
-  pub rules : IsValue e
-
-pub only_five : (words : List (List ℕ)) (a b c d e : List ℕ) (line : Line) → words ≡ a ∷ b ∷ c ∷ d ∷ e ∷ [] → IsLine words line
-    → AreFive words a b c d e line
-unfolding IsLine
-only_five words a b c d e built_in is h =
-    let same : a ∷ b ∷ c ∷ d ∷ e ∷ [] ≡ built_in_words = sym is ∙ h in cc
-only_five words a b c d e (from_files f r) is h =
-    let same : a ∷ b ∷ c ∷ d ∷ e ∷ [] ≡ file_words f r = sym is ∙ h.0 in
-    let ec : c ≡ f = cc in
-    let ee : e ≡ r = cc in
-    record {
-      is = cc;
-      pipe = cc;
-      first = cc;
-      crd = subst (λ (x : List ℕ). IsValue x) (sym ec) h.1;
-      second = cc;
-      rules = subst (λ (x : List ℕ). IsValue x) (sym ee) h.2;
-    }
-
--- a line has one word or five
-pub line_length : (words : List (List ℕ)) (line : Line) → IsLine words line → (length words ≡ 1) ⊎ (length words ≡ 5)
-unfolding IsLine
-line_length words built_in h = inl (ap length h)
-line_length words (from_files c r) h = inr (ap length h.0)
+-- words give one end
+pub one_end : (ws : List (List ℕ)) (before one other : Values) → Gives ws before one → Gives ws before other → other ≡ one
+one_end ws before one other (no_more values) (no_more others) = refl
+one_end ws before one other (no_more values) (one_more words f v r first last begins free gives) = absurd (none_begins f v r begins)
+one_end ws before one other (one_more words f v r first last begins free gives) g =
+    one_end r (with_value f v before) one other gives (gives_rest ws f v r before other begins g).1

@@ -10,18 +10,17 @@ use Rattle.kj_value.specs.declared.reading.JsonFault.TheVariants.{NotJson, TooDe
 use Rattle.kj_value.specs.declared.reading.TheConstants.{MAX_JSON_LEVELS}
 use Rattle.edge_io.specs.declared.files.TheConstants.{MOST_FILE_BYTES}
 use Rattle.crd_reading.specs.View.{DefinitionView}
-use Rattle.crd_reading.specs.Refusal.{Refusal}
 use Rattle.crd_reading.specs.First.{first_refusal}
 use Rattle.crd_reading.specs.Spelled.{definition_read}
 use Rattle.crd_loading.specs.Words.{read_word}
 use Rattle.crd_loading.specs.Blame.{Blame, of_definition}
 use Rattle.crd_loading.specs.Fits.{rules_blame}
 use Rattle.crd_loading.specs.View.{LoadedView}
-use Rattle.crd_loading.specs.Load.{IsUnread, Defines, IsNoDefinition, LoadsRules, AreNoRules, Loads, RefusesDefinition, RefusesRules}
+use Rattle.crd_loading.specs.Load.{IsUnread, Defines, LoadsRules, AreNoRules, Loads, RefusesDefinition, RefusesRules}
 use Rattle.crd_loading.specs.declared.loading.Which.{Which}
 use Rattle.crd_loading.specs.declared.loading.Which.TheVariants.{Crd, Rules}
-use Rattle.kubeconv_cmd.specs.Lines.{Line, built_in, from_files}
-use Rattle.kubeconv_cmd.specs.Refusal.{IsUnfit, IsFirstRefused, RefusesCommandLine, RefusesSome, IsServed}
+use Rattle.kubeconv_cmd.specs.Lines.{Named, built_in, from_files}
+use Rattle.kubeconv_cmd.specs.Refusal.{IsUnfit, IsFirstRefused, RefusesNamed, IsServed}
 
 -- ---- bytes that are read
 
@@ -89,7 +88,7 @@ never crd rules l Crd why c r a (inr bad) = never_refused crd a.definition bad.b
 never crd rules l Rules why c r a (inr bad) = never_no_rules crd rules l bad.blame a bad.refused
 
 -- a line that is served isn't refused
-pub not_both : (line : Line) (crd rules name why : List ℕ) → IsServed line crd rules → RefusesCommandLine line crd rules name why → ⊥
+pub not_both : (named : Named) (crd rules name why : List ℕ) → IsServed named crd rules → RefusesNamed named crd rules name why → ⊥
 not_both built_in crd rules name why served bad = bad
 not_both (from_files c r) crd rules name why served bad =
     never crd rules served.2 bad.0 why served.0 served.1 served.3 bad.2

@@ -1,5 +1,5 @@
 -- Conversations with a server that was opened for a definition.
-use Rattle.std.proofs.Common.{◌≡◌, ◌∙◌, ℕ, List, [], Option, Some, None, Result, Ok, Err, refl, ap, subst}
+use Rattle.std.proofs.Common.{◌≡◌, ◌∙◌, ℕ, List, [], Option, Some, Result, Ok, Err, ap, subst}
 use Rattle.std.specs.Prelude.{IfOk}
 use Rattle.kj_value.specs.declared.error.NoMemory.{NoMemory}
 use Rattle.std.specs.Io.KnownBytes.{prepend_known}
@@ -14,7 +14,6 @@ use Rattle.crd_loading.specs.Set.{set_of}
 use Rattle.http_wire.specs.Inboxes.{Held}
 use Rattle.http_wire.specs.declared.limits.TheConstants.{MOST_REQUESTS}
 use Rattle.object_server.specs.View.{base_of as server_base}
-use Rattle.object_talk.specs.Answering.{ConversationBase}
 use Rattle.object_talk.specs.Conversed.{Conversed}
 use Rattle.object_talk.specs.declared.conversation.PipeEnd.{PipeEnd}
 use Rattle.kubeconv_cmd.specs.Serving.{Start, Converses, base_of, meaning_of}

@@ -1,5 +1,5 @@
 -- What is read of files, and what is refused of them.
-use Rattle.std.proofs.Common.{◌≡◌, ◌⊎◌, ℕ, List, Result, Ok, Err, inl, inr, subst}
+use Rattle.std.proofs.Common.{◌≡◌, ℕ, List, Result, Ok, Err, inl, inr, subst}
 use Rattle.std.specs.Prelude.{IfOk, IfErr, OnOk}
 use Rattle.kj_value.specs.declared.txt.Txt.{Txt}
 use Rattle.crd_loading.specs.Blame.{Blame, blame}

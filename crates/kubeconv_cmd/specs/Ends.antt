@@ -1,20 +1,13 @@
 -- For private clauses: what the code's own types stand for.
-use Rattle.std.specs.Prelude.{◌≡◌, ◌++◌, ℕ, List, codes, Result, Ok, Err}
+use Rattle.std.specs.Prelude.{ℕ, List, codes, Result, Ok, Err}
 use Rattle.object_talk.specs.declared.conversation.PipeEnd.{PipeEnd}
-use Rattle.kubeconv_cmd.specs.declared.words.Command.{Command}
-use Rattle.kubeconv_cmd.specs.declared.words.Command.TheVariants.{BuiltIn, FromFiles}
 use Rattle.kubeconv_cmd.specs.declared.stop.Why.{Why}
 use Rattle.kubeconv_cmd.specs.declared.stop.Why.TheVariants as whys
 use Rattle.kubeconv_cmd.specs.declared.stop.Stop.{Stop}
 use Rattle.kubeconv_cmd.specs.declared.stop.Stop.TheVariants as stops
 use Rattle.kubeconv_cmd.specs.declared.status.TheConstants.{REFUSED, READ_FAILED, NO_MEMORY}
-use Rattle.kubeconv_cmd.specs.Lines.{Line, built_in, from_files}
 use Rattle.kubeconv_cmd.specs.Status.{pipe_status, error_line, refusal_line}
-use Rattle.kubeconv_cmd.specs.Refusal.{blame_text, IsUnfit, RefusesCommandLine}
-
-abbrev pub line_of : Command → Line
-line_of BuiltIn = built_in
-line_of (FromFiles crd rules) = from_files crd.now rules.now
+use Rattle.kubeconv_cmd.specs.Refusal.{blame_text}
 
 -- why a file is refused, as the error line says it
 abbrev pub why_text : Why → List ℕ

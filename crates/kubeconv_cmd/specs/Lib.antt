@@ -1,5 +1,8 @@
 pub mod Lines
+pub mod Tasks
 pub mod Serving
 pub mod Status
 pub mod Refusal
+pub mod Given
 pub mod Ends
+pub mod Halts

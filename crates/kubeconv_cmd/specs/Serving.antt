@@ -15,7 +15,9 @@ use Rattle.object_talk.specs.Talk.{Conversation}
 use Rattle.object_talk.specs.Conversed.{Blames, Conversed}
 use Rattle.object_talk.specs.declared.conversation.PipeEnd.{PipeEnd}
 use Rattle.kubeconv_cmd.specs.Status.{status_of, pipe_status}
-use Rattle.kubeconv_cmd.specs.declared.status.TheConstants.{REFUSED, READ_FAILED, NO_MEMORY}
+use Rattle.kubeconv_cmd.specs.Lines.{Task, Line, pipe, task}
+use Rattle.kubeconv_cmd.specs.Tasks.{AnswersTexts, RefusesTexts, Wrote}
+use Rattle.kubeconv_cmd.specs.declared.status.TheConstants.{DONE, BAD_INPUT, REFUSED, READ_FAILED, NO_MEMORY}
 
 -- the number of the server's start, and the one stamp of the clock where the clock tells it
 pub record Start : Type 0 where
@@ -62,3 +64,16 @@ pub record Held (converses : PipeEnd → Type 0) (reads writes : Type 0) (status
 -- no conversation was held: a file is refused, memory is wanted, or a file can't be read, which has a cause
 abbrev pub IsUnheld : Type 0 → ℕ → Type 0
 IsUnheld files status = (status ≡ REFUSED) ⊎ ((status ≡ NO_MEMORY) ⊎ ((status ≡ READ_FAILED) × files))
+
+-- ---- a run of a line
+
+-- A line of one document wrote the text that is written of the input, or the input is refused and nothing was written.
+pub data RanTask (crd rules : List ℕ) (t : Task) (input : List ℕ) (before written : Option (List ℕ)) (status : ℕ) : Type 0 where
+  answered : status ≡ DONE → Wrote (AnswersTexts crd rules t input) before written → RanTask crd rules t input before written status
+  refused : (why : List ℕ) → status ≡ BAD_INPUT → RefusesTexts crd rules t input why → written ≡ before → RanTask crd rules t input before written status
+
+-- What a line with the definition of these texts does with an input, where nothing fails: what is written behind what was, and
+-- the status.
+abbrev pub Ran : Line → List ℕ → List ℕ → Start → List ℕ → Option (List ℕ) → Option (List ℕ) → ℕ → Type 0
+Ran (pipe named) crd rules start input before written status = ServesTexts crd rules start input before written status
+Ran (task c r t) crd rules start input before written status = RanTask crd rules t input before written status

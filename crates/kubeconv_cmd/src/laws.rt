@@ -12,8 +12,9 @@ ghost use Rattle.rule_reading.specs.declared.rules.TheConstants.{MAX_RULES as mo
 ghost use Rattle.kept_entries.specs.declared.reading.TheConstants.{KEPT_LEVELS as most_kept_levels};
 ghost use Rattle.crd_meaning.specs.declared.limits.TheConstants.{MAX_MEASURE as most_measure};
 
+use crate::input::MOST_INPUT_BYTES;
 use crate::status::{
-    BAD_WORDS, CUT, DONE, NO_MEMORY, READ_FAILED, REFUSED, TOO_MANY, WRITE_FAILED,
+    BAD_INPUT, BAD_WORDS, CUT, DONE, NO_MEMORY, READ_FAILED, REFUSED, TOO_MANY, WRITE_FAILED,
 };
 
 /// The statuses.
@@ -21,6 +22,7 @@ pub fn statuses()
     ensures done { DONE ≡ 0 }
     ensures bad_words { BAD_WORDS ≡ 2 }
     ensures refused { REFUSED ≡ 3 }
+    ensures bad_input { BAD_INPUT ≡ 4 }
     ensures read_failed { READ_FAILED ≡ 5 }
     ensures write_failed { WRITE_FAILED ≡ 6 }
     ensures no_memory { NO_MEMORY ≡ 7 }
@@ -37,5 +39,6 @@ pub fn bounds()
     ensures levels { (most_document_levels ≡ 100) × (most_object_levels ≡ 64) × (most_kept_levels ≡ 66) }
     ensures measure { most_measure ≡ 262_144 }
     ensures labels { most_label_bytes ≡ 63 }
+    ensures documents { MOST_INPUT_BYTES ≡ 4_194_304 }
     ensures finalizers { (most_finalizers ≡ 64) × (most_finalizer_bytes ≡ 317) }
 {}

@@ -1,21 +1,36 @@
 //! The program as a function: words, files, streams and a clock in, a status out.
 //!
-//! The crate's one contract is that of `run`: what was written is what a one-thread server of the definition answers to the
-//! requests that the input spells, and the status is that of the input's end; or a file is refused, and the error line says
+//! The crate's one contract is that of `run`: of `pipe` what was written is what a one-thread server of the definition answers to
+//! the requests that the input spells, and the status is that of the input's end; of `convert` and `review` it is the one line that
+//! the definition makes of the input, or the error line says why there is none; or a file is refused, and the error line says
 //! where and why. It knows nothing of how definitions are loaded, of how requests are read from bytes, of what they are
-//! answered, nor of where files and streams come from.
+//! answered, of how documents are converted and reviews answered, nor of where files and streams come from.
 #![tactic(auto)]
 
 pub mod laws;
+
+// The words, and the definition that they name.
 mod loading;
-mod pipe;
-mod status;
 mod stop;
-mod top;
 mod words;
 
+// The work of `pipe`.
+mod pipe;
+mod pipe_line;
+
+// The work of `convert` and `review`.
+mod halt;
+mod input;
+mod task_line;
+mod tasks;
+
+// The statuses, and the top call.
+mod status;
+mod top;
+
+pub use input::MOST_INPUT_BYTES;
 pub use status::{
-    BAD_WORDS, CUT, DONE, NO_MEMORY, READ_FAILED, REFUSED, TOO_MANY, WRITE_FAILED, ended,
+    BAD_INPUT, BAD_WORDS, CUT, DONE, NO_MEMORY, READ_FAILED, REFUSED, TOO_MANY, WRITE_FAILED, ended,
 };
 pub use top::run;
 pub use words::Words;

@@ -7,11 +7,12 @@ ghost use Rattle.crd_loading.specs.Set.{set_of};
 ghost use Rattle.crd_versions.specs.Set.{definition_of};
 ghost use Rattle.built_in.specs.Texts.{definition_text, rules_text};
 ghost use Rattle.kubeconv_cmd.specs.Lines.{Texts};
-ghost use Rattle.kubeconv_cmd.specs.Refusal.{IsText, IsUnfit, IsFirstRefused, IsServed, DontLoad, RefusesCommandLine, file_of};
-ghost use Rattle.kubeconv_cmd.specs.Ends.{line_of, OnRefused, OnUnread};
+ghost use Rattle.kubeconv_cmd.specs.Refusal.{IsText, IsUnfit, IsFirstRefused, IsServed, DontLoad, RefusesNamed, file_of};
+ghost use Rattle.kubeconv_cmd.specs.Given.{named_of};
+ghost use Rattle.kubeconv_cmd.specs.Ends.{OnRefused, OnUnread};
 
 use crate::stop::{Stop, Why};
-use crate::words::Command;
+use crate::words::Named;
 use built_in::accepted;
 use crd_versions::{LoadFault, VersionSet, Which, load};
 use edge_io::{FileFault, Files};
@@ -110,8 +111,8 @@ fn load_texts<'a>(
     }
 }
 
-// The definition that two files are. The definition's file is read first, and both are read before either is loaded.
-fn load_files<'a, F: Files>(
+/// The definition that two files are. The definition's file is read first, and both are read before either is loaded.
+pub(crate) fn load_files<'a, F: Files>(
     alloc: Global,
     files: &mut F,
     crd: &'a str,
@@ -131,26 +132,26 @@ fn load_files<'a, F: Files>(
     load_texts(alloc, crd, crd_text.as_str(), rules, rules_text.as_str())
 }
 
-/// The definition that a line serves, or why it serves none.
-pub(crate) fn load_line<'a, F: Files>(
+/// The definition that a line names, or why there is none.
+pub(crate) fn load_named<'a, F: Files>(
     alloc: Global,
     files: &mut F,
-    command: Command<'a>,
+    named: Named<'a>,
 ) -> Result<VersionSet, Stop<'a>>
-    ensures loaded { (crd rules : List ℕ) → Texts (F.file files.old) (line_of command.entry) crd rules
+    ensures loaded { (crd rules : List ℕ) → Texts (F.file files.old) (named_of named.entry) crd rules
         → IfOk result (λ s. (l : LoadedView) × Loads crd rules l × (definition_of s ≡ set_of l)) }
-    ensures served { (crd rules : List ℕ) → Texts (F.file files.old) (line_of command.entry) crd rules
-        → OnOk result (IsServed (line_of command.entry) crd rules) }
-    ensures refused { (crd rules : List ℕ) → Texts (F.file files.old) (line_of command.entry) crd rules
-        → IfErr result (λ stop. OnRefused stop (RefusesCommandLine (line_of command.entry) crd rules)) }
+    ensures served { (crd rules : List ℕ) → Texts (F.file files.old) (named_of named.entry) crd rules
+        → OnOk result (IsServed (named_of named.entry) crd rules) }
+    ensures refused { (crd rules : List ℕ) → Texts (F.file files.old) (named_of named.entry) crd rules
+        → IfErr result (λ stop. OnRefused stop (RefusesNamed (named_of named.entry) crd rules)) }
     ensures kept { (name : List ℕ) → F.file files.new name ≡ F.file files.old name }
     ensures cause { IfErr result (λ stop. OnUnread stop (Rose (F.faults files.old) (F.faults files.new))) }
 {
-    match command {
-        Command::BuiltIn => match load_built_in(alloc) {
+    match named {
+        Named::BuiltIn => match load_built_in(alloc) {
             Ok(versions) => Ok(versions),
             Err(_) => Err(Stop::NoMemory),
         },
-        Command::FromFiles { crd, rules } => load_files(alloc, files, crd, rules),
+        Named::FromFiles { crd, rules } => load_files(alloc, files, crd, rules),
     }
 }

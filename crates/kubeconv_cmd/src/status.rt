@@ -3,15 +3,17 @@ ghost use Rattle.std.specs.Prelude.{◌≡◌, ◌++◌, Option, List, ℕ, code
 ghost use Rattle.std.specs.Io.KnownBytes.{append_known};
 ghost use Rattle.edge_io.specs.Causes.{HasCause, Rose};
 ghost use Rattle.edge_io.specs.Sends.{Sends};
-ghost use Rattle.kubeconv_cmd.specs.Status.{pipe_status, error_line as error_line_of, refusal_line};
+ghost use Rattle.kubeconv_cmd.specs.Status.{pipe_status, error_line as error_line_of, line_saying, refusal_line};
 ghost use Rattle.kubeconv_cmd.specs.Refusal.{blame_text};
 ghost use Rattle.kubeconv_cmd.specs.Ends.{line_at, status_at, why_text};
+ghost use Rattle.kubeconv_cmd.specs.Halts.{task_line, task_status};
 
+use crate::halt::Halt;
 use crate::stop::{Stop, Why};
 use edge_io::{Failed, Sink, send};
 use object_talk::PipeEnd;
 
-/// The input was read to its end between two requests, or an answered request asked for closing.
+/// Done: of `pipe` the input was read to its end between two requests, or an answered request asked for closing.
 pub const DONE: u8 = 0;
 
 /// The words aren't a line of the program.
@@ -20,13 +22,16 @@ pub const BAD_WORDS: u8 = 2;
 /// A file is too long, isn't text, or something of it is refused.
 pub const REFUSED: u8 = 3;
 
+/// The input of `convert` or `review` is too long or refused, or no version has the name that is wanted.
+pub const BAD_INPUT: u8 = 4;
+
 /// A file couldn't be read, or the input failed.
 pub const READ_FAILED: u8 = 5;
 
 /// The output failed.
 pub const WRITE_FAILED: u8 = 6;
 
-/// Memory was wanted before anything was read of the input.
+/// Memory was wanted: of `pipe` before anything was read of the input.
 pub const NO_MEMORY: u8 = 7;
 
 /// The input ended inside a request, or the head of a request was refused.
@@ -58,7 +63,7 @@ fn status_of(end: PipeEnd) -> u8
     }
 }
 
-// The line that a status but `REFUSED` puts on the error stream.
+// The line that a status but `REFUSED` and `BAD_INPUT` puts on the error stream.
 #[tactic(auto, unfolding(crate::specs::Status::error_line))]
 fn error_line(status: u8) -> &'static str
     ensures { result.now ≡ error_line_of status }
@@ -80,6 +85,25 @@ fn write_error_line<E: Sink>(errors: &mut E, status: u8) -> Result<(), Failed>
     ensures cause { HasCause (E.faults errors.old) (E.faults errors.new) result }
 {
     send(errors, error_line(status).as_bytes())?;
+    errors.flush()
+}
+
+// Writes the line that says why the input is refused.
+fn send_reason<E: Sink>(errors: &mut E, why: &[u8]) -> Result<(), Failed>
+    ensures sent { Sends (E.written errors.old) (E.written errors.new) (line_saying why.now) result }
+    ensures cause { HasCause (E.faults errors.old) (E.faults errors.new) result }
+{
+    send(errors, PROGRAM)?;
+    send(errors, why)?;
+    send(errors, LINE_END)
+}
+
+// Writes that line, and flushes.
+fn write_reason<E: Sink>(errors: &mut E, why: &str) -> Result<(), Failed>
+    ensures sent { Sends (E.written errors.old) (E.written errors.new) (line_saying why.now) result }
+    ensures cause { HasCause (E.faults errors.old) (E.faults errors.new) result }
+{
+    send_reason(errors, why.as_bytes())?;
     errors.flush()
 }
 
@@ -128,7 +152,7 @@ fn write_refusal<E: Sink>(errors: &mut E, file: &str, why: &Why) -> Result<(), F
     errors.flush()
 }
 
-/// Ends with a status but `REFUSED`, whose line is written: a run, or a program whose run can't begin, since a word of the
+/// Ends with a status but `REFUSED` and `BAD_INPUT`, whose line is written: a run, or a program whose run can't begin, since a word of the
 /// command line isn't UTF-8 (`BAD_WORDS`) or memory is wanted (`NO_MEMORY`). A failed write of that line changes nothing.
 pub fn ended<E: Sink>(errors: &mut E, status: u8) -> u8
     ensures status { result ≡ status }
@@ -164,5 +188,33 @@ pub(crate) fn tell<E: Sink>(errors: &mut E, came: Result<PipeEnd, Stop<'_>>) -> 
         Err(Stop::ReadFailed) => ended(errors, READ_FAILED),
         Err(Stop::Refused { file, why }) => refused(errors, file, &why),
         Err(Stop::NoMemory) => ended(errors, NO_MEMORY),
+    }
+}
+
+// Ends a run at an input that is refused.
+fn bad_input<E: Sink>(errors: &mut E, why: &str) -> u8
+    ensures status { result ≡ BAD_INPUT }
+    ensures line { ¬ (Rose (E.faults errors.old) (E.faults errors.new))
+        → E.written errors.new ≡ append_known (E.written errors.old) (line_saying why.now) }
+{
+    match write_reason(errors, why) {
+        Ok(()) => BAD_INPUT,
+        Err(_) => BAD_INPUT,
+    }
+}
+
+/// Ends a run by what came of its document.
+pub(crate) fn tell_task<E: Sink>(errors: &mut E, came: Result<(), Halt<'_>>) -> u8
+    ensures status { result ≡ task_status came.entry }
+    ensures line { ¬ (Rose (E.faults errors.old) (E.faults errors.new))
+        → E.written errors.new ≡ append_known (E.written errors.old) (task_line came.entry) }
+{
+    match came {
+        Ok(()) => ended(errors, DONE),
+        Err(Halt::ReadFailed) => ended(errors, READ_FAILED),
+        Err(Halt::WriteFailed) => ended(errors, WRITE_FAILED),
+        Err(Halt::File { file, why }) => refused(errors, file, &why),
+        Err(Halt::Input { why }) => bad_input(errors, why.as_str()),
+        Err(Halt::NoMemory) => ended(errors, NO_MEMORY),
     }
 }

@@ -1,21 +1,73 @@
 //! The words of the command line.
-ghost use Rattle.std.specs.Prelude.{◌≡◌, ◌↔◌, ◌∷◌, [], IfSome, IsTrue, MatchOption, codes};
-ghost use Rattle.kubeconv_cmd.specs.Lines.{Line, IsLine, IsValue, file_words};
-ghost use Rattle.kubeconv_cmd.specs.Ends.{line_of};
+ghost use Rattle.std.specs.Prelude.{◌≡◌, ◌≢◌, ◌≤◌, ◌<◌, ◌↔◌, ◌++◌, ◌∷◌, [], ℕ, List, None, IfSome, IsTrue, MatchOption, codes, map, length};
+ghost use Rattle.kj_value.specs.Texts.{bytes_of};
+ghost use Rattle.kubeconv_cmd.specs.Lines.{Line, Flag as FlagView, IsLine, IsValue, flag_text, value_at, with_value};
+ghost use Rattle.kubeconv_cmd.specs.Given.{line_of, flag_in, values_in, TakesFirst, GivesOne, IsCommand};
 
-use kj_value::TextList;
+use kj_value::{TextList, Txt};
 
 /// The words of the command line, without the program's name.
 pub type Words = TextList;
 
-/// What the words ask for: to answer the input by the definition that is built in, or by that of two files.
+/// The definition that a line names: the one that is built in, or that of two files.
 #[derive(Clone, Copy)]
-pub(crate) enum Command<'a> {
+pub(crate) enum Named<'a> {
     BuiltIn,
     FromFiles { crd: &'a str, rules: &'a str },
 }
 
-// Whether a word can be the name of a file: it isn't empty, and doesn't begin as an option does.
+/// What is done with one document: it is converted to a version, or it is a review.
+#[derive(Clone, Copy)]
+pub(crate) enum Task<'a> {
+    Convert { to: &'a str },
+    Review,
+}
+
+/// What the words ask for.
+#[derive(Clone, Copy)]
+pub(crate) enum Command<'a> {
+    /// To answer the requests of the input.
+    Pipe(Named<'a>),
+    /// To read one document, and to write one line.
+    Task {
+        crd: &'a str,
+        rules: &'a str,
+        task: Task<'a>,
+    },
+}
+
+// The name of an option.
+#[derive(Clone, Copy)]
+enum Flag {
+    Crd,
+    Rules,
+    To,
+}
+
+// An option with its value, and the words behind it.
+#[derive(Clone, Copy)]
+struct Taken<'a> {
+    flag: Flag,
+    value: &'a str,
+    rest: &'a [Txt],
+}
+
+// The options that are given.
+#[derive(Clone, Copy)]
+struct Given<'a> {
+    crd: Option<&'a str>,
+    rules: Option<&'a str>,
+    to: Option<&'a str>,
+}
+
+// Nothing is given.
+const NOTHING: Given<'static> = Given {
+    crd: None,
+    rules: None,
+    to: None,
+};
+
+// Whether a word can be a value: it isn't empty, and doesn't begin as an option does.
 fn is_value(word: &str) -> bool
     ensures { IsTrue result ↔ IsValue word.now }
 {
@@ -25,12 +77,220 @@ fn is_value(word: &str) -> bool
     }
 }
 
-// Whether five words name the files of a definition and its rules.
-fn names_files(pipe: &str, first: &str, crd: &str, second: &str, rules: &str) -> bool
-    ensures { IsTrue result
-        ↔ ((pipe.now ≡ codes "pipe") × (first.now ≡ codes "--crd") × IsValue crd.now × (second.now ≡ codes "--rules") × IsValue rules.now) }
+// What stands behind the front of a word, or `None` exactly where the word begins otherwise.
+fn behind<'a>(word: &'a str, front: &str) -> Option<&'a str>
+    ensures { MatchOption result ((end : List ℕ) → word.now ≢ front.now ++ end) (λ end. word.now ≡ front.now ++ end.now) }
 {
-    pipe == "pipe" && first == "--crd" && is_value(crd) && second == "--rules" && is_value(rules)
+    word.strip_prefix(front)
+}
+
+// The option whose name stands at the front of a word, and what stands behind the name.
+fn flag_of(word: &str) -> Option<(Flag, &str)>
+    ensures { MatchOption result ((f : FlagView) (end : List ℕ) → word.now ≢ flag_text f ++ end)
+        (λ p. word.now ≡ flag_text (flag_in p.0) ++ p.1.now) }
+{
+    match behind(word, "--crd") {
+        Some(end) => Some((Flag::Crd, end)),
+        None => match behind(word, "--rules") {
+            Some(end) => Some((Flag::Rules, end)),
+            None => match behind(word, "--to") {
+                Some(end) => Some((Flag::To, end)),
+                None => None,
+            },
+        },
+    }
+}
+
+// An option whose name is a word, with its value in the next one.
+fn apart<'a>(flag: Flag, rest: &'a [Txt]) -> Option<Taken<'a>>
+    ensures first { TakesFirst (flag_text (flag_in flag) ∷ map bytes_of rest.now) result }
+    ensures fewer { IfSome result (λ t. length t.rest.now ≤ length rest.now) }
+{
+    match rest {
+        [] => None,
+        [next, others @ ..] => {
+            let value = next.as_str();
+            if is_value(value) {
+                Some(Taken {
+                    flag,
+                    value,
+                    rest: others,
+                })
+            } else {
+                None
+            }
+        }
+    }
+}
+
+// An option whose name and value are one word, of which `end` stands behind the name.
+fn joined<'a>(flag: Flag, end: &'a str, rest: &'a [Txt]) -> Option<Taken<'a>>
+    requires { end.now ≢ [] }
+    ensures first { TakesFirst ((flag_text (flag_in flag) ++ end.now) ∷ map bytes_of rest.now) result }
+    ensures fewer { IfSome result (λ t. length t.rest.now ≤ length rest.now) }
+{
+    match behind(end, "=") {
+        Some(value) => {
+            if is_value(value) {
+                Some(Taken { flag, value, rest })
+            } else {
+                None
+            }
+        }
+        None => None,
+    }
+}
+
+// An option whose name has `end` behind it.
+fn take_value<'a>(flag: Flag, end: &'a str, rest: &'a [Txt]) -> Option<Taken<'a>>
+    ensures first { TakesFirst ((flag_text (flag_in flag) ++ end.now) ∷ map bytes_of rest.now) result }
+    ensures fewer { IfSome result (λ t. length t.rest.now ≤ length rest.now) }
+{
+    if end.len() == 0 {
+        apart(flag, rest)
+    } else {
+        joined(flag, end, rest)
+    }
+}
+
+// The option at the front of the words.
+fn take_option<'a>(words: &'a [Txt]) -> Option<Taken<'a>>
+    ensures first { TakesFirst (map bytes_of words.now) result }
+    ensures fewer { IfSome result (λ t. length t.rest.now < length words.now) }
+{
+    match words {
+        [] => None,
+        [first, rest @ ..] => match flag_of(first.as_str()) {
+            Some((flag, end)) => take_value(flag, end, rest),
+            None => None,
+        },
+    }
+}
+
+impl<'a> Given<'a> {
+    // One more option, or `None` exactly where it is given already.
+    fn with(self, flag: Flag, value: &'a str) -> Option<Given<'a>>
+        ensures { MatchOption result (value_at (flag_in flag) (values_in self.entry) ≢ None)
+            (λ g. (value_at (flag_in flag) (values_in self.entry) ≡ None) × (values_in g ≡ with_value (flag_in flag) value.now (values_in self.entry))) }
+    {
+        let Given { crd, rules, to } = self;
+        match flag {
+            Flag::Crd => match crd {
+                Some(_) => None,
+                None => Some(Given {
+                    crd: Some(value),
+                    rules,
+                    to,
+                }),
+            },
+            Flag::Rules => match rules {
+                Some(_) => None,
+                None => Some(Given {
+                    crd,
+                    rules: Some(value),
+                    to,
+                }),
+            },
+            Flag::To => match to {
+                Some(_) => None,
+                None => Some(Given {
+                    crd,
+                    rules,
+                    to: Some(value),
+                }),
+            },
+        }
+    }
+}
+
+// The options that the words are, behind those that are given. Each call fills a place, so that there are few.
+fn give<'a>(words: &'a [Txt], given: Given<'a>) -> Option<Given<'a>>
+    ensures { GivesOne (map bytes_of words.now) (values_in given.entry) result }
+{
+    match words {
+        [] => Some(given),
+        [_, ..] => match take_option(words) {
+            Some(taken) => match given.with(taken.flag, taken.value) {
+                Some(more) => give(taken.rest, more),
+                None => None,
+            },
+            None => None,
+        },
+    }
+}
+
+// The line of `pipe` with these options.
+fn pipe_of<'a>(given: Given<'a>) -> Option<Command<'a>>
+    ensures { IsCommand (codes "pipe") (values_in given.entry) result }
+{
+    match given.to {
+        Some(_) => None,
+        None => match given.crd {
+            Some(crd) => match given.rules {
+                Some(rules) => Some(Command::Pipe(Named::FromFiles { crd, rules })),
+                None => None,
+            },
+            None => match given.rules {
+                Some(_) => None,
+                None => Some(Command::Pipe(Named::BuiltIn)),
+            },
+        },
+    }
+}
+
+// The line of `convert` with these options.
+fn convert_of<'a>(given: Given<'a>) -> Option<Command<'a>>
+    ensures { IsCommand (codes "convert") (values_in given.entry) result }
+{
+    match given.to {
+        None => None,
+        Some(to) => match given.crd {
+            None => None,
+            Some(crd) => match given.rules {
+                None => None,
+                Some(rules) => Some(Command::Task {
+                    crd,
+                    rules,
+                    task: Task::Convert { to },
+                }),
+            },
+        },
+    }
+}
+
+// The line of `review` with these options.
+fn review_of<'a>(given: Given<'a>) -> Option<Command<'a>>
+    ensures { IsCommand (codes "review") (values_in given.entry) result }
+{
+    match given.to {
+        Some(_) => None,
+        None => match given.crd {
+            None => None,
+            Some(crd) => match given.rules {
+                None => None,
+                Some(rules) => Some(Command::Task {
+                    crd,
+                    rules,
+                    task: Task::Review,
+                }),
+            },
+        },
+    }
+}
+
+// The line of a command with these options.
+fn command_named<'a>(word: &str, given: Given<'a>) -> Option<Command<'a>>
+    ensures { IsCommand word.now (values_in given.entry) result }
+{
+    if word == "pipe" {
+        pipe_of(given)
+    } else if word == "convert" {
+        convert_of(given)
+    } else if word == "review" {
+        review_of(given)
+    } else {
+        None
+    }
 }
 
 /// What the words ask for, or `None` exactly where they are no line of the program. It takes no memory.
@@ -39,20 +299,10 @@ pub(crate) fn command_of(words: &Words) -> Option<Command<'_>>
     ensures only { (line : Line) → IsLine words.now line → MatchOption result ⊥ (λ c. line ≡ line_of c) }
 {
     match words.as_slice() {
-        [pipe] => {
-            if pipe.as_str() == "pipe" {
-                return Some(Command::BuiltIn);
-            }
-            None
-        }
-        [pipe, first, crd, second, rules] => {
-            let crd = crd.as_str();
-            let rules = rules.as_str();
-            if names_files(pipe.as_str(), first.as_str(), crd, second.as_str(), rules) {
-                return Some(Command::FromFiles { crd, rules });
-            }
-            None
-        }
-        _ => None,
+        [] => None,
+        [first, rest @ ..] => match give(rest, NOTHING) {
+            Some(given) => command_named(first.as_str(), given),
+            None => None,
+        },
     }
 }

@@ -1,4 +1,4 @@
-use Rattle.kubeconv_cmd.proofs.top.serve_line.Goals as goal
+use Rattle.kubeconv_cmd.proofs.pipe_line.serve_named.Goals as goal
 
 pub returns-in-Ok-serve_loaded-clause-talk : goal.returns-in-Ok-serve_loaded-clause-talk
 returns-in-Ok-serve_loaded-clause-talk g c = λ crd rules b texts left.

@@ -1,6 +1,6 @@
 use Rattle.crd_versions.specs.Set.{definition_of}
 use Rattle.kubeconv_cmd.proofs.Serving.{converses_at}
-use Rattle.kubeconv_cmd.proofs.top.serve_loaded.Goals as goal
+use Rattle.kubeconv_cmd.proofs.pipe_line.serve_loaded.Goals as goal
 
 pub returns-clause-talk : goal.returns-clause-talk
 returns-clause-talk g c = λ crd rules b l loads is left.

@@ -1,5 +1,5 @@
 use Rattle.kubeconv_cmd.proofs.Taking.{served}
-use Rattle.kubeconv_cmd.proofs.loading.load_line.Goals as goal
+use Rattle.kubeconv_cmd.proofs.loading.load_named.Goals as goal
 
 pub returns-in-FromFiles-clause-served : goal.returns-in-FromFiles-clause-served
 returns-in-FromFiles-clause-served g c = λ k r texts.

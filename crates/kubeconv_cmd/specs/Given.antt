@@ -1,0 +1,52 @@
+-- For private clauses: what the code's own types of words and options stand for.
+use Rattle.std.specs.Prelude.{◌≡◌, ℕ, List, Option, MatchOption, option_map, map}
+use Rattle.kj_value.specs.Texts.{bytes_of}
+use Rattle.kubeconv_cmd.specs.declared.words.Named.{Named as NamedCode}
+use Rattle.kubeconv_cmd.specs.declared.words.Named.TheVariants as named
+use Rattle.kubeconv_cmd.specs.declared.words.Task.{Task as TaskCode}
+use Rattle.kubeconv_cmd.specs.declared.words.Task.TheVariants as tasks
+use Rattle.kubeconv_cmd.specs.declared.words.Command.{Command}
+use Rattle.kubeconv_cmd.specs.declared.words.Command.TheVariants as commands
+use Rattle.kubeconv_cmd.specs.declared.words.Flag.{Flag as FlagCode}
+use Rattle.kubeconv_cmd.specs.declared.words.Flag.TheVariants as flags
+use Rattle.kubeconv_cmd.specs.declared.words.Taken.{Taken}
+use Rattle.kubeconv_cmd.specs.declared.words.Given.{Given}
+use Rattle.kubeconv_cmd.specs.Lines.{Named, built_in, from_files, Task, convert, review, Line, pipe, task, Flag, crd_flag, rules_flag, to_flag, Begins, Values, Gives, command_word, values_of}
+
+abbrev pub named_of : NamedCode → Named
+named_of named.BuiltIn = built_in
+named_of (named.FromFiles crd rules) = from_files crd.now rules.now
+
+abbrev pub task_of : TaskCode → Task
+task_of (tasks.Convert to) = convert to.now
+task_of tasks.Review = review
+
+abbrev pub line_of : Command → Line
+line_of (commands.Pipe n) = pipe (named_of n)
+line_of (commands.Task crd rules t) = task crd.now rules.now (task_of t)
+
+abbrev pub flag_in : FlagCode → Flag
+flag_in flags.Crd = crd_flag
+flag_in flags.Rules = rules_flag
+flag_in flags.To = to_flag
+
+abbrev pub values_in : Given → Values
+values_in g = record { crd = option_map (λ x. x.now) g.crd; rules = option_map (λ x. x.now) g.rules; to = option_map (λ x. x.now) g.to }
+
+-- the option that the words begin with, and none where nothing is told
+abbrev pub TakesFirst : List (List ℕ) → Option Taken → Type 0
+TakesFirst words o = MatchOption o
+    ((f : Flag) (value : List ℕ) (rest : List (List ℕ)) → Begins words f value rest → ⊥)
+    (λ t. Begins words (flag_in t.flag) t.value.now (map bytes_of t.rest.now))
+
+-- the options that the words are, behind those values, and none where nothing is told
+abbrev pub GivesOne : List (List ℕ) → Values → Option Given → Type 0
+GivesOne words before o = MatchOption o
+    ((after : Values) → Gives words before after → ⊥)
+    (λ g. Gives words before (values_in g))
+
+-- the line of that command with those options, and none where nothing is told
+abbrev pub IsCommand : List ℕ → Values → Option Command → Type 0
+IsCommand word values o = MatchOption o
+    ((line : Line) → word ≡ command_word line → values ≡ values_of line → ⊥)
+    (λ c. (word ≡ command_word (line_of c)) × (values ≡ values_of (line_of c)))

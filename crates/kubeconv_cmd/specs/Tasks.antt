@@ -1,0 +1,100 @@
+-- What is done with one document: the text that is written of it, or why none is.
+use Rattle.std.specs.Prelude.{◌≡◌, ◌<◌, ◌≤◌, ◌++◌, ℕ, List, Option, length, codes}
+use Rattle.std.specs.Io.KnownBytes.{append_known}
+use Rattle.edge_io.specs.Sends.{AddsSome}
+use Rattle.kj_value.specs.Json.{Json}
+use Rattle.kj_value.specs.Reading.{Reads}
+use Rattle.kj_value.specs.Rule.{rule_word}
+use Rattle.kj_value.specs.Text.{text_of}
+use Rattle.api_calls.specs.Cause.{why_word}
+use Rattle.api_calls.specs.Meaning.{Fault, bad_request, invalid}
+use Rattle.api_calls.specs.Readings.{IsFaulty}
+use Rattle.api_calls.specs.declared.versions.TheConstants.{OBJECT_LEVELS}
+use Rattle.crd_loading.specs.Load.{Loads}
+use Rattle.crd_loading.specs.Set.{set_of}
+use Rattle.crd_loading.specs.View.{LoadedView}
+use Rattle.crd_meaning.specs.Definition.{Definition, count_of, version_at}
+use Rattle.crd_meaning.specs.Converted.{IsConverted}
+use Rattle.crd_meaning.specs.Unconverted.{IsUnconverted}
+use Rattle.review_batch.specs.Answer.{IsAnswer, IsNoRequest}
+use Rattle.kubeconv_cmd.specs.Lines.{Task, convert, review}
+use Rattle.kubeconv_cmd.specs.declared.input.TheConstants.{MOST_INPUT_BYTES}
+
+-- ---- a document that is converted
+
+-- v is the version of that name
+pub record IsVersion (d : Definition) (name : List ℕ) (v : ℕ) : Type 0 where
+  pub known : v < count_of d
+  pub named : (version_at d v).name ≡ name
+
+-- the bytes are a document, and the text is that of the document of version v that is one with it
+pub record IsValueOf (d : Definition) (v : ℕ) (bytes text : List ℕ) : Type 0 where
+  pub document : Json
+  pub reads : Reads bytes OBJECT_LEVELS document
+  pub value : Json
+  pub converted : IsConverted d document v value
+  pub spelled : text ≡ text_of value
+
+-- the document has no value at version v, and that is why
+pub record IsWithout (d : Definition) (v : ℕ) (document : Json) (f : Fault) : Type 0 where
+  pub none : (value : Json) → IsConverted d document v value → ⊥
+  pub why : IsUnconverted d document f
+
+-- the words of a fault: the one that tells what kind of document it is, or the field and the rule that it breaks
+unfoldable pub fault_words : Fault → List ℕ
+fault_words (bad_request why) = why_word why
+fault_words (invalid name cause) = cause.field ++ (codes ": " ++ rule_word cause.rule)
+
+unfoldable pub too_long : List ℕ
+too_long = codes "TooLong"
+
+unfoldable pub no_version : List ℕ → List ℕ
+no_version name = codes "no version " ++ name
+
+unfoldable pub not_review : List ℕ → List ℕ
+not_review path = codes "NotReview " ++ path
+
+-- ---- by a definition
+
+-- the text that is written of the bytes
+abbrev pub Answers : Definition → Task → List ℕ → List ℕ → Type 0
+Answers d (convert name) bytes text =
+    (length bytes ≤ MOST_INPUT_BYTES) × (v : ℕ) × IsVersion d name v × IsValueOf d v bytes text
+Answers d review bytes text = (length bytes ≤ MOST_INPUT_BYTES) × IsAnswer d bytes text
+
+-- Why there is none. That there is no version of the name is told before anything is read.
+pub data Refuses (d : Definition) (bytes : List ℕ) : Task → List ℕ → Type 0 where
+  unknown : (name : List ℕ) → ((v : ℕ) → IsVersion d name v → ⊥) → Refuses d bytes (convert name) (no_version name)
+  long_document : (name : List ℕ) (v : ℕ) → IsVersion d name v → MOST_INPUT_BYTES < length bytes → Refuses d bytes (convert name) too_long
+  faulty : (name : List ℕ) (v : ℕ) (f : Fault) → IsVersion d name v → length bytes ≤ MOST_INPUT_BYTES
+      → IsFaulty bytes OBJECT_LEVELS (IsWithout d v) f → Refuses d bytes (convert name) (fault_words f)
+  long_review : MOST_INPUT_BYTES < length bytes → Refuses d bytes review too_long
+  no_review : (path : List ℕ) → length bytes ≤ MOST_INPUT_BYTES → IsNoRequest bytes path → Refuses d bytes review (not_review path)
+
+-- ---- by the definition and the rules that two texts are
+
+pub record AnswersTexts (crd rules : List ℕ) (t : Task) (bytes text : List ℕ) : Type 0 where
+  pub loaded : LoadedView
+  pub loads : Loads crd rules loaded
+  pub answers : Answers (set_of loaded) t bytes text
+
+pub record RefusesTexts (crd rules : List ℕ) (t : Task) (bytes why : List ℕ) : Type 0 where
+  pub loaded : LoadedView
+  pub loads : Loads crd rules loaded
+  pub refuses : Refuses (set_of loaded) bytes t why
+
+-- a line with its end
+abbrev pub ended_line : List ℕ → List ℕ
+ended_line text = text ++ codes "\n"
+
+-- the whole line was written
+pub record Wrote (answers : List ℕ → Type 0) (before written : Option (List ℕ)) : Type 0 where
+  pub text : List ℕ
+  pub is : answers text
+  pub wrote : written ≡ append_known before (ended_line text)
+
+-- a front of it
+pub record Broke (answers : List ℕ → Type 0) (before written : Option (List ℕ)) : Type 0 where
+  pub text : List ℕ
+  pub is : answers text
+  pub front : AddsSome before written (ended_line text)
