@@ -3,12 +3,11 @@ use Rattle.std.proofs.Common.{◌≡◌, ◌∙◌, ◌<◌, ◌^◌, ℕ, Bool,
 use Rattle.std.specs.Prelude.{◌⊎◌, if◌then◌else◌}
 use Rattle.api_calls.specs.Calls.{answered, Failure, no_memory, converter, Fails, failure_refusal, set_versions}
 use Rattle.api_calls.specs.Ends as ends
-use Rattle.api_calls.specs.Ends.{Decision}
 use Rattle.api_calls.specs.Item.{Item, entry, SetVersions, items}
 use Rattle.api_calls.specs.Legal.{IsLegal}
 use Rattle.api_calls.specs.Meaning.{Meaning, Fault}
 use Rattle.api_calls.specs.Refusal as refusal
-use Rattle.api_calls.specs.Refusal.{RefusalView, SubjectView}
+use Rattle.api_calls.specs.Refusal.{RefusalView}
 use Rattle.api_calls.specs.Replies.{Answer, IsBadBody, SetReply, code_ok, definition_subject, said, set_answer}
 use Rattle.api_calls.specs.Settings.{same_flags, set_decision}
 use Rattle.api_calls.specs.State.{State, joined, state}
@@ -26,10 +25,11 @@ use Rattle.api_core.specs.declared.ends.SetEnd.TheVariants as core
 use Rattle.turn_cell.specs.Views.{Later, set_stage}
 use Rattle.turn_cell.specs.declared.view.Stage.TheVariants.{Holds}
 use Rattle.turn_cell.specs.declared.view.View.{View}
-use Rattle.shared_api.specs.Answered.{Came, CallsOn}
+use Rattle.call_texts.specs.Told.{Came}
+use Rattle.shared_api.specs.Answered.{CallsOn}
 use Rattle.shared_api.specs.Base.{StandsCell, base_of, server_of}
-use Rattle.shared_api.specs.Changing.{Sets, is_set}
-use Rattle.shared_api.specs.Faults.{unread}
+use Rattle.shared_api.specs.ChangeTurns.{Sets, is_set}
+use Rattle.call_texts.specs.Faults.{unread}
 use Rattle.shared_api.specs.Turning.{Closes, Settles, Writes, item_if}
 use Rattle.shared_api.specs.declared.cell.CoreBase.{CoreBase}
 use Rattle.shared_api.proofs.Turns.{reads_calls}

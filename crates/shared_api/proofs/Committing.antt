@@ -23,7 +23,7 @@ use Rattle.turn_cell.specs.Views.{set_stage, Later}
 use mathlib.Core.List.{IsPrefix}
 use Rattle.api_core.specs.CoreLaws.{known-later}
 use Rattle.shared_api.specs.Base.{StandsCell, base_of, server_of}
-use Rattle.shared_api.specs.Readying.{Commits, SeenAt, creates, is_done}
+use Rattle.shared_api.specs.WriteTurns.{Commits, SeenAt, creates, is_done}
 use Rattle.shared_api.specs.Turning.{Closes, Writes, item_if}
 use Rattle.shared_api.specs.declared.cell.CoreBase.{CoreBase}
 use Rattle.shared_api.proofs.Entering.{writes}
@@ -35,7 +35,7 @@ use Rattle.shared_api.proofs.Turns.{few_entries}
 abbrev pub EntersIt : Item → Decision WriteEnd → Type 0
 EntersIt i d = d.item ≡ item_if (is_done d.answer) i
 
-choose : (P : Decision WriteEnd → Type 0) (b : Bool) (c d : Decision WriteEnd) → P c → P d → P (if b then c else d)
+pub choose : (P : Decision WriteEnd → Type 0) (b : Bool) (c d : Decision WriteEnd) → P c → P d → P (if b then c else d)
 choose P true c d p q = p
 choose P false c d p q = q
 
@@ -52,7 +52,7 @@ create-item limits n s v at k h w =
     (choose (EntersIt i) (is_some (find k s.objects)) (says present) (if_storage s at room) refl
     (choose (EntersIt i) (nat_eq at s.flags.storage) room (says (storage_moved s.flags.storage)) (with_room-item n n i (lacking limits s.objects w)) refl))
 
-at_number-item : (over : ℕ) (o : Option Stored) (next : Stored → Decision WriteEnd) (i : Item) → ((e : Stored) → EntersIt i (next e)) → EntersIt i (at_number over o next)
+pub at_number-item : (over : ℕ) (o : Option Stored) (next : Stored → Decision WriteEnd) (i : Item) → ((e : Stored) → EntersIt i (next e)) → EntersIt i (at_number over o next)
 at_number-item over None next i each = refl
 at_number-item over (Some e) next i each = choose (EntersIt i) (nat_eq e.number over) (next e) (says (newer e.number)) (each e) refl
 

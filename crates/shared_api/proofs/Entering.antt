@@ -16,7 +16,8 @@ use Rattle.turn_cell.specs.declared.view.Stage.TheVariants.{Rest, Holds}
 use Rattle.turn_cell.specs.Views.{set_stage, Later}
 use Rattle.turn_cell.specs.Turns.{Enters, Gives, Turned, StandsAfter, addition}
 use Rattle.turn_cell.specs.Laws.{stands_now, turns_join}
-use Rattle.shared_api.specs.Answered.{Came, CallsOn}
+use Rattle.call_texts.specs.Told.{Came}
+use Rattle.shared_api.specs.Answered.{CallsOn}
 use Rattle.shared_api.specs.Base.{StandsCell, base_of, server_of}
 use Rattle.shared_api.specs.Turning.{Closes, Reads, Writes}
 use Rattle.shared_api.specs.declared.cell.CoreBase.{CoreBase}

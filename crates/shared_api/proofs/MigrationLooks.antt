@@ -1,10 +1,8 @@
 -- What a turn that copies the migrations comes to, and that their targets are known versions.
-use Rattle.std.proofs.Common.{◌≡◌, ℕ, ◌<◌, ◌^◌, List, [], ◌∷◌, ◌++◌, Option, None, Some, Ok, Err, Bool, true, false, length, ap, sym, subst, refl, ◌∙◌}
-use Rattle.std.specs.Prelude.{Result, IfOk, MatchOption, nat_eq, if◌then◌else◌}
+use Rattle.std.proofs.Common.{◌≡◌, ℕ, ◌<◌, ◌^◌, List, [], ◌∷◌, ◌++◌, None, Some, Err, Bool, true, false, length, sym, subst, refl, ◌∙◌}
+use Rattle.std.specs.Prelude.{Result, IfOk, nat_eq, if◌then◌else◌}
 use Rattle.kj_value.specs.declared.error.NoMemory.{NoMemory}
-use Rattle.kj_value.specs.Text.{text_of}
-use Rattle.std.specs.Str.{bytes_eq}
-use Rattle.kube_meta.specs.Plan.{Migration, ended, named, runs}
+use Rattle.kube_meta.specs.Plan.{Migration, ended, runs}
 use Rattle.kube_meta.specs.declared.limits.Condition.{Condition}
 use Rattle.kube_meta.specs.declared.limits.Condition.TheVariants.{Running, Succeeded, Failed}
 use Rattle.kube_meta.specs.declared.limits.Limits.{Limits}
@@ -12,9 +10,7 @@ use Rattle.api_calls.specs.Calls.{Told, answered, Failure, no_memory, converter,
 use Rattle.api_calls.specs.Item.{Create, Replace, Mark, Release, Touch, Delete, SetVersions, Trim, StartMigration, MarkSucceeded, Claim, RangeDone, GiveBack, Item, entry, note, items}
 use Rattle.api_calls.specs.Legal.{guard, legal_from, legal}
 use Rattle.api_calls.specs.Meaning.{Meaning}
-use Rattle.api_calls.specs.Documents.{migration_document}
-use Rattle.api_calls.specs.Refusal as refusal
-use Rattle.api_calls.specs.Replies.{Answer, code_ok, said, MigrationReply, MigrationsReply}
+use Rattle.api_calls.specs.Replies.{Answer, MigrationReply, MigrationsReply}
 use Rattle.api_calls.specs.State.{State, effect, moved_storage, number_after, opening, state_from, state}
 use Rattle.api_calls.specs.Versions.{AreFlags}
 use Rattle.api_core.specs.CoreOf.{CoreOf}
@@ -22,11 +18,14 @@ use Rattle.turn_cell.specs.declared.view.View.{View}
 use Rattle.turn_cell.specs.declared.view.Stage.TheVariants.{Holds}
 use Rattle.turn_cell.specs.Views.{set_stage, Later}
 use Rattle.turn_cell.specs.Turns.{Gives}
-use Rattle.shared_api.specs.Answered.{Came, CallsOn}
+use Rattle.call_texts.specs.Told.{Came}
+use Rattle.shared_api.specs.Answered.{CallsOn}
 use Rattle.shared_api.specs.Base.{StandsCell, base_of, server_of}
-use Rattle.shared_api.specs.Migrating.{HaveTargets, LooksMigrations}
+use Rattle.call_texts.specs.Migrating.{HaveTargets}
+use Rattle.shared_api.specs.MigrationTurns.{LooksMigrations}
 use Rattle.shared_api.specs.declared.cell.CoreBase.{CoreBase}
-use Rattle.shared_api.proofs.Turns.{if_ok, reads, reads_calls}
+use Rattle.call_texts.proofs.IfOk.{if_ok}
+use Rattle.shared_api.proofs.Turns.{reads, reads_calls}
 
 -- ---- targets
 
@@ -72,26 +71,6 @@ known-from m limits n s (i ∷ log) l known = known-from m limits (number_after 
 
 targets-known : (m : Meaning) (limits : Limits) (log : List Item) → AreFlags m.count m.opening → legal m limits log → HaveTargets m (state m log).migrations
 targets-known m limits log opens l = (known-from m limits 2 (opening m) log l (opens, tt)).1
-
-pub named-target : (m : Meaning) (name : List ℕ) (qs : List Migration) (q : Migration) → HaveTargets m qs → named name qs ≡ Some q → q.target < m.count
-named-target m name [] q h is = absurd (cc)
-named-target m name (r ∷ qs) q h is = by (bytes_eq r.name name) is (named-target m name qs q h.1)
-  where
-    by : (b : Bool) → (if b then Some r else named name qs) ≡ Some q → (named name qs ≡ Some q → q.target < m.count) → q.target < m.count
-    by true is more = let same : r ≡ q = cc in subst (λ (x : Migration). x.target < m.count) same h.0
-    by false is more = more is
-
--- the reply that shows a migration that was found
-pub named-reply : (m : Meaning) (s : State) (name : List ℕ) (qs : List Migration) (q : Migration) (text : List ℕ) → qs ≡ s.migrations → named name qs ≡ Some q
-    → text ≡ text_of (migration_document m q) → MigrationReply m s name (Ok (record { code = 200; text = text })) None
-named-reply m s name qs q text same found spelled = (
-  refl,
-  subst (λ (o : Option Migration). MatchOption o (Reply ≡ Err (refusal.not_found name)) (λ x. Reply ≡ said code_ok (text_of (migration_document m x)))) (sym found ∙ ap (λ (xs : List Migration). named name xs) same)
-      (ap (λ (t : List ℕ). said 200 t) spelled),
-)
-  where
-    Reply : Answer
-    Reply = Ok (record { code = 200; text = text })
 
 -- ---- the turn
 

@@ -29,13 +29,16 @@ use Rattle.turn_cell.specs.declared.view.View.{View}
 use Rattle.turn_cell.specs.declared.view.Stage.TheVariants.{Holds}
 use Rattle.turn_cell.specs.Views.{set_stage, Later}
 use Rattle.turn_cell.specs.Turns.{Gives}
-use Rattle.shared_api.specs.Answered.{Came, CallsOn}
+use Rattle.call_texts.specs.Told.{Came}
+use Rattle.shared_api.specs.Answered.{CallsOn}
 use Rattle.shared_api.specs.Base.{StandsCell, base_of, server_of}
-use Rattle.shared_api.specs.Listing.{IsSeen, LooksPage}
+use Rattle.call_texts.specs.Listing.{IsSeen}
+use Rattle.shared_api.specs.PageTurns.{LooksPage}
 use Rattle.shared_api.specs.Turning.{Reads}
 use Rattle.shared_api.specs.declared.cell.CoreBase.{CoreBase}
-use Rattle.shared_api.proofs.Born.{BornBelow, born-from, later}
-use Rattle.shared_api.proofs.Turns.{if_ok, reads, reads_calls}
+use Rattle.call_texts.proofs.Born.{BornBelow, born-from, later}
+use Rattle.call_texts.proofs.IfOk.{if_ok}
+use Rattle.shared_api.proofs.Turns.{reads, reads_calls}
 
 -- ---- births of the objects of a page
 

@@ -1,16 +1,15 @@
 -- From the parts of a write to how its call comes out.
-use Rattle.std.proofs.Common.{◌≡◌, ◌⊎◌, ℕ, ◌*◌, ◌≤◌, ◌<◌, ◌+◌, ◌^◌, pos, List, Option, None, Some, Ok, Err, length, inl, inr, ap, sym, subst, refl, ◌∙◌, arith}
-use Rattle.std.specs.Prelude.{MatchBool, IsTrue, true, false, Bool}
+use Rattle.std.proofs.Common.{◌≡◌, ◌⊎◌, ℕ, ◌*◌, ◌≤◌, ◌<◌, ◌+◌, ◌^◌, List, Option, None, Ok, Err, inl, inr, ap, sym, subst, refl, ◌∙◌, arith}
+use Rattle.std.specs.Prelude.{MatchBool, true, false, Bool}
 use Rattle.std.proofs.lemmas.List.{append-nil}
 use Rattle.kube_meta.specs.Key.{KeyView}
-use Rattle.kube_meta.specs.Names.{is_name}
 use Rattle.kube_meta.specs.View.{ObjectView}
 use Rattle.api_calls.specs.Cause.{cause_of, why_of}
 use Rattle.api_calls.specs.Calls.{Server, answered, create, Failure, no_memory, converter, Fails, failure_refusal}
 use Rattle.api_calls.specs.Ends.{WriteEnd, done, kept, same, unserved, present, gone, newer, forbidden, storage_moved, full, Decision}
 use Rattle.api_calls.specs.Item.{Logged, Item, entry, Create, items}
 use Rattle.api_calls.specs.Legal.{IsLegal, key_of}
-use Rattle.api_calls.specs.Meaning.{Meaning, Request, bad_request, invalid, Weighs, stored_text}
+use Rattle.api_calls.specs.Meaning.{Meaning, Request, bad_request, invalid}
 use Rattle.api_calls.specs.Refusal.{RefusalView}
 use Rattle.api_calls.specs.Refusal as refusal
 use Rattle.api_calls.specs.Replies as reply
@@ -18,7 +17,7 @@ use Rattle.api_calls.specs.Replies.{Answer, CreateReply, IsRefusedRequest, IsSho
 use Rattle.api_calls.specs.ReplyLaws.{IsFinal, create-reply}
 use Rattle.api_calls.specs.State.{revision, served, state}
 use Rattle.api_calls.specs.Values.{created_value}
-use Rattle.api_calls.specs.Versions.{AdmitsWhole, AreStamps, IgnoresStamps, IsStamp, IsStored, Refused, Stand}
+use Rattle.api_calls.specs.Versions.{Refused}
 use Rattle.api_calls.specs.Writes.{create_commit}
 use Rattle.api_calls.specs.declared.versions.AdmitFault.{AdmitFault}
 use Rattle.api_calls.specs.declared.versions.AdmitFault.TheVariants as admits
@@ -27,25 +26,19 @@ use Rattle.api_calls.specs.declared.versions.ConvFault.TheVariants as converts
 use Rattle.api_core.specs.declared.seen.Prepared.{Prepared}
 use Rattle.turn_cell.specs.declared.view.View.{View}
 use Rattle.turn_cell.specs.Laws.{turns_join}
-use Rattle.shared_api.specs.Answered.{Came, CallsOn, decided}
-use Rattle.shared_api.specs.Faults.{admission, failed}
-use Rattle.shared_api.specs.Readying.{Commits, Created, Decided, IsFresh, Rested, Results, Tells, Tries, creates, is_done}
-use Rattle.shared_api.specs.Sealed.{Seals, opened}
+use Rattle.call_texts.specs.Told.{Came, decided}
+use Rattle.shared_api.specs.Answered.{CallsOn}
+use Rattle.call_texts.specs.Faults.{admission, failed}
+use Rattle.call_texts.specs.Readying.{Tells}
+use Rattle.shared_api.specs.WriteTurns.{Commits, Created, Decided, Rested, Results, Tries, creates, is_done}
+use Rattle.call_texts.specs.Sealed.{Seals, opened}
 use Rattle.shared_api.specs.Turning.{Reads, Writes, item_if}
-use Rattle.shared_api.specs.declared.seal.Sealed.{Sealed}
-use Rattle.shared_api.specs.declared.tried.Tried.{Tried}
-use Rattle.shared_api.specs.declared.tried.Tried.TheVariants as tried
+use Rattle.call_texts.specs.declared.seal.Sealed.{Sealed}
+use Rattle.call_texts.specs.declared.tried.Tried.{Tried}
+use Rattle.call_texts.specs.declared.tried.Tried.TheVariants as tried
 use Rattle.shared_api.proofs.Committing.{create-item}
 use Rattle.shared_api.proofs.Entering.{writes-join, writes_calls}
-
--- ---- texts
-
--- a stored text is within its value's weight, where the texts of forms are
-pub text_within : (m : Meaning) (at w n : ℕ) (h : ObjectView) (bytes : List ℕ)
-    → ((v w n : ℕ) (h x : ObjectView) → m.whole h → v < m.count → m.pair v h x → Weighs m h w → h.meta.generation ≡ pos n → length (stored_text x) ≤ 256 * w)
-    → h.meta.generation ≡ pos n → Weighs m h w → IsStored m at h bytes → length bytes ≤ 256 * w
-text_within m at w n h bytes fits counts weighs s =
-    subst (λ (b : List ℕ). length b ≤ 256 * w) (sym s.spelled) (fits at w n h s.form s.whole s.known s.pairs weighs counts)
+use Rattle.call_texts.proofs.Preparing.{failed-came}
 
 -- a seal shows the value
 pub seal-shows : (m : Meaning) (boot v number born : ℕ) (h : ObjectView) (s : Sealed) (bytes : List ℕ) → Seals m v h s → number < 2 ^ 62 → bytes ≡ opened s boot number born
@@ -85,7 +78,7 @@ results-join {B = B} s rose later v w z D a rises rested (inr f) = inr (record {
 -- ---- calls
 
 -- a decision that is told neither as want of memory nor as the converter's failure
-bound-came : (rose : Type 0) (D : Answer → Option Item → Type 0) (W : Answer → Type 0) (a : Answer) (i : Option Item) → (W (Err refusal.no_memory) → ⊥) → (W (Err refusal.converter) → ⊥)
+pub bound-came : (rose : Type 0) (D : Answer → Option Item → Type 0) (W : Answer → Type 0) (a : Answer) (i : Option Item) → (W (Err refusal.no_memory) → ⊥) → (W (Err refusal.converter) → ⊥)
     → W a → D a i → Came rose D a i
 bound-came rose D W (Ok r) i m c w h = h
 bound-came rose D W (Err (refusal.not_found name)) i m c w h = h
@@ -100,10 +93,6 @@ bound-came rose D W (Err (refusal.migration_running name)) i m c w h = h
 bound-came rose D W (Err (refusal.still_stored version key)) i m c w h = h
 bound-came rose D W (Err refusal.converter) i m c w h = absurd (c w)
 bound-came rose D W (Err refusal.no_memory) i m c w h = absurd (m w)
-
-failed-came : (rose : Type 0) (D : Answer → Option Item → Type 0) (a : Answer) → ((a ≡ Err refusal.no_memory) ⊎ (rose × (a ≡ Err refusal.converter))) → Came rose D a None
-failed-came rose D a (inl is) = subst (λ (x : Answer). Came rose D x None) (sym is) refl
-failed-came rose D a (inr is) = subst (λ (x : Answer). Came rose D x None) (sym is.1) (is.0, refl)
 
 -- ---- a create
 
@@ -121,7 +110,7 @@ pub create_calls : {B : Type 0} (s : Server) (rose : Type 0) (stamp : List ℕ) 
 create_calls s rose stamp v z log r a i writes comes =
     writes_calls s rose stamp v z log (create r) (Creates s stamp r (items log)) (λ b j h. (b, refl, h)) (create_fails r) (λ h. tt) a (answered a) i writes comes refl
 
-never_memory : (m : Meaning) (boot code v : ℕ) (name : List ℕ) (h : ObjectView) (e : WriteEnd) → Wrote m boot code v name h e (Err refusal.no_memory) → ⊥
+pub never_memory : (m : Meaning) (boot code v : ℕ) (name : List ℕ) (h : ObjectView) (e : WriteEnd) → Wrote m boot code v name h e (Err refusal.no_memory) → ⊥
 never_memory m boot code v name h (done rv born) w = w
 never_memory m boot code v name h (kept rv born) w = w
 never_memory m boot code v name h (same rv born) w = w
@@ -133,7 +122,7 @@ never_memory m boot code v name h forbidden w = cc
 never_memory m boot code v name h (full room) w = cc
 never_memory m boot code v name h (storage_moved now) w = w
 
-never_converter : (m : Meaning) (boot code v : ℕ) (name : List ℕ) (h : ObjectView) (e : WriteEnd) → Wrote m boot code v name h e (Err refusal.converter) → ⊥
+pub never_converter : (m : Meaning) (boot code v : ℕ) (name : List ℕ) (h : ObjectView) (e : WriteEnd) → Wrote m boot code v name h e (Err refusal.converter) → ⊥
 never_converter m boot code v name h (done rv born) w = w
 never_converter m boot code v name h (kept rv born) w = w
 never_converter m boot code v name h (same rv born) w = w
@@ -185,7 +174,7 @@ pub failed-results : {B : Type 0} (s : Server) (rose : Type 0) (v : View B) (D :
 failed-results s rose v D f e tool is = subst (λ (x : RefusalView). Results s rose v v D (Err x)) (sym is) (failing s rose v D f tool)
 
 -- a turn that entered nothing
-unmoved : {B : Type 0} (s : Server) (v z : View B) (log : List Logged) (i : Option Item) → Writes s v z log i → i ≡ None → Rested s v z
+pub unmoved : {B : Type 0} (s : Server) (v z : View B) (log : List Logged) (i : Option Item) → Writes s v z log i → i ≡ None → Rested s v z
 unmoved s v z log i writes is =
     let w : Writes s v z log None = subst (λ (o : Option Item). Writes s v z log o) is writes in
     inr (record { log = log; reads = record { turned = w.turned; legal = w.legal; few = w.few } })
@@ -259,23 +248,3 @@ module _ (s : Server) (rose : Type 0) (stamp : List ℕ) (q : Request) (log : Li
       → Came rose (Creates s stamp q log) (Err e) None
   refused_came fault e r (inl is) = subst (λ (x : RefusalView). Came rose (Creates s stamp q log) (Err x) None) (sym is) refl
   refused_came fault e r (inr is) = subst (λ (x : RefusalView). Came rose (Creates s stamp q log) (Err x) None) (sym is) (admission_came fault r)
-
--- ---- what a create makes of an admitted value
-
-pub fresh : (m : Meaning) → Stand m → IgnoresStamps m → AdmitsWhole m → (q : Request) (k : KeyView) (old : ObjectView) (e : Option ℕ) (w : ℕ) (stamp : List ℕ) → IsStamp stamp
-    → m.admits q old e → (IsTrue m.honest → Weighs m (created_value stamp old) w) → 0 < w → k.ns ≡ q.ns → k.name ≡ old.meta.name
-    → IsFresh m k (created_value stamp old) w
-fresh m stand unstamped admitted q k old e w stamp is_stamp admits weighs some ns name =
-    let is = admitted.admitted q old e admits in
-    let stamps : AreStamps (Some stamp) None (pos 1) = record { created = is_stamp; deleted = tt; generation = omega arith } in
-    record {
-      whole = unstamped.whole old (Some stamp) None (pos 1) stamps is.whole;
-      key = λ i. record { ns = (is.namespace ∙ sym ns) i; name = sym name i };
-      new = record { generation = refl; unmarked = refl };
-      weighs = weighs;
-      some = some;
-    }
-
--- the name of an admitted value is one
-pub admitted_name : (m : Meaning) → Stand m → AdmitsWhole m → (q : Request) (old : ObjectView) (e : Option ℕ) → m.admits q old e → is_name old.meta.name ≡ true
-admitted_name m stand admitted q old e admits = (stand.whole old (admitted.admitted q old e admits).whole).rules.name

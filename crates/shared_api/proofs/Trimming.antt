@@ -26,9 +26,11 @@ use Rattle.api_core.specs.declared.ends.TrimEnd.TheVariants as core
 use Rattle.turn_cell.specs.Views.{Later, set_stage}
 use Rattle.turn_cell.specs.declared.view.Stage.TheVariants.{Holds}
 use Rattle.turn_cell.specs.declared.view.View.{View}
-use Rattle.shared_api.specs.Answered.{Came, CallsOn}
+use Rattle.call_texts.specs.Told.{Came}
+use Rattle.shared_api.specs.Answered.{CallsOn}
 use Rattle.shared_api.specs.Base.{StandsCell, base_of, server_of}
-use Rattle.shared_api.specs.Changing.{HasVersion, Shows, Trims, is_trimmed}
+use Rattle.call_texts.specs.Changing.{HasVersion, Shows, is_trimmed}
+use Rattle.shared_api.specs.ChangeTurns.{Trims}
 use Rattle.shared_api.specs.Turning.{Closes, Settles, Writes, item_if}
 use Rattle.shared_api.specs.declared.cell.CoreBase.{CoreBase}
 use Rattle.shared_api.proofs.Changing.{came-more}

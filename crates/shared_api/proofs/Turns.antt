@@ -23,11 +23,13 @@ use Rattle.turn_cell.specs.declared.view.Stage.TheVariants.{Holds}
 use Rattle.turn_cell.specs.Views.{set_stage, Later}
 use Rattle.turn_cell.specs.Turns.{Gives}
 use Rattle.turn_cell.specs.Laws.{turn_reads}
-use Rattle.shared_api.specs.Answered.{Came, CallsOn}
+use Rattle.call_texts.specs.Told.{Came}
+use Rattle.shared_api.specs.Answered.{CallsOn}
 use Rattle.shared_api.specs.Base.{StandsCell, base_of, server_of}
 use Rattle.shared_api.specs.Passes.{ApiOf, Known, IsOf}
 use Rattle.shared_api.specs.Turning.{Reads, Looks, Settles}
 use Rattle.shared_api.specs.declared.cell.CoreBase.{CoreBase}
+use Rattle.call_texts.proofs.IfOk.{if_ok}
 
 pub items-length : (log : List Logged) → length (items log) ≡ length log
 items-length [] = refl
@@ -49,10 +51,6 @@ reads meaning c v w z took later stands short given = record {
   legal = cell_legal meaning c w.seen stands;
   few = few_entries w.seen short;
 }
-
-pub if_ok : {A E : Type 0} (P Q : A → Type 0) (r : Result A E) → ((a : A) → P a → Q a) → IfOk r P → IfOk r Q
-if_ok P Q (Ok a) f p = f a p
-if_ok P Q (Err e) f p = p
 
 -- a turn that looked at a key
 pub looks : {V : Type 0} (meaning : V → Meaning) (c : CoreOf V) (b : CoreBase V) (v w z : View (CoreBase V)) (k : KeyView) (r : Result Peeked NoMemory)

@@ -7,7 +7,7 @@ use Rattle.shared_api.specs.Faults.{work_fault}
 use Rattle.std.proofs.lemmas.List.{append-nil}
 use Rattle.kube_meta.specs.Key.{KeyView}
 use Rattle.kube_meta.specs.View.{ObjectView}
-use Rattle.api_calls.specs.Calls.{Server, Told, worked, failed, Failure, no_memory, converter, work, Comes}
+use Rattle.api_calls.specs.Calls.{Server, Told, worked, failed, no_memory, converter, work, Comes}
 use Rattle.api_calls.specs.Calls as calls
 use Rattle.api_calls.specs.EachObject.{each-find}
 use Rattle.api_calls.specs.Ends.{TurnEnd, prepare}

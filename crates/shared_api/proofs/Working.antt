@@ -21,7 +21,7 @@ use Rattle.api_core.specs.Prepared.{Sees, seen_item}
 use Rattle.api_core.specs.declared.seen.Peeked.{Peeked}
 use Rattle.api_core.specs.declared.seen.Seen.{Seen}
 use Rattle.shared_api.specs.Working.{item_or, is_entered, first_of, second_of, IsCopy}
-use Rattle.api_calls.specs.Calls.{give_back, gave_back, Comes, Server}
+use Rattle.api_calls.specs.Calls.{give_back, gave_back, Server}
 use Rattle.api_calls.specs.Calls as calls
 use Rattle.api_calls.specs.Ends.{EndsAsDecided, bound, grown}
 use Rattle.api_calls.specs.Item.{Logged, Item, note, GiveBack, items}

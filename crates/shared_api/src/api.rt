@@ -5,9 +5,9 @@ ghost use Rattle.turn_cell.specs.Views.{opening_view, halved};
 ghost use Rattle.shared_api.specs.Passes.{IsOf};
 
 use crate::cell::{CoreBase, CoreCell};
-use crate::given::Given;
 use api_calls::Versions;
 use api_core::Core;
+use call_texts::Given;
 use kj_value::NoMemory;
 use kube_meta::Limits;
 use std::alloc::Global;

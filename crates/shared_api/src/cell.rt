@@ -1,4 +1,5 @@
 //! The core as the turn keeps it.
+
 use api_calls::Versions;
 use api_core::Core;
 use kube_meta::Limits;

@@ -3,13 +3,13 @@ ghost use Rattle.std.specs.Prelude.{◌≡◌, Some, option_copied, option_map};
 ghost use Rattle.api_core.specs.Pages.{place_of};
 ghost use Rattle.turn_cell.specs.Turns.{IsResting};
 ghost use Rattle.shared_api.specs.Base.{server_of};
-ghost use Rattle.shared_api.specs.Listing.{LooksPage};
+ghost use Rattle.shared_api.specs.PageTurns.{LooksPage};
 ghost use Rattle.shared_api.specs.declared.cell.CoreBase.{CoreBase};
 
 use crate::cell::{CoreBase, CoreCell};
-use crate::served::is_served;
 use api_calls::{Token, Versions};
 use api_core::{Page, PageFault};
+use call_texts::is_served;
 use std::alloc::Global;
 use std::sync::Wait;
 use turn_cell::{PassOf, Turn};

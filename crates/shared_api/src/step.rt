@@ -1,4 +1,5 @@
 //! How a worker's turn came out.
+
 use api_calls::ConvFault;
 use api_core::Seen;
 use kj_value::NoMemory;

@@ -5,17 +5,17 @@ ghost use Rattle.turn_cell.specs.Turns.{IsResting};
 ghost use Rattle.api_calls.specs.Ends.{storage_moved};
 ghost use Rattle.api_calls.specs.Item.{items};
 ghost use Rattle.api_calls.specs.Legal.{IsNew};
-ghost use Rattle.api_core.specs.Ends.{create_end, replace_end};
-ghost use Rattle.api_core.specs.Prepared.{IsSized, PreparesValue, Replacing};
+ghost use Rattle.api_core.specs.Ends.{create_end, release_end, replace_end};
+ghost use Rattle.api_core.specs.Prepared.{IsEnding, IsSized, PreparesValue, Replacing};
 ghost use Rattle.shared_api.specs.Base.{server_of};
-ghost use Rattle.shared_api.specs.Readying.{Commits, SeenAt, creates, is_done, replaces};
+ghost use Rattle.shared_api.specs.WriteTurns.{Commits, SeenAt, creates, is_done, releases, replaces};
 ghost use Rattle.shared_api.specs.declared.cell.CoreBase.{CoreBase};
 
 use crate::cell::{CoreBase, CoreCell};
 use crate::enter::finish;
 use api_calls::Versions;
-use api_core::{CreateEnd, Prepared, ReplaceEnd};
-use kube_meta::Object;
+use api_core::{CreateEnd, Prepared, ReleaseEnd, ReplaceEnd};
+use kube_meta::{Key, Object};
 use std::marker::Brand;
 use std::snapshot::Snapshot;
 use std::sync::Wait;
@@ -108,5 +108,44 @@ pub(crate) fn enter_over<V: Versions + Drop, R: Wait>(
     finish::<Brand, V, (Snapshot<Prepared>, Snapshot<Object>, u64)>(
         turn, pass, cell, entered, &about,
     );
+    end
+}
+
+// Whether a release that ended so entered an item.
+fn released(end: &ReleaseEnd) -> bool
+    ensures { result ≡ is_done (release_end end.now) }
+{
+    match end {
+        ReleaseEnd::Done { rv: _, born: _ } => true,
+        ReleaseEnd::Unserved => false,
+        ReleaseEnd::Gone => false,
+        ReleaseEnd::Moved { newer: _ } => false,
+    }
+}
+
+/// A turn that removes the object that the pass had seen at this number, which is being deleted and loses its last
+/// finalizer. It takes no memory.
+pub(crate) fn enter_release<V: Versions + Drop, R: Wait>(
+    rt: &R,
+    turn: &Turn<CoreCell<V>>,
+    pass: &mut PassOf<CoreCell<V>, CoreBase<V>>,
+    v: u8,
+    key: &Key,
+    expected: u64,
+) -> ReleaseEnd
+    requires own { pass.old.seat.table_id ≡ turn.now.table.shared.table_id }
+    requires rest { IsResting pass.old.seat.me.0 }
+    requires value { (b : CoreBase V) × (pass.old.seat.me.0.base ≡ Some b)
+        × SeenAt (V.meaning b.versions) (items pass.old.seat.me.0.seen) key.now expected IsEnding }
+    ensures own { pass.new.seat.table_id ≡ pass.old.seat.table_id }
+    ensures rest { IsResting pass.new.seat.me.0 }
+    ensures commits { (b : CoreBase V) → pass.old.seat.me.0.base ≡ Some b
+        → Commits (server_of V.meaning b) pass.old.seat.me.0 pass.new.seat.me.0 (releases (server_of V.meaning b) v key.now expected) (release_end result) }
+{
+    let about = (Snapshot::of(key), expected);
+    let mut cell = turn.take(rt, pass);
+    let end = cell.core.commit_release(v, key, expected);
+    let entered = released(&end);
+    finish::<Brand, V, (Snapshot<Key>, u64)>(turn, pass, cell, entered, &about);
     end
 }

@@ -12,12 +12,13 @@ use Rattle.api_calls.specs.Versions.{AreFlags, Refused, request_of}
 use Rattle.api_calls.specs.declared.reply.Reply.{Reply}
 use Rattle.api_calls.specs.declared.refusal.Refusal.{Refusal}
 use Rattle.turn_cell.specs.declared.view.View.{View}
-use Rattle.shared_api.specs.Answered.{CallsOn, decided}
+use Rattle.call_texts.specs.Told.{decided}
+use Rattle.shared_api.specs.Answered.{CallsOn}
 use Rattle.shared_api.specs.Base.{server_of}
-use Rattle.shared_api.specs.Faults.{admission}
-use Rattle.shared_api.specs.Readying.{Created, Results}
+use Rattle.call_texts.specs.Faults.{admission}
+use Rattle.shared_api.specs.WriteTurns.{Created, Results}
 use Rattle.shared_api.specs.declared.cell.CoreBase.{CoreBase}
-use Rattle.shared_api.specs.declared.refused.Refused as made
+use Rattle.call_texts.specs.declared.refused.Refused as made
 use Rattle.shared_api.proofs.Results.{admitted_calls, create_calls, reads-writes, refused_came, results-join, unserved_calls}
 use Rattle.shared_api.proofs.create.create_with.Goals as goal
 

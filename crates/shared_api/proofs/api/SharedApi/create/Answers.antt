@@ -1,10 +1,11 @@
 use Rattle.std.proofs.Common.{◌≡◌, ◌<◌, None, Some, ap, sym, subst, ◌∙◌}
 use Rattle.api_calls.specs.Calls.{Told, create}
 use Rattle.api_calls.specs.Meaning.{Request}
-use Rattle.shared_api.specs.Answered.{CallsOn, told}
+use Rattle.call_texts.specs.Told.{told}
+use Rattle.shared_api.specs.Answered.{CallsOn}
 use Rattle.shared_api.specs.Base.{server_of}
 use Rattle.shared_api.specs.Passes.{Known}
-use Rattle.shared_api.specs.Places.{IsPlace}
+use Rattle.call_texts.specs.Places.{IsPlace}
 use Rattle.shared_api.specs.declared.cell.CoreBase.{CoreBase}
 use Rattle.shared_api.proofs.Turns.{is_of}
 use Rattle.shared_api.proofs.api.SharedApi.create.Goals as goal

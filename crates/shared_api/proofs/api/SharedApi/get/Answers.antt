@@ -1,9 +1,10 @@
 use Rattle.std.proofs.Common.{◌≡◌, ◌<◌, [], Some, ap, subst, ◌∙◌}
 use Rattle.api_calls.specs.Calls.{get}
-use Rattle.shared_api.specs.Answered.{CallsOn, decided, told}
+use Rattle.call_texts.specs.Told.{decided, told}
+use Rattle.shared_api.specs.Answered.{CallsOn}
 use Rattle.shared_api.specs.Base.{server_of}
 use Rattle.shared_api.specs.Passes.{Known}
-use Rattle.shared_api.specs.Places.{IsPlace}
+use Rattle.call_texts.specs.Places.{IsPlace}
 use Rattle.shared_api.specs.declared.cell.CoreBase.{CoreBase}
 use Rattle.shared_api.proofs.Turns.{is_of, get_calls}
 use Rattle.shared_api.proofs.api.SharedApi.get.Goals as goal

@@ -1,10 +1,11 @@
 use Rattle.std.proofs.Common.{◌≡◌, [], Some, ap, subst, ◌∙◌}
 use Rattle.api_calls.specs.Calls.{group}
-use Rattle.shared_api.specs.Answered.{CallsOn, decided, told}
+use Rattle.call_texts.specs.Told.{decided, told}
+use Rattle.shared_api.specs.Answered.{CallsOn}
 use Rattle.shared_api.specs.Base.{server_of}
 use Rattle.shared_api.specs.Passes.{Known}
 use Rattle.shared_api.specs.declared.cell.CoreBase.{CoreBase}
-use Rattle.shared_api.proofs.Offering.{group_calls}
+use Rattle.shared_api.proofs.GroupCalls.{group_calls}
 use Rattle.shared_api.proofs.Turns.{is_of}
 use Rattle.shared_api.proofs.api.SharedApi.group_doc.Goals as goal
 

@@ -2,10 +2,11 @@ use Rattle.std.proofs.Common.{◌≡◌, ◌<◌, [], Some, ap, subst, ◌∙◌
 use Rattle.std.specs.Prelude.{option_copied, option_map}
 use Rattle.api_calls.specs.Calls.{list}
 use Rattle.api_core.specs.Pages.{place_of as token_place}
-use Rattle.shared_api.specs.Answered.{CallsOn, decided, told}
+use Rattle.call_texts.specs.Told.{decided, told}
+use Rattle.shared_api.specs.Answered.{CallsOn}
 use Rattle.shared_api.specs.Base.{server_of}
 use Rattle.shared_api.specs.Passes.{Known}
-use Rattle.shared_api.specs.Places.{IsPlace}
+use Rattle.call_texts.specs.Places.{IsPlace}
 use Rattle.shared_api.specs.declared.cell.CoreBase.{CoreBase}
 use Rattle.shared_api.proofs.PageLooks.{list_calls}
 use Rattle.shared_api.proofs.Turns.{is_of}

@@ -1,6 +1,7 @@
 use Rattle.std.proofs.Common.{◌≡◌, [], Some, ap, subst, ◌∙◌}
 use Rattle.api_calls.specs.Calls.{migration}
-use Rattle.shared_api.specs.Answered.{CallsOn, decided, told}
+use Rattle.call_texts.specs.Told.{decided, told}
+use Rattle.shared_api.specs.Answered.{CallsOn}
 use Rattle.shared_api.specs.Base.{server_of}
 use Rattle.shared_api.specs.Passes.{Known}
 use Rattle.shared_api.specs.declared.cell.CoreBase.{CoreBase}

@@ -3,7 +3,8 @@ use Rattle.api_calls.specs.Calls.{answered, trim}
 use Rattle.api_calls.specs.Refusal.{refusal_of}
 use Rattle.api_calls.specs.Versions.{versions_of}
 use Rattle.api_core.specs.Ends.{trim_end}
-use Rattle.shared_api.specs.Answered.{CallsOn, decided, told}
+use Rattle.call_texts.specs.Told.{decided, told}
+use Rattle.shared_api.specs.Answered.{CallsOn}
 use Rattle.shared_api.specs.Base.{server_of}
 use Rattle.shared_api.specs.Passes.{Known}
 use Rattle.shared_api.specs.declared.cell.CoreBase.{CoreBase}

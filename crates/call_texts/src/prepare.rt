@@ -1,0 +1,81 @@
+//! What a write stores and shows, made before its turn.
+ghost use Rattle.std.specs.Prelude.{◌≡◌, ◌<◌, ◌≤◌, IfOk, IsErrOf, IsTrue, pos, ℕ};
+ghost use Rattle.kube_meta.specs.View.{object_of};
+ghost use Rattle.api_calls.specs.Legal.{key_of};
+ghost use Rattle.api_calls.specs.Meaning.{Weighs};
+ghost use Rattle.api_calls.specs.Versions.{IsStored};
+ghost use Rattle.call_texts.specs.Readying.{IsReady};
+ghost use Rattle.call_texts.specs.Sealed.{Seals};
+
+use crate::given::Given;
+use crate::moving::within;
+use crate::seal::{Sealed, both, seal};
+use api_calls::{ConvFault, Versions, one_weight, stored_fits};
+use api_core::Prepared;
+use kj_value::Txt;
+use kube_meta::{Key, Object};
+
+impl<V: Versions> Given<'_, V> {
+    // The text in which a hub value is stored at a version, and the one that shows it at another. Where the two versions are
+    // one, it is converted once.
+    fn texts(
+        &self,
+        tool: &mut V::Tool,
+        v: u8,
+        storage: u8,
+        hub: &Object,
+    ) -> Result<(Txt, Sealed), ConvFault>
+        requires known { v < (V.meaning self.now.versions.now).count }
+        requires storage { storage < (V.meaning self.now.versions.now).count }
+        requires whole { (V.meaning self.now.versions.now).whole (object_of hub.now) }
+        ensures stored { IfOk result (λ r. IsStored (V.meaning self.now.versions.now) storage (object_of hub.now) r.0.bytes) }
+        ensures seals { IfOk result (λ r. Seals (V.meaning self.now.versions.now) v (object_of hub.now) r.1) }
+        ensures tool { IsErrOf result ConvFault.Tool → V.Tool.faults tool.old < V.Tool.faults tool.new }
+        ensures rises { V.Tool.faults tool.old ≤ V.Tool.faults tool.new }
+    {
+        let form = self.versions.form(self.alloc, tool, v, hub)?;
+        if v == storage {
+            let texts = both(self.alloc, form)?;
+            return Ok(texts);
+        }
+        let sealed = seal(self.alloc, form)?;
+        let bytes = self.stored(tool, storage, hub)?;
+        Ok((bytes, sealed))
+    }
+
+    /// A hub value, ready to be stored at a version and to be shown at another. It takes no turn. `Tool` comes only where
+    /// the tool's count of faults rose.
+    pub fn prepare_write(
+        &self,
+        tool: &mut V::Tool,
+        v: u8,
+        storage: u8,
+        hub: &Object,
+        key: &Key,
+        weight: u64,
+    ) -> Result<(Prepared, Sealed), ConvFault>
+        requires known { v < (V.meaning self.now.versions.now).count }
+        requires storage { storage < (V.meaning self.now.versions.now).count }
+        requires whole { (V.meaning self.now.versions.now).whole (object_of hub.now) }
+        requires key { IsTrue (V.meaning self.now.versions.now).honest → key_of (object_of hub.now) ≡ key.now }
+        requires weighs { IsTrue (V.meaning self.now.versions.now).honest → Weighs (V.meaning self.now.versions.now) (object_of hub.now) weight }
+        requires counts { IsTrue (V.meaning self.now.versions.now).honest → (n : ℕ) × ((object_of hub.now).meta.generation ≡ pos n) }
+        ensures ready { IfOk result (λ r. IsReady (V.meaning self.now.versions.now) v storage (object_of hub.now) key.now weight r.0 r.1) }
+        ensures tool { IsErrOf result ConvFault.Tool → V.Tool.faults tool.old < V.Tool.faults tool.new }
+        ensures rises { V.Tool.faults tool.old ≤ V.Tool.faults tool.new }
+    {
+        // Asked for what their clauses say: a stored text is within its value's weight, which isn't 0.
+        stored_fits::<V>();
+        one_weight::<V>();
+        let (bytes, sealed) = self.texts(tool, v, storage, hub)?;
+        within::<V>(&bytes, weight)?;
+        let key = Key::of(self.alloc, key.ns(), key.name())?;
+        let prepared = Prepared {
+            key,
+            at: storage,
+            bytes,
+            weight,
+        };
+        Ok((prepared, sealed))
+    }
+}
