@@ -1,0 +1,143 @@
+ghost use Rattle.std.specs.Prelude.{◌<◌, ◌+◌, ◌^◌};
+
+use api_calls::NoTool;
+use edge_io::{FixedClock, MemSink, MemSource};
+use http_front::{End, serve_link};
+use http_wire::WireFault;
+use kj_value::Stamp;
+use kube_meta::Limits;
+use shared_api::SharedApi;
+use std::alloc::Global;
+use std::sync::Wait;
+use std::test::*;
+use versions_fixture::TwoNames;
+
+const ROOM: Limits = Limits {
+    objects: 64,
+    chunks: 64,
+    window_records: 64,
+    window_chunks: 64,
+    migrations: 4,
+};
+
+// A path that names nothing, a method that a path lacks, a query that isn't served, and an object that isn't there.
+const ASKED: &[u8] =
+    b"GET /nowhere HTTP/1.1\r\n\r\nPUT /raw/default/x HTTP/1.1\r\nContent-Length: 0\r\n\r\nGET /raw/default/x?watch=1 HTTP/1.1\r\n\r\nGET /raw/default/x HTTP/1.1\r\n\r\n";
+
+const ANSWERED: &[u8] =
+    b"HTTP/1.1 404 Not Found\r\nContent-Type: application/json\r\nContent-Length: 160\r\n\r\n{\"apiVersion\":\"v1\",\"code\":404,\"kind\":\"Status\",\"message\":\"the server could not find the requested resource\",\"metadata\":{},\"reason\":\"NotFound\",\"status\":\"Failure\"}HTTP/1.1 405 Method Not Allowed\r\nContent-Length: 0\r\n\r\nHTTP/1.1 400 Bad Request\r\nContent-Type: application/json\r\nContent-Length: 141\r\n\r\n{\"apiVersion\":\"v1\",\"code\":400,\"kind\":\"Status\",\"message\":\"bad request: BadQuery watch\",\"metadata\":{},\"reason\":\"BadRequest\",\"status\":\"Failure\"}HTTP/1.1 404 Not Found\r\nContent-Type: application/json\r\nContent-Length: 211\r\n\r\n{\"apiVersion\":\"v1\",\"code\":404,\"details\":{\"group\":\"example.com\",\"kind\":\"crontabs\",\"name\":\"x\"},\"kind\":\"Status\",\"message\":\"crontabs.example.com \\\"x\\\" not found\",\"metadata\":{},\"reason\":\"NotFound\",\"status\":\"Failure\"}";
+
+// What a connection with these bytes to a server with this room was answered, in pieces of this size, where the calls of these
+// numbers fail.
+fn served_in(
+    rt: &impl Wait,
+    alloc: Global,
+    room: Limits,
+    input: &[u8],
+    piece: usize,
+    failing_read: u64,
+    failing_write: u64,
+) -> Result<(Vec<u8>, End), Fail>
+    requires piece { 0 < piece }
+    requires room { room.chunks + room.window_chunks < 2 ^ 32 }
+{
+    let (api, mut pass) = SharedApi::open(alloc, TwoNames::new(alloc)?, NoTool, room, 0)?;
+    let mut source = MemSource::new(input.to_vec(alloc)?, piece, vec![in alloc; failing_read]?);
+    let mut sink = MemSink::new(alloc, 10_000, vec![in alloc; failing_write]?)?;
+    let clock = FixedClock::new(Stamp {
+        text: *b"2024-01-02T03:04:05Z",
+    });
+    let end = serve_link(rt, alloc, &api, &mut pass, &mut source, &mut sink, &clock);
+    Ok((sink.bytes().to_vec(alloc)?, end))
+}
+
+// The same to a server with room enough.
+fn served(
+    rt: &impl Wait,
+    alloc: Global,
+    input: &[u8],
+    piece: usize,
+    failing_read: u64,
+    failing_write: u64,
+) -> Result<(Vec<u8>, End), Fail>
+    requires { 0 < piece }
+{
+    served_in(rt, alloc, ROOM, input, piece, failing_read, failing_write)
+}
+
+#[test]
+fn refusals_in_any_pieces(rt: HostRuntime) -> Result<(), Fail> {
+    for piece in [1, 7, 1_000] {
+        let (output, end) = served(&rt, rt.alloc(), ASKED, piece, u64::MAX, u64::MAX)?;
+        assert_eq!(&rt; output.as_slice(), ANSWERED);
+        assert_eq!(&rt; end, End::Closed);
+    }
+    Ok(())
+}
+
+#[test]
+fn ends(rt: HostRuntime) -> Result<(), Fail> {
+    let cases: [(&[u8], &[u8], End); 4] = [
+        (b"", b"", End::Closed),
+        (
+            b"GET /nowhere HTTP/1.0\r\n\r\nGET /nowhere HTTP/1.1\r\n\r\n",
+            b"HTTP/1.1 404 Not Found\r\nContent-Type: application/json\r\nContent-Length: 160\r\nConnection: close\r\n\r\n{\"apiVersion\":\"v1\",\"code\":404,\"kind\":\"Status\",\"message\":\"the server could not find the requested resource\",\"metadata\":{},\"reason\":\"NotFound\",\"status\":\"Failure\"}",
+            End::Closed,
+        ),
+        (b"GET /n", b"", End::Torn { held: 6 }),
+        (
+            b"GET / HTTP/2\r\n\r\n",
+            b"HTTP/1.1 400 Bad Request\r\nContent-Type: application/json\r\nContent-Length: 134\r\nConnection: close\r\n\r\n{\"apiVersion\":\"v1\",\"code\":400,\"kind\":\"Status\",\"message\":\"bad request: BadHead\",\"metadata\":{},\"reason\":\"BadRequest\",\"status\":\"Failure\"}",
+            End::Refused(WireFault::BadHead),
+        ),
+    ];
+    for (input, output, end) in cases {
+        let (written, ended) = served(&rt, rt.alloc(), input, 100, u64::MAX, u64::MAX)?;
+        assert_eq!(&rt; written.as_slice(), output);
+        assert_eq!(&rt; ended, end);
+    }
+    Ok(())
+}
+
+// Each write and each read fails in turn: a front of the answers was written.
+#[test]
+fn faults(rt: HostRuntime) -> Result<(), Fail> {
+    for call in 0..20 {
+        let (output, end) = served(&rt, rt.alloc(), ASKED, 100, u64::MAX, call)?;
+        assert!(&rt; ANSWERED.starts_with(output.as_slice()));
+        assert_eq!(&rt; end, End::WriteFault);
+    }
+    for call in 0..3 {
+        let (output, end) = served(&rt, rt.alloc(), ASKED, 100, call, u64::MAX)?;
+        assert!(&rt; ANSWERED.starts_with(output.as_slice()));
+        assert_eq!(&rt; end, End::ReadFault);
+    }
+    Ok(())
+}
+
+// A create for which there is no room is refused.
+#[test]
+fn is_full(rt: HostRuntime) -> Result<(), Fail> {
+    let room = Limits {
+        objects: 1,
+        chunks: 8,
+        window_records: 2,
+        window_chunks: 2,
+        migrations: 1,
+    };
+    let (output, end) = served_in(
+        &rt,
+        rt.alloc(),
+        room,
+        b"POST /apis/example.com/v1beta1/namespaces/default/crontabs HTTP/1.1\r\nContent-Length: 99\r\n\r\n{\"apiVersion\":\"example.com/v1beta1\",\"kind\":\"CronTab\",\"metadata\":{\"name\":\"a\"},\"address\":\"localhost\"}POST /apis/example.com/v1beta1/namespaces/default/crontabs HTTP/1.1\r\nContent-Length: 77\r\n\r\n{\"apiVersion\":\"example.com/v1beta1\",\"kind\":\"CronTab\",\"metadata\":{\"name\":\"b\"}}",
+        100,
+        u64::MAX,
+        u64::MAX,
+    )?;
+    assert_eq!(&rt;
+        output.as_slice(),
+        b"HTTP/1.1 201 Created\r\nContent-Type: application/json\r\nContent-Length: 246\r\n\r\n{\"address\":\"localhost\",\"apiVersion\":\"example.com/v1beta1\",\"kind\":\"CronTab\",\"metadata\":{\"creationTimestamp\":\"2024-01-02T03:04:05Z\",\"generation\":1,\"name\":\"a\",\"namespace\":\"default\",\"resourceVersion\":\"2\",\"uid\":\"00000000-0000-8000-8000-000000000002\"}}HTTP/1.1 507 Insufficient Storage\r\nContent-Type: application/json\r\nContent-Length: 158\r\n\r\n{\"apiVersion\":\"v1\",\"code\":507,\"kind\":\"Status\",\"message\":\"no room for objects: need 1, free 0\",\"metadata\":{},\"reason\":\"InsufficientStorage\",\"status\":\"Failure\"}".as_slice()
+    );
+    assert_eq!(&rt; end, End::Closed);
+    Ok(())
+}

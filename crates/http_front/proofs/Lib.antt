@@ -1,0 +1,4 @@
+pub mod Codes
+pub mod Sound
+pub mod Calling
+pub mod Talking

@@ -1,0 +1,7 @@
+pub mod Faults
+pub mod Replies
+pub mod Steps
+pub mod Talk
+pub mod One
+pub mod Link
+pub mod Going

@@ -1,0 +1,115 @@
+//! One request of a connection.
+ghost use Rattle.std.specs.Prelude.{◌≡◌, ◌≤◌, ◌<◌, ℕ, List, Some};
+ghost use Rattle.std.specs.Io.KnownBytes.{prepend_known};
+ghost use Rattle.edge_io.specs.Causes.{Rose};
+ghost use Rattle.http_wire.specs.Head.{Request, Reads};
+ghost use Rattle.shared_api.specs.Base.{server_of};
+ghost use Rattle.shared_api.specs.Passes.{IsOf};
+ghost use Rattle.http_front.specs.Faults.{IsHeadFault};
+ghost use Rattle.http_front.specs.Steps.{Answers, IsSameBut, Quiet, point_of};
+ghost use Rattle.http_front.specs.One.{Blames, Did, HandsOn, RefusesHead, step_of as step_for};
+
+use crate::answer::answer_request;
+use crate::fault::refuse_head;
+use crate::reply::hand_on;
+use api_calls::Versions;
+use edge_io::{Clock, Sink, Source};
+use http_wire::{Inbox, WireFault, read_request};
+use shared_api::{Pass, SharedApi};
+use std::alloc::Global;
+use std::sync::Wait;
+
+/// What came of reading one request and answering it.
+#[derive(Clone, Copy, Debug, PartialEq, Eq, Drop)]
+pub enum OneEnd {
+    Answered,
+    /// It was answered, and asked for closing.
+    Last,
+    /// The input ended between two requests.
+    Closed,
+    /// The input ended inside a request, of which so many bytes are held.
+    Torn { held: u64 },
+    /// The head was refused, and the one response to that was written.
+    Refused(WireFault),
+    ReadFault,
+    WriteFault,
+}
+
+// The step of an answer to a request that asked for closing or didn't.
+fn step_of(closing: bool) -> OneEnd
+    ensures { result ≡ step_for closing }
+{
+    if closing {
+        OneEnd::Last
+    } else {
+        OneEnd::Answered
+    }
+}
+
+// The end of a head that is refused, once its response is written.
+fn refused<K: Sink>(output: &mut K, fault: WireFault) -> OneEnd
+    requires { IsHeadFault fault }
+    ensures wrote { RefusesHead fault (K.written output.old) (K.written output.new) result }
+    ensures flushed { HandsOn result (K.flushed output.new ≡ K.written output.new) (output.new ≡ output.old) }
+    ensures blame { Blames result ⊥ (Rose (K.faults output.old) (K.faults output.new)) }
+    ensures later { K.faults output.old ≤ K.faults output.new }
+    ensures number { K.number output.new ≡ K.number output.old }
+{
+    match refuse_head(output, fault) {
+        Ok(()) => OneEnd::Refused(fault),
+        Err(_) => OneEnd::WriteFault,
+    }
+}
+
+/// Reads one request, makes its call on the pass and hands the answer on: it is written whole and flushed. A head that is
+/// refused has one response, which asks for closing. `ReadFault` comes only where the count of faults of `input` rose, and
+/// `WriteFault` only where that of `output` did. What the request entered stands also where its response wasn't written.
+pub fn serve_one<V: Versions + Drop, S: Source, K: Sink, C: Clock, R: Wait>(
+    rt: &R,
+    alloc: Global,
+    api: &SharedApi<V>,
+    pass: &mut Pass<V>,
+    inbox: &mut Inbox,
+    input: &mut S,
+    output: &mut K,
+    clock: &C,
+) -> OneEnd
+    requires of { IsOf V.meaning api.now pass.old }
+    ensures of { IsOf V.meaning api.now pass.new }
+    // The request is the next one of all the input, and it is answered at the list that the pass sees.
+    ensures did { (n : ℕ) → pass.old.view.number ≡ Some n
+        → Did (Answers (record { server = server_of V.meaning api.now.base; told = C.told clock.now }) n) result (point_of V.Tool.faults pass.old) (point_of V.Tool.faults pass.new)
+        (prepend_known inbox.old.bytes (S.left input.old)) (prepend_known inbox.new.bytes (S.left input.new)) (K.written output.old) (K.written output.new) }
+    // Of the pass only its list changes, and no item is new of a pass that was met into it; where it is alone, none of any other.
+    ensures same { IsSameBut pass.old.view pass.new.view }
+    ensures quiet { (n : ℕ) → pass.old.view.number ≡ Some n → Quiet n pass.old.view pass.new.view }
+    // Nothing is read where a whole request is held.
+    ensures ready { (r : Request) (rest : List ℕ) → Reads inbox.old.bytes r rest → input.new ≡ input.old }
+    // What was written is handed on before the step ends, and so before the next step reads.
+    ensures flushed { HandsOn result (K.flushed output.new ≡ K.written output.new) (output.new ≡ output.old) }
+    ensures blames { Blames result (Rose (S.faults input.old) (S.faults input.new)) (Rose (K.faults output.old) (K.faults output.new)) }
+    ensures read_later { S.faults input.old ≤ S.faults input.new }
+    ensures write_later { K.faults output.old ≤ K.faults output.new }
+    ensures origin { S.origin input.new ≡ S.origin input.old }
+    ensures number { K.number output.new ≡ K.number output.old }
+{
+    match read_request(inbox, input) {
+        Ok(parts) => {
+            let answer = answer_request(rt, alloc, api, pass, clock, inbox, parts);
+            inbox.used();
+            match hand_on(output, &answer, parts.closing) {
+                Ok(()) => step_of(parts.closing),
+                Err(_) => OneEnd::WriteFault,
+            }
+        }
+        Err(WireFault::Closed) => OneEnd::Closed,
+        Err(WireFault::Torn { held }) => OneEnd::Torn { held },
+        Err(WireFault::ReadFault) => OneEnd::ReadFault,
+        Err(WireFault::BadHead) => refused(output, WireFault::BadHead),
+        Err(WireFault::HeadTooLong) => refused(output, WireFault::HeadTooLong),
+        Err(WireFault::LengthRequired) => refused(output, WireFault::LengthRequired),
+        Err(WireFault::BodyTooLong { length }) => {
+            refused(output, WireFault::BodyTooLong { length })
+        }
+    }
+}
