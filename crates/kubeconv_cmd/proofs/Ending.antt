@@ -5,11 +5,11 @@ use Rattle.http_wire.specs.Head.{Request}
 use Rattle.http_wire.specs.Stream.{End, closed, closing, spent, torn, refused, Asks, SameEnd, IsFreeEnd}
 use Rattle.http_wire.specs.declared.limits.TheConstants.{MOST_REQUESTS}
 use Rattle.http_wire.specs.declared.WireFault.TheVariants.{HeadTooLong}
-use Rattle.object_talk.specs.Conversed.{Blames}
-use Rattle.object_talk.specs.declared.conversation.PipeEnd.{PipeEnd}
-use Rattle.object_talk.specs.declared.conversation.PipeEnd.TheVariants.{Closed, Closing, Torn, Refused, Spent, ReadFault, WriteFault}
+use Rattle.kubeconv_cmd.specs.declared.pipe.PipeEnd.{PipeEnd}
+use Rattle.kubeconv_cmd.specs.declared.pipe.PipeEnd.TheVariants.{Closed, Torn, Refused, Spent, ReadFault, WriteFault}
+use Rattle.http_front.specs.Talk.{asked}
 use Rattle.kubeconv_cmd.specs.Lines.{Named}
-use Rattle.kubeconv_cmd.specs.Serving.{Start, ServesTexts, Converses, Held, IsUnheld}
+use Rattle.kubeconv_cmd.specs.Serving.{Start, Blames, ServesTexts, Converses, Held, IsUnheld}
 use Rattle.kubeconv_cmd.specs.Refusal.{RefusesNamed, RefusesSome, IsServed}
 use Rattle.kubeconv_cmd.specs.Status.{status_of, pipe_status, error_line, refusal_line}
 use Rattle.kubeconv_cmd.specs.Ends.{OnRefused, OnUnread, status_at, line_at, why_text}
@@ -36,32 +36,36 @@ same_status b rs d e (inr free) = free_status free.0 d free.2.1 ∙ sym (free_st
 -- ---- what a run came to. The counts of faults of files, input and output rose where `files`, `reads` and `writes` hold
 
 -- a run of a line over told texts and a told input
-pub record Came (named : Named) (crd rules : List ℕ) (start : Start) (b : List ℕ) (before written : Option (List ℕ)) (files reads writes : Type 0) (came : Result PipeEnd Stop) : Type 0 where
-  pub talk : IfOk came (Converses crd rules start b before written)
+pub record Came (named : Named) (crd rules : List ℕ) (turns : ℕ) (start : Start) (b : List ℕ) (before written : Option (List ℕ)) (files reads writes : Type 0) (came : Result PipeEnd Stop) : Type 0 where
+  pub talk : IfOk came (Converses crd rules turns start b before written)
   pub blames : IfOk came (λ end. Blames end reads writes)
   pub refused : IfErr came (λ stop. OnRefused stop (RefusesNamed named crd rules))
   pub unread : IfErr came (λ stop. OnUnread stop files)
 
 -- it served the line, was refused, or wanted memory
-pub talks : (named : Named) (crd rules : List ℕ) (start : Start) (b : List ℕ) (before written : Option (List ℕ)) (files reads writes : Type 0) (came : Result PipeEnd Stop) (s : ℕ)
-    → Came named crd rules start b before written files reads writes came → s ≡ status_at came → ¬ files → ¬ reads → ¬ writes
-    → ServesTexts crd rules start b before written s ⊎ (((s ≡ REFUSED) × RefusesSome named crd rules) ⊎ (s ≡ NO_MEMORY))
-talks named crd rules start b before written files reads writes (Ok Closed) s c is nf nr nw =
-    inl (record { loaded = c.talk.loaded; loads = c.talk.loads; answered = record { end = closed; conversation = c.talk.conversed; is_status = is } })
-talks named crd rules start b before written files reads writes (Ok Closing) s c is nf nr nw =
-    inl (record { loaded = c.talk.loaded; loads = c.talk.loads; answered = record { end = closing; conversation = c.talk.conversed; is_status = is } })
-talks named crd rules start b before written files reads writes (Ok (Torn held)) s c is nf nr nw =
-    inl (record { loaded = c.talk.loaded; loads = c.talk.loads; answered = record { end = torn held; conversation = c.talk.conversed; is_status = is } })
-talks named crd rules start b before written files reads writes (Ok (Refused f)) s c is nf nr nw =
-    inl (record { loaded = c.talk.loaded; loads = c.talk.loads; answered = record { end = refused f; conversation = c.talk.conversed; is_status = is } })
-talks named crd rules start b before written files reads writes (Ok Spent) s c is nf nr nw =
-    inl (record { loaded = c.talk.loaded; loads = c.talk.loads; answered = record { end = spent; conversation = c.talk.conversed; is_status = is } })
-talks named crd rules start b before written files reads writes (Ok ReadFault) s c is nf nr nw = absurd (nr c.blames)
-talks named crd rules start b before written files reads writes (Ok WriteFault) s c is nf nr nw = absurd (nw c.blames)
-talks named crd rules start b before written files reads writes (Err stops.ReadFailed) s c is nf nr nw = absurd (nf c.unread)
-talks named crd rules start b before written files reads writes (Err (stops.Refused file why)) s c is nf nr nw =
+pub talks : (named : Named) (crd rules : List ℕ) (turns : ℕ) (start : Start) (b : List ℕ) (before written : Option (List ℕ)) (files reads writes : Type 0) (came : Result PipeEnd Stop) (s : ℕ)
+    → Came named crd rules turns start b before written files reads writes came → s ≡ status_at came → ¬ files → ¬ reads → ¬ writes
+    → ServesTexts crd rules turns start b before written s ⊎ (((s ≡ REFUSED) × RefusesSome named crd rules) ⊎ (s ≡ NO_MEMORY))
+talks named crd rules turns start b before written files reads writes (Ok Closed) s c is nf nr nw = inl (record {
+  loaded = c.talk.loaded;
+  loads = c.talk.loads;
+  answered = elim c.talk.conversed.1 [
+    | inl talk ↦ record { end = closed; after = c.talk.conversed.0; conversation = talk; is_status = is }
+    | inr talk ↦ record { end = closing; after = c.talk.conversed.0; conversation = talk; is_status = is }
+  ];
+})
+talks named crd rules turns start b before written files reads writes (Ok (Torn held)) s c is nf nr nw =
+    inl (record { loaded = c.talk.loaded; loads = c.talk.loads; answered = record { end = torn held; after = c.talk.conversed.0; conversation = c.talk.conversed.1; is_status = is } })
+talks named crd rules turns start b before written files reads writes (Ok (Refused f)) s c is nf nr nw =
+    inl (record { loaded = c.talk.loaded; loads = c.talk.loads; answered = record { end = refused f; after = c.talk.conversed.0; conversation = c.talk.conversed.1; is_status = is } })
+talks named crd rules turns start b before written files reads writes (Ok Spent) s c is nf nr nw =
+    inl (record { loaded = c.talk.loaded; loads = c.talk.loads; answered = record { end = spent; after = c.talk.conversed.0; conversation = c.talk.conversed.1; is_status = is } })
+talks named crd rules turns start b before written files reads writes (Ok ReadFault) s c is nf nr nw = absurd (nr c.blames)
+talks named crd rules turns start b before written files reads writes (Ok WriteFault) s c is nf nr nw = absurd (nw c.blames)
+talks named crd rules turns start b before written files reads writes (Err stops.ReadFailed) s c is nf nr nw = absurd (nf c.unread)
+talks named crd rules turns start b before written files reads writes (Err (stops.Refused file why)) s c is nf nr nw =
     inr (inl (is, (file.now, why_text why, c.refused)))
-talks named crd rules start b before written files reads writes (Err stops.NoMemory) s c is nf nr nw = inr (inr is)
+talks named crd rules turns start b before written files reads writes (Err stops.NoMemory) s c is nf nr nw = inr (inr is)
 
 -- a conversation was held, or none
 pub held : (C : PipeEnd → Type 0) (U V files reads writes : Type 0) (came : Result PipeEnd Stop) (s : ℕ)
@@ -81,17 +85,17 @@ told_ends T L C (Ok end) each = each
 told_ends T L C (Err stop) each = tt
 
 -- what is served has the status of the one end of its input
-pub exactly : (named : Named) (crd rules : List ℕ) (start : Start) (b : List ℕ) (before written : Option (List ℕ)) (s : ℕ) (requests : List Request) (end : End)
+pub exactly : (named : Named) (crd rules : List ℕ) (turns : ℕ) (start : Start) (b : List ℕ) (before written : Option (List ℕ)) (s : ℕ) (requests : List Request) (end : End)
     → ((budget : ℕ) (b : List ℕ) (rs qs : List Request) (d e : End) → Asks budget b rs d → Asks budget b qs e → (rs ≡ qs) × SameEnd b rs d e)
-    → ServesTexts crd rules start b before written s ⊎ (((s ≡ REFUSED) × RefusesSome named crd rules) ⊎ (s ≡ NO_MEMORY))
+    → ServesTexts crd rules turns start b before written s ⊎ (((s ≡ REFUSED) × RefusesSome named crd rules) ⊎ (s ≡ NO_MEMORY))
     → IsServed named crd rules → Asks MOST_REQUESTS b requests end → (s ≡ status_of end) ⊎ (s ≡ NO_MEMORY)
-exactly named crd rules start b before written s requests end one (inl serves) served asks =
+exactly named crd rules turns start b before written s requests end one (inl serves) served asks =
     let talk = serves.answered.conversation in
     inl (serves.answered.is_status
-    ∙ same_status b talk.requests serves.answered.end end (one MOST_REQUESTS b talk.requests requests serves.answered.end end talk.asks asks).1)
-exactly named crd rules start b before written s requests end one (inr (inl bad)) served asks =
+    ∙ same_status b (asked talk.exchanges) serves.answered.end end (one MOST_REQUESTS b (asked talk.exchanges) requests serves.answered.end end (talk.asks b refl) asks).1)
+exactly named crd rules turns start b before written s requests end one (inr (inl bad)) served asks =
     absurd (not_both named crd rules bad.1.0 bad.1.1 served bad.1.2)
-exactly named crd rules start b before written s requests end one (inr (inr memory)) served asks = inr memory
+exactly named crd rules turns start b before written s requests end one (inr (inr memory)) served asks = inr memory
 
 -- a line that is refused isn't served
 pub refuses : (named : Named) (crd rules name why : List ℕ) (files : Type 0) (came : Result PipeEnd Stop) (s : ℕ)
@@ -107,7 +111,6 @@ refuses named crd rules name why files (Err stops.NoMemory) s served unread is n
 -- none ended with bad words
 pub not_bad : (came : Result PipeEnd Stop) (s : ℕ) → s ≡ status_at came → s ≡ BAD_WORDS → ⊥
 not_bad (Ok Closed) s is bad = omega (arith, is, bad)
-not_bad (Ok Closing) s is bad = omega (arith, is, bad)
 not_bad (Ok (Torn held)) s is bad = omega (arith, is, bad)
 not_bad (Ok (Refused f)) s is bad = omega (arith, is, bad)
 not_bad (Ok Spent) s is bad = omega (arith, is, bad)
@@ -121,8 +124,6 @@ not_bad (Err stops.NoMemory) s is bad = omega (arith, is, bad)
 pub not_ended : (end : PipeEnd) (s n : ℕ) → s ≡ pipe_status end → s ≡ n → (n ≡ REFUSED) ⊎ (n ≡ NO_MEMORY) → ⊥
 not_ended Closed s n is e (inl m) = omega (arith, is, e, m)
 not_ended Closed s n is e (inr m) = omega (arith, is, e, m)
-not_ended Closing s n is e (inl m) = omega (arith, is, e, m)
-not_ended Closing s n is e (inr m) = omega (arith, is, e, m)
 not_ended (Torn held) s n is e (inl m) = omega (arith, is, e, m)
 not_ended (Torn held) s n is e (inr m) = omega (arith, is, e, m)
 not_ended (Refused f) s n is e (inl m) = omega (arith, is, e, m)
@@ -156,7 +157,6 @@ pub read_failed : (C : PipeEnd → Type 0) (U V files reads writes : Type 0) (ca
     → s ≡ status_at came → s ≡ READ_FAILED
     → (files × U × V) ⊎ (reads × C ReadFault)
 read_failed C U V files reads writes (Ok Closed) s talk blames u unread is e = absurd (omega (arith, is, e))
-read_failed C U V files reads writes (Ok Closing) s talk blames u unread is e = absurd (omega (arith, is, e))
 read_failed C U V files reads writes (Ok (Torn held)) s talk blames u unread is e = absurd (omega (arith, is, e))
 read_failed C U V files reads writes (Ok (Refused f)) s talk blames u unread is e = absurd (omega (arith, is, e))
 read_failed C U V files reads writes (Ok Spent) s talk blames u unread is e = absurd (omega (arith, is, e))
@@ -171,7 +171,6 @@ pub write_failed : (C : PipeEnd → Type 0) (reads writes : Type 0) (came : Resu
     → IfOk came C → IfOk came (λ end. Blames end reads writes) → s ≡ status_at came → s ≡ WRITE_FAILED
     → writes × C WriteFault
 write_failed C reads writes (Ok Closed) s talk blames is e = absurd (omega (arith, is, e))
-write_failed C reads writes (Ok Closing) s talk blames is e = absurd (omega (arith, is, e))
 write_failed C reads writes (Ok (Torn held)) s talk blames is e = absurd (omega (arith, is, e))
 write_failed C reads writes (Ok (Refused f)) s talk blames is e = absurd (omega (arith, is, e))
 write_failed C reads writes (Ok Spent) s talk blames is e = absurd (omega (arith, is, e))

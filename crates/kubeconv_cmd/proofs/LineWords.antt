@@ -3,13 +3,14 @@ use Rattle.std.proofs.Common.{◌≡◌, ◌≢◌, ◌∙◌, ℕ, ◌<◌, ◌
 use Rattle.std.specs.Prelude.{codes, MatchOption}
 use Rattle.std.proofs.Math.Seq.{take-length}
 use Rattle.std.proofs.lemmas.List.{append_cancel_left}
+use Rattle.std.proofs.lemmas.Fmt.{decimal_injective}
 use Rattle.kj_value.specs.Texts.{bytes_of}
 use Rattle.kj_value.specs.declared.txt.Txt.{Txt}
 use Rattle.kubeconv_cmd.specs.declared.words.Taken.{Taken}
 use Rattle.kubeconv_cmd.specs.declared.words.Given.{Given}
 use Rattle.kubeconv_cmd.specs.declared.words.Command.{Command}
 use Rattle.kubeconv_cmd.specs.Given.{line_of, values_in, TakesFirst, GivesOne, IsCommand}
-use Rattle.kubeconv_cmd.specs.Lines.{built_in, from_files, convert, review, Line, pipe, task, Flag, crd_flag, rules_flag, to_flag, flag_text, IsValue, Begins, apart, joined, Values, no_values, value_at, with_value, Gives, no_more, one_more, command_word, values_of, IsLine}
+use Rattle.kubeconv_cmd.specs.Lines.{built_in, from_files, convert, review, Line, pipe, task, Flag, crd_flag, rules_flag, to_flag, turns_flag, flag_text, IsValue, Begins, apart, joined, Values, no_values, value_at, with_value, Gives, no_more, one_more, command_word, SpellsTurns, HasValues, IsLine}
 
 -- ---- one option
 
@@ -22,6 +23,13 @@ same_flag crd_flag rules_flag x y e = let third : 99 ≡ 114 = ap (λ (s : List 
 same_flag crd_flag to_flag x y e = let third : 99 ≡ 116 = ap (λ (s : List ℕ). get_or s 2 0) e in absurd (omega (arith, third))
 same_flag rules_flag crd_flag x y e = let third : 114 ≡ 99 = ap (λ (s : List ℕ). get_or s 2 0) e in absurd (omega (arith, third))
 same_flag rules_flag to_flag x y e = let third : 114 ≡ 116 = ap (λ (s : List ℕ). get_or s 2 0) e in absurd (omega (arith, third))
+same_flag turns_flag turns_flag x y e = (refl, append_cancel_left (codes "--turns") x y e)
+same_flag crd_flag turns_flag x y e = let third : 99 ≡ 116 = ap (λ (s : List ℕ). get_or s 2 0) e in absurd (omega (arith, third))
+same_flag rules_flag turns_flag x y e = let third : 114 ≡ 116 = ap (λ (s : List ℕ). get_or s 2 0) e in absurd (omega (arith, third))
+same_flag to_flag turns_flag x y e = let fourth : 111 ≡ 117 = ap (λ (s : List ℕ). get_or s 3 0) e in absurd (omega (arith, fourth))
+same_flag turns_flag crd_flag x y e = let third : 116 ≡ 99 = ap (λ (s : List ℕ). get_or s 2 0) e in absurd (omega (arith, third))
+same_flag turns_flag rules_flag x y e = let third : 116 ≡ 114 = ap (λ (s : List ℕ). get_or s 2 0) e in absurd (omega (arith, third))
+same_flag turns_flag to_flag x y e = let fourth : 117 ≡ 111 = ap (λ (s : List ℕ). get_or s 3 0) e in absurd (omega (arith, fourth))
 same_flag to_flag crd_flag x y e = let third : 116 ≡ 99 = ap (λ (s : List ℕ). get_or s 2 0) e in absurd (omega (arith, third))
 same_flag to_flag rules_flag x y e = let third : 116 ≡ 114 = ap (λ (s : List ℕ). get_or s 2 0) e in absurd (omega (arith, third))
 
@@ -29,6 +37,7 @@ flag_alone : (f : Flag) → flag_text f ≡ flag_text f ++ []
 flag_alone crd_flag = refl
 flag_alone rules_flag = refl
 flag_alone to_flag = refl
+flag_alone turns_flag = refl
 
 -- the first word begins with the option's name
 pub front : (w : List ℕ) (ws : List (List ℕ)) (f : Flag) (v : List ℕ) (r : List (List ℕ)) → Begins (w ∷ ws) f v r
@@ -100,39 +109,38 @@ gives_rest ws f v r before after b (one_more words g w s first last c free gives
 
 -- ---- the line
 
-pub one_line : (a b : Line) → command_word a ≡ command_word b → values_of a ≡ values_of b → a ≡ b
-one_line (pipe built_in) (pipe built_in) e f =
-    refl
-one_line (pipe built_in) (pipe (from_files d s)) e f =
-    let crd_is : None ≡ Some d = ap (λ (v : Values). v.crd) f in
-    let rules_is : None ≡ Some s = ap (λ (v : Values). v.rules) f in
+-- a text spells one number
+one_number : (given : Option (List ℕ)) (m n : ℕ) → SpellsTurns given m → SpellsTurns given n → m ≡ n
+one_number None m n one other = one ∙ sym other
+one_number (Some text) m n one other = decimal_injective m n (omega (arith, one.1)) (omega (arith, other.1)) (sym one.0 ∙ other.0)
+
+pub one_line : (a b : Line) (v : Values) → command_word a ≡ command_word b → HasValues a v → HasValues b v → a ≡ b
+one_line (pipe built_in m) (pipe built_in n) v e one other = ap (λ (k : ℕ). pipe built_in k) (one_number v.turns m n one.3 other.3)
+one_line (pipe built_in m) (pipe (from_files d s) n) v e one other = let crd_is : None ≡ Some d = sym one.0 ∙ other.0 in cc
+one_line (pipe built_in m) (task d s (convert w)) v e one other = let first : 112 ≡ 99 = ap (λ (s : List ℕ). get_or s 0 0) e in absurd (omega (arith, first))
+one_line (pipe built_in m) (task d s review) v e one other = let first : 112 ≡ 114 = ap (λ (s : List ℕ). get_or s 0 0) e in absurd (omega (arith, first))
+one_line (pipe (from_files c r) m) (pipe built_in n) v e one other = let crd_is : Some c ≡ None = sym one.0 ∙ other.0 in cc
+one_line (pipe (from_files c r) m) (pipe (from_files d s) n) v e one other =
+    let crd_is : Some c ≡ Some d = sym one.0 ∙ other.0 in
+    let rules_is : Some r ≡ Some s = sym one.1 ∙ other.1 in
+    let turns_are : m ≡ n = one_number v.turns m n one.3 other.3 in
     cc
-one_line (pipe built_in) (task d s (convert w)) e f = let first : 112 ≡ 99 = ap (λ (s : List ℕ). get_or s 0 0) e in absurd (omega (arith, first))
-one_line (pipe built_in) (task d s review) e f = let first : 112 ≡ 114 = ap (λ (s : List ℕ). get_or s 0 0) e in absurd (omega (arith, first))
-one_line (pipe (from_files c r)) (pipe built_in) e f =
-    let crd_is : Some c ≡ None = ap (λ (v : Values). v.crd) f in
-    let rules_is : Some r ≡ None = ap (λ (v : Values). v.rules) f in
+one_line (pipe (from_files c r) m) (task d s (convert w)) v e one other = let first : 112 ≡ 99 = ap (λ (s : List ℕ). get_or s 0 0) e in absurd (omega (arith, first))
+one_line (pipe (from_files c r) m) (task d s review) v e one other = let first : 112 ≡ 114 = ap (λ (s : List ℕ). get_or s 0 0) e in absurd (omega (arith, first))
+one_line (task c r (convert v2)) (pipe built_in n) v e one other = let first : 99 ≡ 112 = ap (λ (s : List ℕ). get_or s 0 0) e in absurd (omega (arith, first))
+one_line (task c r (convert v2)) (pipe (from_files d s) n) v e one other = let first : 99 ≡ 112 = ap (λ (s : List ℕ). get_or s 0 0) e in absurd (omega (arith, first))
+one_line (task c r (convert v2)) (task d s (convert w)) v e one other =
+    let crd_is : Some c ≡ Some d = sym one.0 ∙ other.0 in
+    let rules_is : Some r ≡ Some s = sym one.1 ∙ other.1 in
+    let to_is : Some v2 ≡ Some w = sym one.2 ∙ other.2 in
     cc
-one_line (pipe (from_files c r)) (pipe (from_files d s)) e f =
-    let crd_is : Some c ≡ Some d = ap (λ (v : Values). v.crd) f in
-    let rules_is : Some r ≡ Some s = ap (λ (v : Values). v.rules) f in
-    cc
-one_line (pipe (from_files c r)) (task d s (convert w)) e f = let first : 112 ≡ 99 = ap (λ (s : List ℕ). get_or s 0 0) e in absurd (omega (arith, first))
-one_line (pipe (from_files c r)) (task d s review) e f = let first : 112 ≡ 114 = ap (λ (s : List ℕ). get_or s 0 0) e in absurd (omega (arith, first))
-one_line (task c r (convert v)) (pipe built_in) e f = let first : 99 ≡ 112 = ap (λ (s : List ℕ). get_or s 0 0) e in absurd (omega (arith, first))
-one_line (task c r (convert v)) (pipe (from_files d s)) e f = let first : 99 ≡ 112 = ap (λ (s : List ℕ). get_or s 0 0) e in absurd (omega (arith, first))
-one_line (task c r (convert v)) (task d s (convert w)) e f =
-    let crd_is : Some c ≡ Some d = ap (λ (v : Values). v.crd) f in
-    let rules_is : Some r ≡ Some s = ap (λ (v : Values). v.rules) f in
-    let to_is : Some v ≡ Some w = ap (λ (v : Values). v.to) f in
-    cc
-one_line (task c r (convert v)) (task d s review) e f = let first : 99 ≡ 114 = ap (λ (s : List ℕ). get_or s 0 0) e in absurd (omega (arith, first))
-one_line (task c r review) (pipe built_in) e f = let first : 114 ≡ 112 = ap (λ (s : List ℕ). get_or s 0 0) e in absurd (omega (arith, first))
-one_line (task c r review) (pipe (from_files d s)) e f = let first : 114 ≡ 112 = ap (λ (s : List ℕ). get_or s 0 0) e in absurd (omega (arith, first))
-one_line (task c r review) (task d s (convert w)) e f = let first : 114 ≡ 99 = ap (λ (s : List ℕ). get_or s 0 0) e in absurd (omega (arith, first))
-one_line (task c r review) (task d s review) e f =
-    let crd_is : Some c ≡ Some d = ap (λ (v : Values). v.crd) f in
-    let rules_is : Some r ≡ Some s = ap (λ (v : Values). v.rules) f in
+one_line (task c r (convert v2)) (task d s review) v e one other = let first : 99 ≡ 114 = ap (λ (s : List ℕ). get_or s 0 0) e in absurd (omega (arith, first))
+one_line (task c r review) (pipe built_in n) v e one other = let first : 114 ≡ 112 = ap (λ (s : List ℕ). get_or s 0 0) e in absurd (omega (arith, first))
+one_line (task c r review) (pipe (from_files d s) n) v e one other = let first : 114 ≡ 112 = ap (λ (s : List ℕ). get_or s 0 0) e in absurd (omega (arith, first))
+one_line (task c r review) (task d s (convert w)) v e one other = let first : 114 ≡ 99 = ap (λ (s : List ℕ). get_or s 0 0) e in absurd (omega (arith, first))
+one_line (task c r review) (task d s review) v e one other =
+    let crd_is : Some c ≡ Some d = sym one.0 ∙ other.0 in
+    let rules_is : Some r ≡ Some s = sym one.1 ∙ other.1 in
     cc
 
 -- ---- words in memory
@@ -184,14 +192,14 @@ line_found words first rest values None line is one command l =
     let same : first ∷ rest ≡ command_word line ∷ l.options = sym is ∙ l.command in
     let e : first ≡ command_word line = cc in
     let t : l.options ≡ rest = cc in
-    let g : Gives rest no_values (values_of line) = rw (sym t) l.gives in
-    command line e (sym (one (values_of line) g))
+    let g : Gives rest no_values l.values = rw (sym t) l.gives in
+    command line e (subst (λ (v : Values). HasValues line v) (one l.values g) l.has)
 line_found words first rest values (Some c) line is one command l =
     let same : first ∷ rest ≡ command_word line ∷ l.options = sym is ∙ l.command in
     let e : first ≡ command_word line = cc in
     let t : l.options ≡ rest = cc in
-    let g : Gives rest no_values (values_of line) = rw (sym t) l.gives in
-    one_line line (line_of c) (sym e ∙ command.0) (one (values_of line) g ∙ command.1)
+    let g : Gives rest no_values l.values = rw (sym t) l.gives in
+    one_line line (line_of c) values (sym e ∙ command.0) (subst (λ (v : Values). HasValues line v) (one l.values g) l.has) command.1
 
 -- words give one end
 pub one_end : (ws : List (List ℕ)) (before one other : Values) → Gives ws before one → Gives ws before other → other ≡ one

@@ -1,52 +1,61 @@
 -- Conversations with a server that was opened for a definition.
-use Rattle.std.proofs.Common.{◌≡◌, ◌∙◌, ℕ, List, [], Option, Some, Result, Ok, Err, ap, subst}
+use Rattle.std.proofs.Common.{◌≡◌, ℕ, List, Option, Some, None, Result, Ok, Err, refl, ap, sym, subst}
 use Rattle.std.specs.Prelude.{IfOk}
 use Rattle.kj_value.specs.declared.error.NoMemory.{NoMemory}
-use Rattle.std.specs.Io.KnownBytes.{prepend_known}
-use Rattle.kube_meta.specs.declared.limits.Limits.{Limits}
 use Rattle.kube_meta.specs.declared.limits.TheConstants.Limits.{STANDING}
+use Rattle.api_calls.specs.Item.{items}
 use Rattle.api_calls.specs.Meaning.{Meaning}
-use Rattle.api_core.specs.CoreOf.{CoreOf}
 use Rattle.crd_loading.specs.Load.{Loads}
 use Rattle.crd_loading.specs.View.{LoadedView}
 use Rattle.crd_meaning.specs.Definition.{Definition}
 use Rattle.crd_loading.specs.Set.{set_of}
-use Rattle.http_wire.specs.Inboxes.{Held}
 use Rattle.http_wire.specs.declared.limits.TheConstants.{MOST_REQUESTS}
-use Rattle.object_server.specs.View.{base_of as server_base}
-use Rattle.object_talk.specs.Conversed.{Conversed}
-use Rattle.object_talk.specs.declared.conversation.PipeEnd.{PipeEnd}
-use Rattle.kubeconv_cmd.specs.Serving.{Start, Converses, base_of, meaning_of}
+use Rattle.turn_cell.specs.Views.{IsAlone, opening_view}
+use Rattle.turn_cell.specs.declared.view.View.{View}
+use Rattle.shared_api.specs.Base.{server_of}
+use Rattle.shared_api.specs.Passes.{ApiOf}
+use Rattle.shared_api.specs.declared.cell.CoreBase.{CoreBase}
+use Rattle.http_front.specs.Link.{Links}
+use Rattle.kubeconv_cmd.specs.Serving.{At, AnswersAndWorks, Conversed, Converses, Start, front_of, link_end, meaning_of, opening}
+use Rattle.kubeconv_cmd.specs.declared.pipe.PipeEnd.{PipeEnd}
 
--- an inbox that holds nothing
-pub none_held : (inbox : Held) (known : Option (List ℕ)) (b : List ℕ) → inbox ≡ record { bytes = []; request = 0 } → known ≡ Some b → prepend_known inbox.bytes known ≡ Some b
-none_held inbox known b empty is = ap (λ (i : Held). prepend_known i.bytes known) empty ∙ ap (λ (k : Option (List ℕ)). prepend_known [] k) is
+-- the first pass of a server has the number 0, and is alone
+pub first_number : {B : Type 0} (base : B) (v : View B) → v ≡ opening_view base → v.number ≡ Some 0
+first_number {B = B} base v new = ap (λ (w : View B). w.number) new
 
--- what the server has of its definition, its limits and its number is what it was opened with
-pub opened : {V : Type 0} (meaning : V → Meaning) (c : CoreOf V) (v : V) (boot : ℕ) (told : Option (List ℕ)) (b : List ℕ) (before written : Option (List ℕ)) (end : PipeEnd)
-    → c.versions ≡ v → c.view.limits ≡ STANDING → c.view.boot ≡ boot
-    → Conversed (record { server = server_base meaning c; told = told }) MOST_REQUESTS [] b before written end
-    → Conversed (base_of (meaning v) (record { boot = boot; told = told })) MOST_REQUESTS [] b before written end
-opened {V} meaning c v boot told b before written end versions limits is talk =
-    subst (λ (n : ℕ). Conversed (base_of (meaning v) (record { boot = n; told = told })) MOST_REQUESTS [] b before written end) is
-    (subst (λ (x : Limits). Conversed (record { server = record { meaning = meaning v; limits = x; boot = c.view.boot }; told = told }) MOST_REQUESTS [] b before written end) limits
-    (subst (λ (x : V). Conversed (record { server = record { meaning = meaning x; limits = c.view.limits; boot = c.view.boot }; told = told }) MOST_REQUESTS [] b before written end) versions talk))
+pub first_alone : {B : Type 0} (base : B) (v : View B) → v ≡ opening_view base → IsAlone v
+first_alone {B = B} base v new = subst (λ (w : View B). IsAlone w) (sym new) refl
+
+-- What the server has of its definition, its limits and its number is what it was opened with, and its first pass has seen nothing.
+pub opened : {V : Type 0} (meaning : V → Meaning) (a : ApiOf (CoreBase V)) (v : View (CoreBase V)) (versions : V) (start : Start) (turns : ℕ) (b : List ℕ)
+    (left before written : Option (List ℕ)) (end : PipeEnd) (after : At)
+    → a.base ≡ record { versions = versions; limits = STANDING; boot = start.boot } → v ≡ opening_view a.base → left ≡ Some b
+    → Links (AnswersAndWorks (record { server = server_of meaning a.base; told = start.told }) turns) MOST_REQUESTS ⊥ (link_end end)
+    (record { log = items v.seen; claim = None }) after left before written
+    → Conversed (front_of (meaning versions) start) turns b before written end
+opened {V = V} meaning a v versions start turns b left before written end after base new known link = (
+  after,
+  subst (λ (k : Option (List ℕ)). Links (AnswersAndWorks (front_of (meaning versions) start) turns) MOST_REQUESTS ⊥ (link_end end) opening after k before written) known
+      (subst (λ (c : CoreBase V). Links (AnswersAndWorks (record { server = server_of meaning c; told = start.told }) turns) MOST_REQUESTS ⊥ (link_end end) opening after left before written) base
+      (subst (λ (w : View (CoreBase V)). Links (AnswersAndWorks (record { server = server_of meaning a.base; told = start.told }) turns) MOST_REQUESTS ⊥ (link_end end)
+      (record { log = items w.seen; claim = None }) after left before written) new link)),
+)
 
 -- a definition that was loaded means what its texts do
-pub converses : (crd rules : List ℕ) (start : Start) (b : List ℕ) (before written : Option (List ℕ)) (end : PipeEnd) (d : Definition) (l : LoadedView)
+pub converses : (crd rules : List ℕ) (turns : ℕ) (start : Start) (b : List ℕ) (before written : Option (List ℕ)) (end : PipeEnd) (d : Definition) (l : LoadedView)
     → Loads crd rules l → d ≡ set_of l
-    → Conversed (base_of (meaning_of d) start) MOST_REQUESTS [] b before written end
-    → Converses crd rules start b before written end
-converses crd rules start b before written end d l loads is talk = record {
+    → Conversed (front_of (meaning_of d) start) turns b before written end
+    → Converses crd rules turns start b before written end
+converses crd rules turns start b before written end d l loads is talk = record {
   loaded = l;
   loads = loads;
-  conversed = subst (λ (x : Definition). Conversed (base_of (meaning_of x) start) MOST_REQUESTS [] b before written end) is talk;
+  conversed = subst (λ (x : Definition). Conversed (front_of (meaning_of x) start) turns b before written end) is talk;
 }
 
 -- however it ended
-pub converses_at : (result : Result PipeEnd NoMemory) (crd rules : List ℕ) (start : Start) (b : List ℕ) (before written : Option (List ℕ)) (d : Definition) (l : LoadedView)
+pub converses_at : (result : Result PipeEnd NoMemory) (crd rules : List ℕ) (turns : ℕ) (start : Start) (b : List ℕ) (before written : Option (List ℕ)) (d : Definition) (l : LoadedView)
     → Loads crd rules l → d ≡ set_of l
-    → IfOk result (Conversed (base_of (meaning_of d) start) MOST_REQUESTS [] b before written)
-    → IfOk result (Converses crd rules start b before written)
-converses_at (Ok end) crd rules start b before written d l loads is talk = converses crd rules start b before written end d l loads is talk
-converses_at (Err e) crd rules start b before written d l loads is talk = tt
+    → IfOk result (Conversed (front_of (meaning_of d) start) turns b before written)
+    → IfOk result (Converses crd rules turns start b before written)
+converses_at (Ok end) crd rules turns start b before written d l loads is talk = converses crd rules turns start b before written end d l loads is talk
+converses_at (Err e) crd rules turns start b before written d l loads is talk = tt

@@ -1,6 +1,6 @@
 -- For private clauses: what the code's own types stand for.
 use Rattle.std.specs.Prelude.{ℕ, List, codes, Result, Ok, Err}
-use Rattle.object_talk.specs.declared.conversation.PipeEnd.{PipeEnd}
+use Rattle.kubeconv_cmd.specs.declared.pipe.PipeEnd.{PipeEnd}
 use Rattle.kubeconv_cmd.specs.declared.stop.Why.{Why}
 use Rattle.kubeconv_cmd.specs.declared.stop.Why.TheVariants as whys
 use Rattle.kubeconv_cmd.specs.declared.stop.Stop.{Stop}

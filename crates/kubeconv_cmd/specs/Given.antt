@@ -11,7 +11,7 @@ use Rattle.kubeconv_cmd.specs.declared.words.Flag.{Flag as FlagCode}
 use Rattle.kubeconv_cmd.specs.declared.words.Flag.TheVariants as flags
 use Rattle.kubeconv_cmd.specs.declared.words.Taken.{Taken}
 use Rattle.kubeconv_cmd.specs.declared.words.Given.{Given}
-use Rattle.kubeconv_cmd.specs.Lines.{Named, built_in, from_files, Task, convert, review, Line, pipe, task, Flag, crd_flag, rules_flag, to_flag, Begins, Values, Gives, command_word, values_of}
+use Rattle.kubeconv_cmd.specs.Lines.{Named, built_in, from_files, Task, convert, review, Line, pipe, task, Flag, crd_flag, rules_flag, to_flag, turns_flag, Begins, Values, Gives, command_word, HasValues}
 
 abbrev pub named_of : NamedCode → Named
 named_of named.BuiltIn = built_in
@@ -22,16 +22,17 @@ task_of (tasks.Convert to) = convert to.now
 task_of tasks.Review = review
 
 abbrev pub line_of : Command → Line
-line_of (commands.Pipe n) = pipe (named_of n)
+line_of (commands.Pipe n turns) = pipe (named_of n) turns
 line_of (commands.Task crd rules t) = task crd.now rules.now (task_of t)
 
 abbrev pub flag_in : FlagCode → Flag
 flag_in flags.Crd = crd_flag
 flag_in flags.Rules = rules_flag
 flag_in flags.To = to_flag
+flag_in flags.Turns = turns_flag
 
 abbrev pub values_in : Given → Values
-values_in g = record { crd = option_map (λ x. x.now) g.crd; rules = option_map (λ x. x.now) g.rules; to = option_map (λ x. x.now) g.to }
+values_in g = record { crd = option_map (λ x. x.now) g.crd; rules = option_map (λ x. x.now) g.rules; to = option_map (λ x. x.now) g.to; turns = option_map (λ x. x.now) g.turns }
 
 -- the option that the words begin with, and none where nothing is told
 abbrev pub TakesFirst : List (List ℕ) → Option Taken → Type 0
@@ -48,5 +49,5 @@ GivesOne words before o = MatchOption o
 -- the line of that command with those options, and none where nothing is told
 abbrev pub IsCommand : List ℕ → Values → Option Command → Type 0
 IsCommand word values o = MatchOption o
-    ((line : Line) → word ≡ command_word line → values ≡ values_of line → ⊥)
-    (λ c. (word ≡ command_word (line_of c)) × (values ≡ values_of (line_of c)))
+    ((line : Line) → word ≡ command_word line → HasValues line values → ⊥)
+    (λ c. (word ≡ command_word (line_of c)) × HasValues (line_of c) values)

@@ -1,5 +1,6 @@
 -- The lines of the program, and the words that they are.
-use Rattle.std.specs.Prelude.{◌≡◌, ◌≢◌, ◌++◌, ℕ, List, [], ◌∷◌, Option, None, Some, codes}
+use Rattle.std.specs.Prelude.{◌≡◌, ◌≢◌, ◌≤◌, ◌++◌, ℕ, List, [], ◌∷◌, Option, None, Some, codes, decimal}
+use Rattle.kubeconv_cmd.specs.declared.turns.TheConstants.{MOST_TURNS}
 use Rattle.built_in.specs.Texts.{definition_text, rules_text}
 
 -- the definition that a line names: the one that is built in, or the one of a file, with the rules of conversion of another
@@ -15,14 +16,14 @@ pub data Task : Type 0 where
   review : Task
 
 pub data Line : Type 0 where
-  -- answers requests by a definition
-  pipe : Named → Line
+  -- answers requests by a definition, and takes so many turns of a worker after each answer
+  pipe : Named → ℕ → Line
   -- reads one document and writes one line, by the definition of one file with the rules of another
   task : List ℕ → List ℕ → Task → Line
 
 -- the definition that a line names
 abbrev pub named_in : Line → Named
-named_in (pipe named) = named
+named_in (pipe named turns) = named
 named_in (task crd rules t) = from_files crd rules
 
 -- ---- options
@@ -31,11 +32,13 @@ pub data Flag : Type 0 where
   crd_flag : Flag
   rules_flag : Flag
   to_flag : Flag
+  turns_flag : Flag
 
 abbrev pub flag_text : Flag → List ℕ
 flag_text crd_flag = codes "--crd"
 flag_text rules_flag = codes "--rules"
 flag_text to_flag = codes "--to"
+flag_text turns_flag = codes "--turns"
 
 -- the byte `-`
 abbrev pub dash : ℕ
@@ -56,19 +59,22 @@ pub record Values : Type 0 where
   pub crd : Option (List ℕ)
   pub rules : Option (List ℕ)
   pub to : Option (List ℕ)
+  pub turns : Option (List ℕ)
 
 abbrev pub no_values : Values
-no_values = record { crd = None; rules = None; to = None }
+no_values = record { crd = None; rules = None; to = None; turns = None }
 
 abbrev pub value_at : Flag → Values → Option (List ℕ)
 value_at crd_flag values = values.crd
 value_at rules_flag values = values.rules
 value_at to_flag values = values.to
+value_at turns_flag values = values.turns
 
 abbrev pub with_value : Flag → List ℕ → Values → Values
 with_value crd_flag value values = record values { crd = Some value }
 with_value rules_flag value values = record values { rules = Some value }
 with_value to_flag value values = record values { to = Some value }
+with_value turns_flag value values = record values { turns = Some value }
 
 -- behind options of these values the words are options, each of which is given once, and all values are those in the end
 pub data Gives : List (List ℕ) → Values → Values → Type 0 where
@@ -80,22 +86,29 @@ pub data Gives : List (List ℕ) → Values → Values → Type 0 where
 -- ---- lines
 
 abbrev pub command_word : Line → List ℕ
-command_word (pipe named) = codes "pipe"
+command_word (pipe named turns) = codes "pipe"
 command_word (task crd rules (convert to)) = codes "convert"
 command_word (task crd rules review) = codes "review"
 
--- the options that a line has, in any order
-abbrev pub values_of : Line → Values
-values_of (pipe built_in) = no_values
-values_of (pipe (from_files crd rules)) = record { crd = Some crd; rules = Some rules; to = None }
-values_of (task crd rules (convert to)) = record { crd = Some crd; rules = Some rules; to = Some to }
-values_of (task crd rules review) = record { crd = Some crd; rules = Some rules; to = None }
+-- how many turns are spelled: in decimal digits without leading zeros, up to the most; none where nothing is given
+abbrev pub SpellsTurns : Option (List ℕ) → ℕ → Type 0
+SpellsTurns None turns = turns ≡ 0
+SpellsTurns (Some text) turns = (text ≡ decimal turns) × (turns ≤ MOST_TURNS)
+
+-- the options that a line has, in any order, are given with these values
+abbrev pub HasValues : Line → Values → Type 0
+HasValues (pipe built_in turns) v = (v.crd ≡ None) × (v.rules ≡ None) × (v.to ≡ None) × SpellsTurns v.turns turns
+HasValues (pipe (from_files crd rules) turns) v = (v.crd ≡ Some crd) × (v.rules ≡ Some rules) × (v.to ≡ None) × SpellsTurns v.turns turns
+HasValues (task crd rules (convert to)) v = (v.crd ≡ Some crd) × (v.rules ≡ Some rules) × (v.to ≡ Some to) × (v.turns ≡ None)
+HasValues (task crd rules review) v = (v.crd ≡ Some crd) × (v.rules ≡ Some rules) × (v.to ≡ None) × (v.turns ≡ None)
 
 -- the words are this line
 pub record IsLine (words : List (List ℕ)) (line : Line) : Type 0 where
   pub options : List (List ℕ)
+  pub values : Values
   pub command : words ≡ command_word line ∷ options
-  pub gives : Gives options no_values (values_of line)
+  pub gives : Gives options no_values values
+  pub has : HasValues line values
 
 -- ---- files
 

@@ -1,19 +1,29 @@
 -- What it is to serve the definition that two texts are.
-use Rattle.std.specs.Prelude.{◌≡◌, ◌⊎◌, ℕ, List, [], Option}
+use Rattle.std.specs.Prelude.{◌≡◌, ◌⊎◌, ◌+◌, ℕ, List, [], Option, None, Some}
 use Rattle.kube_meta.specs.declared.limits.TheConstants.Limits.{STANDING}
+use Rattle.api_calls.specs.Calls.{Server}
+use Rattle.api_calls.specs.Ends.{grown}
+use Rattle.api_calls.specs.Item.{Item}
 use Rattle.api_calls.specs.Meaning.{Meaning}
+use Rattle.api_calls.specs.Reply.{ReplyView}
+use Rattle.api_calls.specs.State.{revision, state}
+use Rattle.api_calls.specs.Work.{Turn, work_decision}
 use Rattle.crd_meaning.specs.Definition.{Definition}
 use Rattle.crd_laws.specs.Loaded.{loaded_meaning}
 use Rattle.crd_settings.specs.Settled.{settings_of}
 use Rattle.crd_loading.specs.Load.{Loads}
 use Rattle.crd_loading.specs.View.{LoadedView}
 use Rattle.crd_loading.specs.Set.{set_of}
+use Rattle.http_wire.specs.Head.{Request}
 use Rattle.http_wire.specs.Stream.{End}
 use Rattle.http_wire.specs.declared.limits.TheConstants.{MOST_REQUESTS}
-use Rattle.object_talk.specs.Answering.{ConversationBase}
-use Rattle.object_talk.specs.Talk.{Conversation}
-use Rattle.object_talk.specs.Conversed.{Blames, Conversed}
-use Rattle.object_talk.specs.declared.conversation.PipeEnd.{PipeEnd}
+use Rattle.http_front.specs.Link.{LinkBlames, Links}
+use Rattle.http_front.specs.Replies.{Front, Replies}
+use Rattle.http_front.specs.Talk.{Conversation}
+use Rattle.http_front.specs.declared.link.End.{End as LinkEnd}
+use Rattle.http_front.specs.declared.link.End.TheVariants as links
+use Rattle.kubeconv_cmd.specs.declared.pipe.PipeEnd.{PipeEnd}
+use Rattle.kubeconv_cmd.specs.declared.pipe.PipeEnd.TheVariants.{Closed, Torn, Refused, Spent, ReadFault, WriteFault}
 use Rattle.kubeconv_cmd.specs.Status.{status_of, pipe_status}
 use Rattle.kubeconv_cmd.specs.Lines.{Task, Line, pipe, task}
 use Rattle.kubeconv_cmd.specs.Tasks.{AnswersTexts, RefusesTexts, Wrote}
@@ -25,8 +35,75 @@ pub record Start : Type 0 where
   pub told : Option (List ℕ)
 
 -- what no request changes, where definitions mean this
-abbrev pub base_of : Meaning → Start → ConversationBase
-base_of m start = record { server = record { meaning = m; limits = STANDING; boot = start.boot }; told = start.told }
+abbrev pub front_of : Meaning → Start → Front
+front_of m start = record { server = record { meaning = m; limits = STANDING; boot = start.boot }; told = start.told }
+
+-- ---- a server of one thread
+
+-- The reply to a request at the history, and the history after it, which nothing but what the requests enter is in. There is no
+-- tool that could fail.
+pub record AnswersAlone (f : Front) (log : List Item) (r : Request) (a : ReplyView) (after : List Item) : Type 0 where
+  pub item : Option Item
+  pub replies : Replies f ⊥ log log r a item
+  pub grows : after ≡ grown log item
+
+-- ---- a worker beside it
+
+-- the history, and the claim of the worker
+pub record At : Type 0 where
+  pub log : List Item
+  pub claim : Option ℕ
+
+-- nothing is entered, and the worker has no claim
+abbrev pub opening : At
+opening = record { log = []; claim = None }
+
+-- what is decided of a turn of the worker
+abbrev pub turn_at : Server → At → Turn
+turn_at s p = work_decision (revision p.log + 1) (state s.meaning p.log) p.claim
+
+-- where a turn leads
+abbrev pub turned : Server → At → At
+turned s p = record { log = grown p.log (turn_at s p).decision.item; claim = (turn_at s p).claim }
+
+-- The worker takes a turn, which is as it is decided; or memory is wanted for it, and then nothing changes.
+abbrev pub TakesTurn : Server → At → At → Type 0
+TakesTurn s p q = (q ≡ turned s p) ⊎ (q ≡ p)
+
+-- so many turns, one after the other
+pub data TakesTurns (s : Server) (p : At) : ℕ → At → Type 0 where
+  no_turn : TakesTurns s p 0 p
+  one_more : (n : ℕ) (mid q : At) → TakesTurns s p n mid → TakesTurn s mid q → TakesTurns s p (n + 1) q
+
+-- A request is answered at the history, and then the worker takes so many turns.
+pub record AnswersAndWorks (f : Front) (turns : ℕ) (p : At) (r : Request) (a : ReplyView) (q : At) : Type 0 where
+  pub mid : List Item
+  pub answers : AnswersAlone f p.log r a mid
+  pub works : TakesTurns f.server (record { log = mid; claim = p.claim }) turns q
+
+-- ---- a connection
+
+-- how the connection ended
+abbrev pub link_end : PipeEnd → LinkEnd
+link_end Closed = links.Closed
+link_end (Torn held) = links.Torn held
+link_end (Refused f) = links.Refused f
+link_end Spent = links.Spent
+link_end ReadFault = links.ReadFault
+link_end WriteFault = links.WriteFault
+
+-- The input was answered from a history with nothing in it to this end, with so many turns of the worker after each answer. A
+-- fault of reading comes behind the answers to the first requests. A fault of writing comes behind those and a front of one more
+-- response.
+abbrev pub Conversed : Front → ℕ → List ℕ → Option (List ℕ) → Option (List ℕ) → PipeEnd → Type 0
+Conversed f turns input before written end =
+    (after : At) × Links (AnswersAndWorks f turns) MOST_REQUESTS ⊥ (link_end end) opening after (Some input) before written
+
+-- a fault of reading has this cause, and one of writing that
+abbrev pub Blames : PipeEnd → Type 0 → Type 0 → Type 0
+Blames end reads writes = LinkBlames (link_end end) reads writes
+
+-- ---- a definition that is served
 
 -- what a definition means to requests
 abbrev pub meaning_of : Definition → Meaning
@@ -36,22 +113,23 @@ abbrev pub served_meaning : LoadedView → Meaning
 served_meaning l = meaning_of (set_of l)
 
 -- The input was answered whole, beginning with nothing entered, and the status is that of its end.
-pub record Answered (base : ConversationBase) (input : List ℕ) (before written : Option (List ℕ)) (status : ℕ) : Type 0 where
+pub record Answered (f : Front) (turns : ℕ) (input : List ℕ) (before written : Option (List ℕ)) (status : ℕ) : Type 0 where
   pub end : End
-  pub conversation : Conversation base MOST_REQUESTS [] input before written end
+  pub after : At
+  pub conversation : Conversation (AnswersAndWorks f turns) MOST_REQUESTS opening after (Some input) before written end
   pub is_status : status ≡ status_of end
 
 -- the same by the definition and the rules that two texts are
-pub record ServesTexts (crd rules : List ℕ) (start : Start) (input : List ℕ) (before written : Option (List ℕ)) (status : ℕ) : Type 0 where
+pub record ServesTexts (crd rules : List ℕ) (turns : ℕ) (start : Start) (input : List ℕ) (before written : Option (List ℕ)) (status : ℕ) : Type 0 where
   pub loaded : LoadedView
   pub loads : Loads crd rules loaded
-  pub answered : Answered (base_of (served_meaning loaded) start) input before written status
+  pub answered : Answered (front_of (served_meaning loaded) start) turns input before written status
 
 -- their conversation ended so, and the outside may have broken it off
-pub record Converses (crd rules : List ℕ) (start : Start) (input : List ℕ) (before written : Option (List ℕ)) (end : PipeEnd) : Type 0 where
+pub record Converses (crd rules : List ℕ) (turns : ℕ) (start : Start) (input : List ℕ) (before written : Option (List ℕ)) (end : PipeEnd) : Type 0 where
   pub loaded : LoadedView
   pub loads : Loads crd rules loaded
-  pub conversed : Conversed (base_of (served_meaning loaded) start) MOST_REQUESTS [] input before written end
+  pub conversed : Conversed (front_of (served_meaning loaded) start) turns input before written end
 
 -- A conversation was held to this end, and the status is that of the end. A fault of the input has one cause, and one of the
 -- output another.
@@ -75,5 +153,5 @@ pub data RanTask (crd rules : List ℕ) (t : Task) (input : List ℕ) (before wr
 -- What a line with the definition of these texts does with an input, where nothing fails: what is written behind what was, and
 -- the status.
 abbrev pub Ran : Line → List ℕ → List ℕ → Start → List ℕ → Option (List ℕ) → Option (List ℕ) → ℕ → Type 0
-Ran (pipe named) crd rules start input before written status = ServesTexts crd rules start input before written status
+Ran (pipe named turns) crd rules start input before written status = ServesTexts crd rules turns start input before written status
 Ran (task c r t) crd rules start input before written status = RanTask crd rules t input before written status

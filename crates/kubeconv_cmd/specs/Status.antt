@@ -1,8 +1,8 @@
 -- The status of a run, and what it says of a fault.
 use Rattle.std.specs.Prelude.{◌==◌, ◌++◌, ℕ, List, [], codes, if◌then◌else◌}
 use Rattle.http_wire.specs.Stream.{End, closed, closing, spent, torn, refused}
-use Rattle.object_talk.specs.declared.conversation.PipeEnd.{PipeEnd}
-use Rattle.object_talk.specs.declared.conversation.PipeEnd.TheVariants.{Closed, Closing, Torn, Refused, Spent, ReadFault, WriteFault}
+use Rattle.kubeconv_cmd.specs.declared.pipe.PipeEnd.{PipeEnd}
+use Rattle.kubeconv_cmd.specs.declared.pipe.PipeEnd.TheVariants.{Closed, Torn, Refused, Spent, ReadFault, WriteFault}
 use Rattle.kubeconv_cmd.specs.declared.status.TheConstants.{DONE, BAD_WORDS, READ_FAILED, WRITE_FAILED, NO_MEMORY, CUT, TOO_MANY}
 
 -- the status of the end of an input
@@ -16,7 +16,6 @@ status_of spent = TOO_MANY
 -- the status of a conversation's end
 abbrev pub pipe_status : PipeEnd → ℕ
 pipe_status Closed = DONE
-pipe_status Closing = DONE
 pipe_status ReadFault = READ_FAILED
 pipe_status WriteFault = WRITE_FAILED
 pipe_status (Torn held) = CUT

@@ -16,6 +16,7 @@ use crate::input::MOST_INPUT_BYTES;
 use crate::status::{
     BAD_INPUT, BAD_WORDS, CUT, DONE, NO_MEMORY, READ_FAILED, REFUSED, TOO_MANY, WRITE_FAILED,
 };
+use crate::turns::MOST_TURNS;
 
 /// The statuses.
 pub fn statuses()
@@ -40,5 +41,6 @@ pub fn bounds()
     ensures measure { most_measure ≡ 262_144 }
     ensures labels { most_label_bytes ≡ 63 }
     ensures documents { MOST_INPUT_BYTES ≡ 4_194_304 }
+    ensures turns { MOST_TURNS ≡ 1_000 }
     ensures finalizers { (most_finalizers ≡ 64) × (most_finalizer_bytes ≡ 317) }
 {}

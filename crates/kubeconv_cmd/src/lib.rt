@@ -1,7 +1,7 @@
 //! The program as a function: words, files, streams and a clock in, a status out.
 //!
 //! The crate's one contract is that of `run`: of `pipe` what was written is what a one-thread server of the definition answers to
-//! the requests that the input spells, and the status is that of the input's end; of `convert` and `review` it is the one line that
+//! the requests that the input spells, with so many turns of a worker after each, and the status is that of the input's end; of `convert` and `review` it is the one line that
 //! the definition makes of the input, or the error line says why there is none; or a file is refused, and the error line says
 //! where and why. It knows nothing of how definitions are loaded, of how requests are read from bytes, of what they are
 //! answered, of how documents are converted and reviews answered, nor of where files and streams come from.
@@ -12,6 +12,7 @@ pub mod laws;
 // The words, and the definition that they name.
 mod loading;
 mod stop;
+mod turns;
 mod words;
 
 // The work of `pipe`.
@@ -33,4 +34,5 @@ pub use status::{
     BAD_INPUT, BAD_WORDS, CUT, DONE, NO_MEMORY, READ_FAILED, REFUSED, TOO_MANY, WRITE_FAILED, ended,
 };
 pub use top::run;
+pub use turns::MOST_TURNS;
 pub use words::Words;

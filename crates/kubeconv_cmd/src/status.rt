@@ -9,9 +9,9 @@ ghost use Rattle.kubeconv_cmd.specs.Ends.{line_at, status_at, why_text};
 ghost use Rattle.kubeconv_cmd.specs.Halts.{task_line, task_status};
 
 use crate::halt::Halt;
+use crate::pipe::PipeEnd;
 use crate::stop::{Stop, Why};
 use edge_io::{Failed, Sink, send};
-use object_talk::PipeEnd;
 
 /// Done: of `pipe` the input was read to its end between two requests, or an answered request asked for closing.
 pub const DONE: u8 = 0;
@@ -54,7 +54,6 @@ fn status_of(end: PipeEnd) -> u8
 {
     match end {
         PipeEnd::Closed => DONE,
-        PipeEnd::Closing => DONE,
         PipeEnd::ReadFault => READ_FAILED,
         PipeEnd::WriteFault => WRITE_FAILED,
         PipeEnd::Torn { held: _ } => CUT,

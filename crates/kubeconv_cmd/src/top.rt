@@ -5,7 +5,7 @@ ghost use Rattle.edge_io.specs.Causes.{Rose};
 ghost use Rattle.http_wire.specs.Head.{Request};
 ghost use Rattle.http_wire.specs.Stream.{End, Asks};
 ghost use Rattle.http_wire.specs.declared.limits.TheConstants.{MOST_REQUESTS};
-ghost use Rattle.object_talk.specs.declared.conversation.PipeEnd.TheVariants.{ReadFault as ReadFaulted, WriteFault as WriteFaulted};
+ghost use Rattle.kubeconv_cmd.specs.declared.pipe.PipeEnd.TheVariants.{ReadFault as ReadFaulted, WriteFault as WriteFaulted};
 ghost use Rattle.kubeconv_cmd.specs.Lines.{Named, Task as TaskView, Line, pipe, task as task_line, IsLine, Texts, named_in};
 ghost use Rattle.kubeconv_cmd.specs.Tasks.{AnswersTexts, Wrote, Broke, RefusesTexts};
 ghost use Rattle.kubeconv_cmd.specs.Serving.{Ran, Converses, Held, IsUnheld};
@@ -25,7 +25,8 @@ use std::sync::Wait;
 use std::thread::Threads;
 
 // Does what the words ask for.
-fn run_command<F: Files, S: Source, K: Sink, E: Sink, C: Clock>(
+fn run_command<R: Wait, F: Files, S: Source, K: Sink, E: Sink, C: Clock>(
+    rt: &R,
     alloc: Global,
     command: Command<'_>,
     files: &mut F,
@@ -39,12 +40,12 @@ fn run_command<F: Files, S: Source, K: Sink, E: Sink, C: Clock>(
         → ¬ (Rose (F.faults files.old) (F.faults files.new)) → ¬ (Rose (S.faults input.old) (S.faults input.new)) → ¬ (Rose (K.faults output.old) (K.faults output.new))
         → Ran line crd rules (record { boot = boot; told = C.told clock.now }) b (K.written output.old) (K.written output.new) result
         ⊎ (((result ≡ REFUSED) × RefusesSome (named_in line) crd rules) ⊎ (result ≡ NO_MEMORY)) }
-    ensures held { (named : Named) → line_of command.entry ≡ pipe named
+    ensures held { (named : Named) (turns : ℕ) → line_of command.entry ≡ pipe named turns
         → Held (λ end. (crd rules b : List ℕ) → Texts (F.file files.old) named crd rules → S.left input.old ≡ Some b
-        → Converses crd rules (record { boot = boot; told = C.told clock.now }) b (K.written output.old) (K.written output.new) end)
+        → Converses crd rules turns (record { boot = boot; told = C.told clock.now }) b (K.written output.old) (K.written output.new) end)
         (Rose (S.faults input.old) (S.faults input.new)) (Rose (K.faults output.old) (K.faults output.new)) result
         ⊎ (IsUnheld (Rose (F.faults files.old) (F.faults files.new)) result × (input.new ≡ input.old) × (output.new ≡ output.old)) }
-    ensures exact { (named : Named) (crd rules b : List ℕ) (requests : List Request) (end : End) → line_of command.entry ≡ pipe named → Texts (F.file files.old) named crd rules → S.left input.old ≡ Some b
+    ensures exact { (named : Named) (turns : ℕ) (crd rules b : List ℕ) (requests : List Request) (end : End) → line_of command.entry ≡ pipe named turns → Texts (F.file files.old) named crd rules → S.left input.old ≡ Some b
         → ¬ (Rose (F.faults files.old) (F.faults files.new)) → ¬ (Rose (S.faults input.old) (S.faults input.new)) → ¬ (Rose (K.faults output.old) (K.faults output.new))
         → IsServed named crd rules → Asks MOST_REQUESTS b requests end → (result ≡ status_of end) ⊎ (result ≡ NO_MEMORY) }
     ensures refused { (line : Line) (crd rules name why : List ℕ) → line_of command.entry ≡ line → Texts (F.file files.old) (named_in line) crd rules
@@ -52,12 +53,12 @@ fn run_command<F: Files, S: Source, K: Sink, E: Sink, C: Clock>(
     ensures refusal { (line : Line) → line_of command.entry ≡ line → result ≡ REFUSED
         → (name : List ℕ) × (why : List ℕ) × ((crd rules : List ℕ) → Texts (F.file files.old) (named_in line) crd rules → RefusesNamed (named_in line) crd rules name why)
         × (¬ (Rose (E.faults errors.old) (E.faults errors.new)) → E.written errors.new ≡ append_known (E.written errors.old) (refusal_line name why)) }
-    ensures unread { (named : Named) (crd rules b : List ℕ) → line_of command.entry ≡ pipe named → Texts (F.file files.old) named crd rules → S.left input.old ≡ Some b → result ≡ READ_FAILED
+    ensures unread { (named : Named) (turns : ℕ) (crd rules b : List ℕ) → line_of command.entry ≡ pipe named turns → Texts (F.file files.old) named crd rules → S.left input.old ≡ Some b → result ≡ READ_FAILED
         → (Rose (F.faults files.old) (F.faults files.new) × (input.new ≡ input.old) × (output.new ≡ output.old))
         ⊎ (Rose (S.faults input.old) (S.faults input.new)
-        × Converses crd rules (record { boot = boot; told = C.told clock.now }) b (K.written output.old) (K.written output.new) ReadFaulted) }
-    ensures unwritten { (named : Named) (crd rules b : List ℕ) → line_of command.entry ≡ pipe named → Texts (F.file files.old) named crd rules → S.left input.old ≡ Some b → result ≡ WRITE_FAILED
-        → Converses crd rules (record { boot = boot; told = C.told clock.now }) b (K.written output.old) (K.written output.new) WriteFaulted }
+        × Converses crd rules turns (record { boot = boot; told = C.told clock.now }) b (K.written output.old) (K.written output.new) ReadFaulted) }
+    ensures unwritten { (named : Named) (turns : ℕ) (crd rules b : List ℕ) → line_of command.entry ≡ pipe named turns → Texts (F.file files.old) named crd rules → S.left input.old ≡ Some b → result ≡ WRITE_FAILED
+        → Converses crd rules turns (record { boot = boot; told = C.told clock.now }) b (K.written output.old) (K.written output.new) WriteFaulted }
     ensures wrote { (c r crd rules b : List ℕ) (t : TaskView) → line_of command.entry ≡ task_line c r t → Texts (F.file files.old) (named_in (task_line c r t)) crd rules → S.left input.old ≡ Some b
         → result ≡ DONE → Wrote (AnswersTexts crd rules t b) (K.written output.old) (K.written output.new) }
     ensures whole { (c r : List ℕ) (t : TaskView) → line_of command.entry ≡ task_line c r t → result ≡ DONE
@@ -68,19 +69,23 @@ fn run_command<F: Files, S: Source, K: Sink, E: Sink, C: Clock>(
     ensures bad_input { (c r : List ℕ) (t : TaskView) → line_of command.entry ≡ task_line c r t → result ≡ BAD_INPUT
         → (why : List ℕ) × ((crd rules b : List ℕ) → Texts (F.file files.old) (named_in (task_line c r t)) crd rules → S.left input.old ≡ Some b → RefusesTexts crd rules t b why)
         × (¬ (Rose (E.faults errors.old) (E.faults errors.new)) → E.written errors.new ≡ append_known (E.written errors.old) (line_saying why)) }
-    ensures no_task { (named : Named) → line_of command.entry ≡ pipe named → result ≢ BAD_INPUT }
+    ensures no_task { (named : Named) (turns : ℕ) → line_of command.entry ≡ pipe named turns → result ≢ BAD_INPUT }
     ensures read_fault { result ≡ READ_FAILED → Rose (F.faults files.old) (F.faults files.new) ⊎ Rose (S.faults input.old) (S.faults input.new) }
     ensures write_fault { result ≡ WRITE_FAILED → Rose (K.faults output.old) (K.faults output.new) }
     ensures words { result ≢ BAD_WORDS }
     ensures memory { result ≡ NO_MEMORY → output.new ≡ output.old }
-    ensures unread_memory { (named : Named) → line_of command.entry ≡ pipe named → result ≡ NO_MEMORY → input.new ≡ input.old }
+    ensures unread_memory { (named : Named) (turns : ℕ) → line_of command.entry ≡ pipe named turns → result ≡ NO_MEMORY → input.new ≡ input.old }
     ensures unserved { result ≡ REFUSED → (input.new ≡ input.old) × (output.new ≡ output.old) }
     ensures errors { result ≢ REFUSED → result ≢ BAD_INPUT → ¬ (Rose (E.faults errors.old) (E.faults errors.new))
         → E.written errors.new ≡ append_known (E.written errors.old) (error_line result) }
     ensures kept { (name : List ℕ) → F.file files.new name ≡ F.file files.old name }
 {
     match command {
-        Command::Pipe(named) => run_pipe(alloc, named, files, input, output, errors, clock, boot),
+        Command::Pipe { named, turns } => {
+            run_pipe(
+                rt, alloc, named, files, input, output, errors, clock, boot, turns,
+            )
+        }
         Command::Task { crd, rules, task } => {
             run_task(alloc, crd, rules, task, files, input, output, errors)
         }
@@ -90,8 +95,10 @@ fn run_command<F: Files, S: Source, K: Sink, E: Sink, C: Clock>(
 /// Does what the words say, and answers the status of the program. The words are a command and its options in any order, each
 /// given once, as `--x v` or as `--x=v`. A value isn't empty and doesn't begin with `-`.
 ///
-/// - `pipe`, or `pipe --crd FILE --rules FILE`: the requests of `input` are answered on `output`, by the definition that is built
-///   in or by that of the two files, from a server that begins with no objects and has the number `boot`.
+/// - `pipe`, or `pipe --crd FILE --rules FILE`, either with `--turns N`: the requests of `input` are answered on `output`, by the
+///   definition that is built in or by that of the two files, from a server that begins with no objects and has the number `boot`.
+///   After each answer one worker of migrations takes N turns, 0 to 1,000, and 0 where no number is given. N is spelled in decimal
+///   digits without leading zeros. The worker keeps its claim from one answer to the next.
 /// - `convert --crd FILE --rules FILE --to VERSION`: `input` is one document, and what is written is the text of its value at the
 ///   version, with the end of a line.
 /// - `review --crd FILE --rules FILE`: `input` is a review of a request, and what is written is the text of its response, with the
@@ -125,7 +132,7 @@ pub fn run<
     A: Ears,
     C: Clock + Sync,
 >(
-    _rt: &R,
+    rt: &R,
     alloc: Global,
     words: &Words,
     files: &mut F,
@@ -144,13 +151,13 @@ pub fn run<
         ⊎ (((result ≡ REFUSED) × RefusesSome (named_in line) crd rules) ⊎ (result ≡ NO_MEMORY)) }
     // Whatever the outside did, a conversation was held to some end, and the status is that of the end; or none was held, and
     // nothing was read of the input or written.
-    ensures held { (named : Named) → IsLine words.now (pipe named)
+    ensures held { (named : Named) (turns : ℕ) → IsLine words.now (pipe named turns)
         → Held (λ end. (crd rules b : List ℕ) → Texts (F.file files.old) named crd rules → S.left input.old ≡ Some b
-        → Converses crd rules (record { boot = boot; told = C.told clock.now }) b (K.written output.old) (K.written output.new) end)
+        → Converses crd rules turns (record { boot = boot; told = C.told clock.now }) b (K.written output.old) (K.written output.new) end)
         (Rose (S.faults input.old) (S.faults input.new)) (Rose (K.faults output.old) (K.faults output.new)) result
         ⊎ (IsUnheld (Rose (F.faults files.old) (F.faults files.new)) result × (input.new ≡ input.old) × (output.new ≡ output.old)) }
     // Where the texts load, the status is that of the one end of the input, whatever was written.
-    ensures exact { (named : Named) (crd rules b : List ℕ) (requests : List Request) (end : End) → IsLine words.now (pipe named) → Texts (F.file files.old) named crd rules → S.left input.old ≡ Some b
+    ensures exact { (named : Named) (turns : ℕ) (crd rules b : List ℕ) (requests : List Request) (end : End) → IsLine words.now (pipe named turns) → Texts (F.file files.old) named crd rules → S.left input.old ≡ Some b
         → ¬ (Rose (F.faults files.old) (F.faults files.new)) → ¬ (Rose (S.faults input.old) (S.faults input.new)) → ¬ (Rose (K.faults output.old) (K.faults output.new))
         → IsServed named crd rules → Asks MOST_REQUESTS b requests end → (result ≡ status_of end) ⊎ (result ≡ NO_MEMORY) }
     // Where something of the texts is refused, nothing is served.
@@ -162,12 +169,12 @@ pub fn run<
         × (¬ (Rose (E.faults errors.old) (E.faults errors.new)) → E.written errors.new ≡ append_known (E.written errors.old) (refusal_line name why)) }
     // A fault of reading is one of the files, with nothing read or written, or comes behind the answers to the first requests;
     // one of writing comes behind those and a front of one more response.
-    ensures unread { (named : Named) (crd rules b : List ℕ) → IsLine words.now (pipe named) → Texts (F.file files.old) named crd rules → S.left input.old ≡ Some b → result ≡ READ_FAILED
+    ensures unread { (named : Named) (turns : ℕ) (crd rules b : List ℕ) → IsLine words.now (pipe named turns) → Texts (F.file files.old) named crd rules → S.left input.old ≡ Some b → result ≡ READ_FAILED
         → (Rose (F.faults files.old) (F.faults files.new) × (input.new ≡ input.old) × (output.new ≡ output.old))
         ⊎ (Rose (S.faults input.old) (S.faults input.new)
-        × Converses crd rules (record { boot = boot; told = C.told clock.now }) b (K.written output.old) (K.written output.new) ReadFaulted) }
-    ensures unwritten { (named : Named) (crd rules b : List ℕ) → IsLine words.now (pipe named) → Texts (F.file files.old) named crd rules → S.left input.old ≡ Some b → result ≡ WRITE_FAILED
-        → Converses crd rules (record { boot = boot; told = C.told clock.now }) b (K.written output.old) (K.written output.new) WriteFaulted }
+        × Converses crd rules turns (record { boot = boot; told = C.told clock.now }) b (K.written output.old) (K.written output.new) ReadFaulted) }
+    ensures unwritten { (named : Named) (turns : ℕ) (crd rules b : List ℕ) → IsLine words.now (pipe named turns) → Texts (F.file files.old) named crd rules → S.left input.old ≡ Some b → result ≡ WRITE_FAILED
+        → Converses crd rules turns (record { boot = boot; told = C.told clock.now }) b (K.written output.old) (K.written output.new) WriteFaulted }
     // Whatever the outside did, at 0 a line of one document has read the whole input, and wrote the whole text of it and handed it
     // on; at 6 a front of the text; and at each other status nothing.
     ensures wrote { (c r crd rules b : List ℕ) (t : TaskView) → IsLine words.now (task_line c r t) → Texts (F.file files.old) (named_in (task_line c r t)) crd rules → S.left input.old ≡ Some b
@@ -181,12 +188,12 @@ pub fn run<
     ensures bad_input { (c r : List ℕ) (t : TaskView) → IsLine words.now (task_line c r t) → result ≡ BAD_INPUT
         → (why : List ℕ) × ((crd rules b : List ℕ) → Texts (F.file files.old) (named_in (task_line c r t)) crd rules → S.left input.old ≡ Some b → RefusesTexts crd rules t b why)
         × (¬ (Rose (E.faults errors.old) (E.faults errors.new)) → E.written errors.new ≡ append_known (E.written errors.old) (line_saying why)) }
-    ensures no_task { (named : Named) → IsLine words.now (pipe named) → result ≢ BAD_INPUT }
+    ensures no_task { (named : Named) (turns : ℕ) → IsLine words.now (pipe named turns) → result ≢ BAD_INPUT }
     ensures read_fault { result ≡ READ_FAILED → Rose (F.faults files.old) (F.faults files.new) ⊎ Rose (S.faults input.old) (S.faults input.new) }
     ensures write_fault { result ≡ WRITE_FAILED → Rose (K.faults output.old) (K.faults output.new) }
     ensures words_refused { (result ≡ BAD_WORDS) ↔ ((line : Line) → IsLine words.now line → ⊥) }
     ensures memory { result ≡ NO_MEMORY → output.new ≡ output.old }
-    ensures unread_memory { (named : Named) → IsLine words.now (pipe named) → result ≡ NO_MEMORY → input.new ≡ input.old }
+    ensures unread_memory { (named : Named) (turns : ℕ) → IsLine words.now (pipe named turns) → result ≡ NO_MEMORY → input.new ≡ input.old }
     ensures unserved { result ≡ REFUSED → (input.new ≡ input.old) × (output.new ≡ output.old) }
     ensures unused { result ≡ BAD_WORDS → (files.new ≡ files.old) × (input.new ≡ input.old) × (output.new ≡ output.old) }
     ensures errors { result ≢ REFUSED → result ≢ BAD_INPUT → ¬ (Rose (E.faults errors.old) (E.faults errors.new))
@@ -195,7 +202,11 @@ pub fn run<
     ensures ears { _ears.new ≡ _ears.old }
 {
     match command_of(words) {
-        Some(command) => run_command(alloc, command, files, input, output, errors, clock, boot),
+        Some(command) => {
+            run_command(
+                rt, alloc, command, files, input, output, errors, clock, boot,
+            )
+        }
         None => ended(errors, BAD_WORDS),
     }
 }

@@ -1,9 +1,10 @@
 //! The words of the command line.
 ghost use Rattle.std.specs.Prelude.{◌≡◌, ◌≢◌, ◌≤◌, ◌<◌, ◌↔◌, ◌++◌, ◌∷◌, [], ℕ, List, None, IfSome, IsTrue, MatchOption, codes, map, length};
 ghost use Rattle.kj_value.specs.Texts.{bytes_of};
-ghost use Rattle.kubeconv_cmd.specs.Lines.{Line, Flag as FlagView, IsLine, IsValue, flag_text, value_at, with_value};
+ghost use Rattle.kubeconv_cmd.specs.Lines.{Line, Flag as FlagView, IsLine, IsValue, SpellsTurns, flag_text, value_at, with_value};
 ghost use Rattle.kubeconv_cmd.specs.Given.{line_of, flag_in, values_in, TakesFirst, GivesOne, IsCommand};
 
+use crate::turns::turns_of;
 use kj_value::{TextList, Txt};
 
 /// The words of the command line, without the program's name.
@@ -26,8 +27,11 @@ pub(crate) enum Task<'a> {
 /// What the words ask for.
 #[derive(Clone, Copy)]
 pub(crate) enum Command<'a> {
-    /// To answer the requests of the input.
-    Pipe(Named<'a>),
+    /// To answer the requests of the input, and to take so many turns of a worker after each answer.
+    Pipe {
+        named: Named<'a>,
+        turns: u64,
+    },
     /// To read one document, and to write one line.
     Task {
         crd: &'a str,
@@ -42,6 +46,7 @@ enum Flag {
     Crd,
     Rules,
     To,
+    Turns,
 }
 
 // An option with its value, and the words behind it.
@@ -58,6 +63,7 @@ struct Given<'a> {
     crd: Option<&'a str>,
     rules: Option<&'a str>,
     to: Option<&'a str>,
+    turns: Option<&'a str>,
 }
 
 // Nothing is given.
@@ -65,6 +71,7 @@ const NOTHING: Given<'static> = Given {
     crd: None,
     rules: None,
     to: None,
+    turns: None,
 };
 
 // Whether a word can be a value: it isn't empty, and doesn't begin as an option does.
@@ -95,7 +102,10 @@ fn flag_of(word: &str) -> Option<(Flag, &str)>
             Some(end) => Some((Flag::Rules, end)),
             None => match behind(word, "--to") {
                 Some(end) => Some((Flag::To, end)),
-                None => None,
+                None => match behind(word, "--turns") {
+                    Some(end) => Some((Flag::Turns, end)),
+                    None => None,
+                },
             },
         },
     }
@@ -173,7 +183,12 @@ impl<'a> Given<'a> {
         ensures { MatchOption result (value_at (flag_in flag) (values_in self.entry) ≢ None)
             (λ g. (value_at (flag_in flag) (values_in self.entry) ≡ None) × (values_in g ≡ with_value (flag_in flag) value.now (values_in self.entry))) }
     {
-        let Given { crd, rules, to } = self;
+        let Given {
+            crd,
+            rules,
+            to,
+            turns,
+        } = self;
         match flag {
             Flag::Crd => match crd {
                 Some(_) => None,
@@ -181,6 +196,7 @@ impl<'a> Given<'a> {
                     crd: Some(value),
                     rules,
                     to,
+                    turns,
                 }),
             },
             Flag::Rules => match rules {
@@ -189,6 +205,7 @@ impl<'a> Given<'a> {
                     crd,
                     rules: Some(value),
                     to,
+                    turns,
                 }),
             },
             Flag::To => match to {
@@ -197,6 +214,16 @@ impl<'a> Given<'a> {
                     crd,
                     rules,
                     to: Some(value),
+                    turns,
+                }),
+            },
+            Flag::Turns => match turns {
+                Some(_) => None,
+                None => Some(Given {
+                    crd,
+                    rules,
+                    to,
+                    turns: Some(value),
                 }),
             },
         }
@@ -219,27 +246,45 @@ fn give<'a>(words: &'a [Txt], given: Given<'a>) -> Option<Given<'a>>
     }
 }
 
-// The line of `pipe` with these options.
-fn pipe_of<'a>(given: Given<'a>) -> Option<Command<'a>>
+// The line of `pipe` with these options, where so many turns are spelled.
+fn pipe_with<'a>(given: Given<'a>, turns: u64) -> Option<Command<'a>>
+    requires { SpellsTurns (values_in given).turns turns }
     ensures { IsCommand (codes "pipe") (values_in given.entry) result }
 {
     match given.to {
         Some(_) => None,
         None => match given.crd {
             Some(crd) => match given.rules {
-                Some(rules) => Some(Command::Pipe(Named::FromFiles { crd, rules })),
+                Some(rules) => Some(Command::Pipe {
+                    named: Named::FromFiles { crd, rules },
+                    turns,
+                }),
                 None => None,
             },
             None => match given.rules {
                 Some(_) => None,
-                None => Some(Command::Pipe(Named::BuiltIn)),
+                None => Some(Command::Pipe {
+                    named: Named::BuiltIn,
+                    turns,
+                }),
             },
         },
     }
 }
 
-// The line of `convert` with these options.
-fn convert_of<'a>(given: Given<'a>) -> Option<Command<'a>>
+// The line of `pipe` with these options.
+fn pipe_of<'a>(given: Given<'a>) -> Option<Command<'a>>
+    ensures { IsCommand (codes "pipe") (values_in given.entry) result }
+{
+    match turns_of(given.turns) {
+        Some(turns) => pipe_with(given, turns),
+        None => None,
+    }
+}
+
+// The line of `convert` with the options that aren't `--turns`.
+fn convert_with<'a>(given: Given<'a>) -> Option<Command<'a>>
+    requires { (values_in given).turns ≡ None }
     ensures { IsCommand (codes "convert") (values_in given.entry) result }
 {
     match given.to {
@@ -258,8 +303,19 @@ fn convert_of<'a>(given: Given<'a>) -> Option<Command<'a>>
     }
 }
 
-// The line of `review` with these options.
-fn review_of<'a>(given: Given<'a>) -> Option<Command<'a>>
+// The line of `convert` with these options.
+fn convert_of<'a>(given: Given<'a>) -> Option<Command<'a>>
+    ensures { IsCommand (codes "convert") (values_in given.entry) result }
+{
+    match given.turns {
+        Some(_) => None,
+        None => convert_with(given),
+    }
+}
+
+// The line of `review` with the options that aren't `--turns`.
+fn review_with<'a>(given: Given<'a>) -> Option<Command<'a>>
+    requires { (values_in given).turns ≡ None }
     ensures { IsCommand (codes "review") (values_in given.entry) result }
 {
     match given.to {
@@ -275,6 +331,16 @@ fn review_of<'a>(given: Given<'a>) -> Option<Command<'a>>
                 }),
             },
         },
+    }
+}
+
+// The line of `review` with these options.
+fn review_of<'a>(given: Given<'a>) -> Option<Command<'a>>
+    ensures { IsCommand (codes "review") (values_in given.entry) result }
+{
+    match given.turns {
+        Some(_) => None,
+        None => review_with(given),
     }
 }
 

@@ -13,7 +13,7 @@
 //! | `Definition`, `Rules` | in this case a byte that is no text stands behind the file |
 //! | `times NUMBER` | the next line stands so many times |
 //! | `GET TARGET` | a request |
-//! | `POST TARGET` | the target of a request, whose body is each `part TEXT` and the `body TEXT` that come next |
+//! | `POST TARGET`, `PUT TARGET` | a request, whose body is each `part TEXT` and the `body TEXT` that come next |
 //! | `head TEXT`, `input TEXT` | the text in the input, with the end of a line and without |
 //! | `size NUMBER` | a read gives so many bytes at most |
 //! | `fails NUMBER`, `unwritten NUMBER` | the read, or the write, with this number fails, counted from 0 |

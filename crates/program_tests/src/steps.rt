@@ -43,13 +43,13 @@ fn add_get(alloc: Global, asked: &mut Asked, target: &str) -> Option<()> {
     asked.input.push_str(head.as_str()).ok()
 }
 
-fn add_post(alloc: Global, asked: &mut Asked, text: &str) -> Option<()> {
+fn add_body(alloc: Global, asked: &mut Asked, text: &str) -> Option<()> {
     asked.body.push_str(text).ok()?;
     let target = asked.target.as_str();
     let body = asked.body.as_str();
     let len = body.len();
     let request = format!(in alloc;
-        "POST {target} HTTP/1.1\r\nContent-Length: {len}\r\n\r\n{body}"
+        "{target} HTTP/1.1\r\nContent-Length: {len}\r\n\r\n{body}"
     ).ok()?;
     asked.input.push_str(request.as_str()).ok()?;
     asked.body.clear();
@@ -58,9 +58,8 @@ fn add_post(alloc: Global, asked: &mut Asked, text: &str) -> Option<()> {
 
 fn of_requests(alloc: Global, asked: &mut Asked, word: u8, text: &str) -> Option<()> {
     match word {
-        b'P' => asked.target = String::from_str(alloc, text).ok()?,
         b'p' => asked.body.push_str(text).ok()?,
-        b'b' => add_post(alloc, asked, text)?,
+        b'b' => add_body(alloc, asked, text)?,
         b'i' => asked.input.push_str(text).ok()?,
         _ => {
             asked.input.push_str(text).ok()?;
@@ -86,7 +85,7 @@ fn of_outside(outside: &mut Outside, word: u8, text: &str) -> Option<()> {
 fn of_case(alloc: Global, case: &mut Case, word: u8, text: &str) -> Option<()> {
     match word {
         b'd' | b'r' | b'-' | b'+' => of_documents(alloc, &mut case.documents, word, text),
-        b'P' | b'p' | b'b' | b'i' | b'h' => of_requests(alloc, &mut case.asked, word, text),
+        b'p' | b'b' | b'i' | b'h' => of_requests(alloc, &mut case.asked, word, text),
         _ => of_outside(&mut case.outside, word, text),
     }
 }
@@ -126,6 +125,10 @@ pub(crate) fn take<R: Threads + Wait + Sync>(
         Some(b'.') => go(rt, alloc, case),
         Some(b'w') => {
             case.asked.words = String::from_str(alloc, line).ok()?;
+            Some(String::new(alloc))
+        }
+        Some(b'P') => {
+            case.asked.target = String::from_str(alloc, line).ok()?;
             Some(String::new(alloc))
         }
         Some(word) => {

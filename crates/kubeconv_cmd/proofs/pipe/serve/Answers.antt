@@ -1,10 +1,16 @@
-use Rattle.std.proofs.Common.{◌∙◌}
-use Rattle.kubeconv_cmd.proofs.Serving.{none_held, opened}
+use Rattle.kubeconv_cmd.proofs.Serving.{first_alone, first_number, opened}
 use Rattle.kubeconv_cmd.proofs.pipe.serve.Goals as goal
+
+pub converse-end-requires-clause-number : goal.converse-end-requires-clause-number
+converse-end-requires-clause-number g c = first_number _ _ c.in_ok-api.ensures.new
+
+pub converse-end-requires-clause-alone : goal.converse-end-requires-clause-alone
+converse-end-requires-clause-alone g c = first_alone _ _ c.in_ok-api.ensures.new
 
 pub returns-clause-talk : goal.returns-clause-talk
 returns-clause-talk g c = λ b left.
-    opened g.V.Versions.meaning c.in_ok-server.server c.args.versions c.args.boot (g.C.Clock.told c.args.clock.now) b
-    (g.K.Sink.written c.args.output.now) (g.K.Sink.written c.converse.new.output) c.converse.result
-    (c.in_ok-server.ensures.versions ∙ c.in_ok-versions.ensures.ok) c.in_ok-server.ensures.limits c.in_ok-server.ensures.boot
-    (c.converse.ensures.talk b (none_held c.in_ok-inbox.inbox (g.S.Source.left c.args.input.now) b c.in_ok-inbox.ensures left))
+    let talk = c.converse-end.ensures.talk in
+    opened g.V.Versions.meaning c.in_ok-api.api c.in_ok-api.pass.view c.args.versions
+    (record { boot = c.args.boot; told = g.C.Clock.told c.args.clock.now }) c.args.turns b
+    (g.S.Source.left c.args.input.now) (g.K.Sink.written c.args.output.now) (g.K.Sink.written c.converse-end.new.output) c.converse-end.result talk.0
+    c.in_ok-api.ensures.base c.in_ok-api.ensures.new left talk.1

@@ -9,7 +9,7 @@ use Rattle.kubeconv_cmd.proofs.pipe_line.run_pipe.Goals as goal
 
 pub returns-clause-talk : goal.returns-clause-talk
 returns-clause-talk g c = λ crd rules b texts left nf nr nw.
-    (talks (named_of c.args.named) crd rules (record { boot = c.args.boot; told = g.C.Clock.told c.args.clock.now }) b (g.K.Sink.written c.args.output.now) (g.K.Sink.written c.serve_named-came.new.output) (Rose (g.F.Files.faults c.args.files.now) (g.F.Files.faults c.serve_named-came.new.files)) (Rose (g.S.Source.faults c.args.input.now) (g.S.Source.faults c.serve_named-came.new.input)) (Rose (g.K.Sink.faults c.args.output.now) (g.K.Sink.faults c.serve_named-came.new.output)) c.serve_named-came.result c.tell.result
+    (talks (named_of c.args.named) crd rules c.args.turns (record { boot = c.args.boot; told = g.C.Clock.told c.args.clock.now }) b (g.K.Sink.written c.args.output.now) (g.K.Sink.written c.serve_named-came.new.output) (Rose (g.F.Files.faults c.args.files.now) (g.F.Files.faults c.serve_named-came.new.files)) (Rose (g.S.Source.faults c.args.input.now) (g.S.Source.faults c.serve_named-came.new.input)) (Rose (g.K.Sink.faults c.args.output.now) (g.K.Sink.faults c.serve_named-came.new.output)) c.serve_named-came.result c.tell.result
     (record {
       talk = c.serve_named-came.ensures.talk crd rules b texts left;
       blames = c.serve_named-came.ensures.blames;
@@ -21,17 +21,17 @@ returns-clause-talk g c = λ crd rules b texts left nf nr nw.
 pub returns-clause-held : goal.returns-clause-held
 returns-clause-held g c =
     (held (λ end. (crd rules b : List ℕ) → Texts (g.F.Files.file c.args.files.now) (named_of c.args.named) crd rules → g.S.Source.left c.args.input.now ≡ Some b
-    → Converses crd rules (record { boot = c.args.boot; told = g.C.Clock.told c.args.clock.now }) b (g.K.Sink.written c.args.output.now) (g.K.Sink.written c.serve_named-came.new.output) end)
+    → Converses crd rules c.args.turns (record { boot = c.args.boot; told = g.C.Clock.told c.args.clock.now }) b (g.K.Sink.written c.args.output.now) (g.K.Sink.written c.serve_named-came.new.output) end)
     (c.serve_named-came.new.input ≡ c.args.input.now) (c.serve_named-came.new.output ≡ c.args.output.now) (Rose (g.F.Files.faults c.args.files.now) (g.F.Files.faults c.serve_named-came.new.files)) (Rose (g.S.Source.faults c.args.input.now) (g.S.Source.faults c.serve_named-came.new.input)) (Rose (g.K.Sink.faults c.args.output.now) (g.K.Sink.faults c.serve_named-came.new.output)) c.serve_named-came.result c.tell.result
     (told_ends (λ (crd rules : List ℕ). Texts (g.F.Files.file c.args.files.now) (named_of c.args.named) crd rules) (λ (b : List ℕ). g.S.Source.left c.args.input.now ≡ Some b)
-    (λ (crd rules b : List ℕ). Converses crd rules (record { boot = c.args.boot; told = g.C.Clock.told c.args.clock.now }) b (g.K.Sink.written c.args.output.now) (g.K.Sink.written c.serve_named-came.new.output))
+    (λ (crd rules b : List ℕ). Converses crd rules c.args.turns (record { boot = c.args.boot; told = g.C.Clock.told c.args.clock.now }) b (g.K.Sink.written c.args.output.now) (g.K.Sink.written c.serve_named-came.new.output))
     c.serve_named-came.result c.serve_named-came.ensures.talk)
     c.serve_named-came.ensures.blames c.serve_named-came.ensures.untouched c.serve_named-came.ensures.unread c.tell.ensures.status)
 
 pub returns-clause-exact : goal.returns-clause-exact
 returns-clause-exact g c = λ crd rules b requests end texts left nf nr nw served asks.
-    exactly (named_of c.args.named) crd rules (record { boot = c.args.boot; told = g.C.Clock.told c.args.clock.now }) b (g.K.Sink.written c.args.output.now) (g.K.Sink.written c.serve_named-came.new.output) c.tell.result requests end c.one_reading.ensures
-    (talks (named_of c.args.named) crd rules (record { boot = c.args.boot; told = g.C.Clock.told c.args.clock.now }) b (g.K.Sink.written c.args.output.now) (g.K.Sink.written c.serve_named-came.new.output) (Rose (g.F.Files.faults c.args.files.now) (g.F.Files.faults c.serve_named-came.new.files)) (Rose (g.S.Source.faults c.args.input.now) (g.S.Source.faults c.serve_named-came.new.input)) (Rose (g.K.Sink.faults c.args.output.now) (g.K.Sink.faults c.serve_named-came.new.output)) c.serve_named-came.result c.tell.result
+    exactly (named_of c.args.named) crd rules c.args.turns (record { boot = c.args.boot; told = g.C.Clock.told c.args.clock.now }) b (g.K.Sink.written c.args.output.now) (g.K.Sink.written c.serve_named-came.new.output) c.tell.result requests end c.one_reading.ensures
+    (talks (named_of c.args.named) crd rules c.args.turns (record { boot = c.args.boot; told = g.C.Clock.told c.args.clock.now }) b (g.K.Sink.written c.args.output.now) (g.K.Sink.written c.serve_named-came.new.output) (Rose (g.F.Files.faults c.args.files.now) (g.F.Files.faults c.serve_named-came.new.files)) (Rose (g.S.Source.faults c.args.input.now) (g.S.Source.faults c.serve_named-came.new.input)) (Rose (g.K.Sink.faults c.args.output.now) (g.K.Sink.faults c.serve_named-came.new.output)) c.serve_named-came.result c.tell.result
     (record {
       talk = c.serve_named-came.ensures.talk crd rules b texts left;
       blames = c.serve_named-came.ensures.blames;
@@ -55,11 +55,11 @@ returns-clause-refusal g c = λ bad.
 
 pub returns-clause-unread : goal.returns-clause-unread
 returns-clause-unread g c = λ crd rules b texts left bad.
-    read_failed (Converses crd rules (record { boot = c.args.boot; told = g.C.Clock.told c.args.clock.now }) b (g.K.Sink.written c.args.output.now) (g.K.Sink.written c.serve_named-came.new.output))
+    read_failed (Converses crd rules c.args.turns (record { boot = c.args.boot; told = g.C.Clock.told c.args.clock.now }) b (g.K.Sink.written c.args.output.now) (g.K.Sink.written c.serve_named-came.new.output))
     (c.serve_named-came.new.input ≡ c.args.input.now) (c.serve_named-came.new.output ≡ c.args.output.now) (Rose (g.F.Files.faults c.args.files.now) (g.F.Files.faults c.serve_named-came.new.files)) (Rose (g.S.Source.faults c.args.input.now) (g.S.Source.faults c.serve_named-came.new.input)) (Rose (g.K.Sink.faults c.args.output.now) (g.K.Sink.faults c.serve_named-came.new.output)) c.serve_named-came.result c.tell.result
     (c.serve_named-came.ensures.talk crd rules b texts left) c.serve_named-came.ensures.blames c.serve_named-came.ensures.untouched c.serve_named-came.ensures.unread c.tell.ensures.status bad
 
 pub returns-clause-unwritten : goal.returns-clause-unwritten
 returns-clause-unwritten g c = λ crd rules b texts left bad.
-    (write_failed (Converses crd rules (record { boot = c.args.boot; told = g.C.Clock.told c.args.clock.now }) b (g.K.Sink.written c.args.output.now) (g.K.Sink.written c.serve_named-came.new.output)) (Rose (g.S.Source.faults c.args.input.now) (g.S.Source.faults c.serve_named-came.new.input)) (Rose (g.K.Sink.faults c.args.output.now) (g.K.Sink.faults c.serve_named-came.new.output)) c.serve_named-came.result c.tell.result
+    (write_failed (Converses crd rules c.args.turns (record { boot = c.args.boot; told = g.C.Clock.told c.args.clock.now }) b (g.K.Sink.written c.args.output.now) (g.K.Sink.written c.serve_named-came.new.output)) (Rose (g.S.Source.faults c.args.input.now) (g.S.Source.faults c.serve_named-came.new.input)) (Rose (g.K.Sink.faults c.args.output.now) (g.K.Sink.faults c.serve_named-came.new.output)) c.serve_named-came.result c.tell.result
     (c.serve_named-came.ensures.talk crd rules b texts left) c.serve_named-came.ensures.blames c.tell.ensures.status bad).1

@@ -6,10 +6,10 @@ pub returns-in-Some-clause-talk : goal.returns-in-Some-clause-talk
 returns-in-Some-clause-talk g c = λ line k r b is texts left nf nr nw. c.run_command.ensures.talk line k r b (sym (c.in-Some.ensures.only line is)) texts left nf nr nw
 
 pub returns-in-Some-clause-held : goal.returns-in-Some-clause-held
-returns-in-Some-clause-held g c = λ named is. c.run_command.ensures.held named (sym (c.in-Some.ensures.only (pipe named) is))
+returns-in-Some-clause-held g c = λ named turns is. c.run_command.ensures.held named turns (sym (c.in-Some.ensures.only (pipe named turns) is))
 
 pub returns-in-Some-clause-exact : goal.returns-in-Some-clause-exact
-returns-in-Some-clause-exact g c = λ named k r b requests end is texts left nf nr nw served asks. c.run_command.ensures.exact named k r b requests end (sym (c.in-Some.ensures.only (pipe named) is)) texts left nf nr nw served asks
+returns-in-Some-clause-exact g c = λ named turns k r b requests end is texts left nf nr nw served asks. c.run_command.ensures.exact named turns k r b requests end (sym (c.in-Some.ensures.only (pipe named turns) is)) texts left nf nr nw served asks
 
 pub returns-in-Some-clause-refused : goal.returns-in-Some-clause-refused
 returns-in-Some-clause-refused g c = λ line k r name why is texts nf bad. c.run_command.ensures.refused line k r name why (sym (c.in-Some.ensures.only line is)) texts nf bad
@@ -18,10 +18,10 @@ pub returns-in-Some-clause-refusal : goal.returns-in-Some-clause-refusal
 returns-in-Some-clause-refusal g c = λ line is bad. c.run_command.ensures.refusal line (sym (c.in-Some.ensures.only line is)) bad
 
 pub returns-in-Some-clause-unread : goal.returns-in-Some-clause-unread
-returns-in-Some-clause-unread g c = λ named k r b is texts left bad. c.run_command.ensures.unread named k r b (sym (c.in-Some.ensures.only (pipe named) is)) texts left bad
+returns-in-Some-clause-unread g c = λ named turns k r b is texts left bad. c.run_command.ensures.unread named turns k r b (sym (c.in-Some.ensures.only (pipe named turns) is)) texts left bad
 
 pub returns-in-Some-clause-unwritten : goal.returns-in-Some-clause-unwritten
-returns-in-Some-clause-unwritten g c = λ named k r b is texts left bad. c.run_command.ensures.unwritten named k r b (sym (c.in-Some.ensures.only (pipe named) is)) texts left bad
+returns-in-Some-clause-unwritten g c = λ named turns k r b is texts left bad. c.run_command.ensures.unwritten named turns k r b (sym (c.in-Some.ensures.only (pipe named turns) is)) texts left bad
 
 pub returns-in-Some-clause-wrote : goal.returns-in-Some-clause-wrote
 returns-in-Some-clause-wrote g c = λ c2 r2 k r b t is texts left bad. c.run_command.ensures.wrote c2 r2 k r b t (sym (c.in-Some.ensures.only (task c2 r2 t) is)) texts left bad
@@ -36,10 +36,10 @@ pub returns-in-None-clause-talk : goal.returns-in-None-clause-talk
 returns-in-None-clause-talk g c = λ line k r b is texts left nf nr nw. absurd (c.in-None.ensures.only line is)
 
 pub returns-in-None-clause-held : goal.returns-in-None-clause-held
-returns-in-None-clause-held g c = λ named is. absurd (c.in-None.ensures.only (pipe named) is)
+returns-in-None-clause-held g c = λ named turns is. absurd (c.in-None.ensures.only (pipe named turns) is)
 
 pub returns-in-None-clause-exact : goal.returns-in-None-clause-exact
-returns-in-None-clause-exact g c = λ named k r b requests end is texts left nf nr nw served asks. absurd (c.in-None.ensures.only (pipe named) is)
+returns-in-None-clause-exact g c = λ named turns k r b requests end is texts left nf nr nw served asks. absurd (c.in-None.ensures.only (pipe named turns) is)
 
 pub returns-in-None-clause-refused : goal.returns-in-None-clause-refused
 returns-in-None-clause-refused g c = λ line k r name why is texts nf bad. absurd (c.in-None.ensures.only line is)

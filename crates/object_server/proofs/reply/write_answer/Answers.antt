@@ -1,8 +1,0 @@
-use Rattle.std.proofs.Common.{◌∙◌, []}
-use Rattle.object_server.specs.Answered.{no_memory_text}
-use Rattle.object_server.proofs.reply.write_answer.Goals as goal
-
-pub returns-in-NoMemory-clause-sent : goal.returns-in-NoMemory-clause-sent
-unfolding no_memory_text
-returns-in-NoMemory-clause-sent g c =
-    rw (c.in-NoMemory.is) (rw (c.as_bytes-in-NoMemory.ensures.value ∙ c.no_memory_text.ensures [] []) at c.write_response-in-NoMemory.ensures.sent)
