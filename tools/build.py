@@ -5,15 +5,17 @@
     python3 tools/build.py --log FILE      what rt says goes to FILE, and not to standard output
     python3 tools/build.py --only CRATE..  builds only these libraries and what is below them, and no program
 
-`rt` builds one crate after another, and waits where a second one works in the same copy of the repository. But `rt lib` in one
-copy takes what `rt lib` in another copy on the machine built of the same text. So this makes a few copies of the sources among
+`rt` builds one crate after another, and waits where a second one works in the same copy of the repository. But it takes a library
+as built where its folder `out/rlib` was built of the same text, in whichever copy. So this makes a few copies of the sources among
 the temporary files, one a processor, and has a library built in one of them as soon as those below it stand, those with the
-longest chain above them first. Then `rt run` in this copy takes them all, and builds the program. Each library is proved as it
-always is. The copies are removed at the end, and also after an interrupt; what one left that was killed is removed by the next.
+longest chain above them first; those below are copied there before, and what stands is copied here. Then `rt run` in this copy
+builds the program over them. Each library is proved as it always is, once. The copies are removed at the end, and also after an
+interrupt; what one left that was killed is removed by the next.
 
 A line for each library that stands goes to standard error, with how many are left. Where anything fails, `rt run` goes on from
 what stands, one crate after another. The status is that of the last command: 0 where the program stands.
 """
+import glob
 import os
 import re
 import shutil
@@ -90,12 +92,11 @@ def places():
 
 
 def sweep():
-    """Removes the copies that a run left which was killed."""
-    at = tempfile.gettempdir()
-    for name in os.listdir(at):
-        of = re.match(r"kubeconv-build-(\d+)-", name)
-        if of and not os.path.exists(f"/proc/{of[1]}"):
-            shutil.rmtree(f"{at}/{name}", ignore_errors=True)
+    """Removes the copies, and the libraries copied in part, that a run left which was killed."""
+    for it in glob.glob(f"{tempfile.gettempdir()}/kubeconv-build-*") + glob.glob(f"{TOP}/crates/*/out/rlib.*"):
+        of = re.search(r"(?:/kubeconv-build-(\d+)-[^/]*|/rlib\.(\d+))$", it)
+        if of and not os.path.exists(f"/proc/{of[1] or of[2]}"):
+            shutil.rmtree(it, ignore_errors=True)
 
 
 def copy_to(to, crates):
@@ -112,14 +113,36 @@ def copy_to(to, crates):
                 shutil.copytree(f"{TOP}/crates/{crate}/{part}", f"{to}/crates/{crate}/{part}")
 
 
+def stamp_of(at, crate):
+    """Returns what rt wrote beside a library that it built: a sum of the text that it was built of. None where there is no library."""
+    try:
+        with open(f"{at}/crates/{crate}/out/rlib/stamp") as it:
+            return it.read()
+    except OSError:
+        return None
+
+
+def give(crate, of, to):
+    """Copies a library that stands in one copy to another, where it isn't there yet. It stands there whole or not at all."""
+    stamp, out = stamp_of(of, crate), f"{to}/crates/{crate}/out"
+    if stamp is None or stamp == stamp_of(to, crate):
+        return
+    os.makedirs(out, exist_ok=True)
+    new = f"{out}/rlib.{os.getpid()}"
+    shutil.rmtree(new, ignore_errors=True)
+    shutil.copytree(f"{of}/crates/{crate}/out/rlib", new, symlinks=True)
+    shutil.rmtree(f"{out}/rlib", ignore_errors=True)
+    os.rename(new, f"{out}/rlib")
+
+
 class Builds:
-    """The builds that go on, and what stands."""
+    """The builds that go on, and in which copy each library stands that does."""
 
     def __init__(self, order, named, log):
         self.order, self.named, self.log = order, named, log
         self.behind = chains(order, named)
         self.changed = threading.Condition()
-        self.left, self.running, self.stand, self.has_failed = list(order), {}, set(), False
+        self.left, self.running, self.stand, self.has_failed = list(order), {}, {}, False
         self.began = time.monotonic()
 
     def ready(self):
@@ -142,7 +165,10 @@ class Builds:
             return None
 
     def build(self, crate, is_alone, at):
-        """Builds one library in a copy. Only the library is left of it, which the other copies take."""
+        """Builds one library in a copy, where it doesn't stand here already. Only the library is left of it."""
+        for it in lowest_first([crate], self.named)[:-1]:
+            give(it, self.stand[it], at)
+        give(crate, TOP, at)
         words = ["rt", "lib", *([] if is_alone else ["--jobs", "1"])]
         how = {"stdin": subprocess.DEVNULL, "stdout": self.log, "stderr": subprocess.STDOUT, "start_new_session": True}
         with self.changed:
@@ -152,6 +178,8 @@ class Builds:
             self.running[crate] = started
         status = started.wait()
         shutil.rmtree(f"{at}/crates/{crate}/out/incremental", ignore_errors=True)
+        if not status:
+            give(crate, at, TOP)
         return status
 
     def work(self, at):
@@ -167,7 +195,7 @@ class Builds:
                     if status:
                         self.has_failed = True
                     else:
-                        self.stand.add(crate)
+                        self.stand[crate] = at
                         self.tell(crate, began)
                     self.changed.notify_all()
 
@@ -211,7 +239,7 @@ def side_by_side(order, named, log, room):
 
 
 def last(words, at, log):
-    """Runs the last command in this copy, which takes what the other copies built."""
+    """Runs the last command in this copy, over what was built."""
     started = subprocess.Popen(words, cwd=at, stdin=subprocess.DEVNULL, stdout=log, stderr=subprocess.STDOUT, start_new_session=True)
     try:
         return started.wait()

@@ -1,0 +1,94 @@
+#!/usr/bin/env python3
+"""The walk of an upgrade: `walk.py [--check] PROGRAM..`, where the words behind it run the program that answers requests from
+standard input on standard output, with one worker turn after each answer:
+
+    python3 examples/upgrade/walk.py ./kubeconv pipe --crd examples/crontabs.json --rules examples/crontabs.rules.json --turns 1
+
+The requests stand in the files 1-*.http to 6-*.http beside this one, each behind a line `### ` with its heading and lines `# ` that
+say what its answer shows. A body may be another file, named behind `< `. Their lengths are counted here. All requests go through
+one run of the program, and each answer is printed with its heading; stamps and the uids are shown as "...", since they differ from
+run to run. With --check nothing is printed but where the answers differ from expected.txt, and then the status is 1.
+"""
+
+import difflib
+import pathlib
+import re
+import subprocess
+import sys
+
+HERE = pathlib.Path(__file__).resolve().parent
+
+
+class Step:
+    """One request, with its heading and what its answer shows."""
+
+    def __init__(self, text):
+        heading, _, rest = text.partition("\n")
+        self.heading = heading.strip()
+        lines = rest.split("\n")
+        said = [line[2:] for line in lines if line.startswith("# ")]
+        self.shows = " ".join(said)
+        head, _, body = "\n".join(lines[len(said) :]).strip().partition("\n\n")
+        self.line = head
+        self.body = body
+        if body.startswith("< "):
+            self.body = (HERE / body[2:].strip()).read_text()
+
+    def request(self):
+        body = self.body.encode()
+        length = f"Content-Length: {len(body)}\r\n" if body else ""
+        return f"{self.line} HTTP/1.1\r\n{length}\r\n".encode() + body
+
+
+def steps():
+    found = []
+    for file in sorted(HERE.glob("[0-9]-*.http")):
+        found += [Step(part) for part in re.split(r"(?m)^### ", file.read_text())[1:]]
+    return found
+
+
+def answers(output):
+    """The answers that stand one behind the other, each as its status and its body."""
+    found = []
+    while output.startswith(b"HTTP/1.1 "):
+        head, _, rest = output.partition(b"\r\n\r\n")
+        length = int(re.search(rb"(?i)\r\nContent-Length: *(\d+)", head).group(1))
+        status = head.split(b"\r\n")[0][len(b"HTTP/1.1 ") :]
+        found.append((status.decode(), rest[:length].decode()))
+        output = rest[length:]
+    return found
+
+
+def masked(text):
+    return re.sub(r'("(?:uid|creationTimestamp|deletionTimestamp)":)"[^"]*"', r'\1"..."', text)
+
+
+def told(walk, came):
+    lines = []
+    for number, (step, (status, body)) in enumerate(zip(walk, came), 1):
+        lines += [f"{number}. {step.heading}", f"   {step.shows}", f"   {step.line}", f"   {status}", masked(body), ""]
+    return lines
+
+
+def main(words):
+    check = words[:1] == ["--check"]
+    program = words[1:] if check else words
+    if not program:
+        sys.exit(__doc__)
+    walk = steps()
+    run = subprocess.run(program, input=b"".join(step.request() for step in walk), stdout=subprocess.PIPE)
+    came = answers(run.stdout)
+    lines = told(walk, came)
+    if len(came) != len(walk):
+        lines.append(f"{len(walk)} requests, {len(came)} answers; the status is {run.returncode}.")
+    if not check:
+        print("\n".join(lines))
+        return len(came) != len(walk)
+    wanted = (HERE / "expected.txt").read_text().split("\n")
+    differ = list(difflib.unified_diff(wanted, "\n".join(lines + [""]).split("\n"), "expected.txt", "the answers", lineterm="", n=3))
+    print("\n".join(differ) if differ else f"{len(came)} answers, as expected")
+    return bool(differ)
+
+
+if __name__ == "__main__":
+    sys.exit(main(sys.argv[1:]))
