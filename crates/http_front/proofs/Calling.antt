@@ -5,7 +5,6 @@ use Rattle.std.specs.Str.{bytes_eq}
 use Rattle.std.proofs.lemmas.List.{append-nil}
 use Rattle.std.proofs.lemmas.Bool.{cases_lt}
 use Rattle.std.proofs.lemmas.Bool.Decides.{nat_tests}
-use mathlib.Core.List.{IsPrefix}
 use Rattle.http_wire.specs.Head.{Request}
 use Rattle.http_wire.specs.Response.{HasPhrase}
 use Rattle.api_calls.specs.Calls.{Server, Call, Told, answered, Comes, decided as as_decided, wants_memory as as_wanted, not_converted, moved, lost, Decides}
@@ -31,14 +30,14 @@ use Rattle.turn_cell.specs.Laws.{items_of-append, prefix_self}
 use Rattle.turn_cell.specs.Numbers.{In}
 use Rattle.turn_cell.specs.Turns.{Turned, addition}
 use Rattle.turn_cell.specs.Views.{IsAlone, numbers_of, numbers_or, number_or, set_stage}
-use Rattle.turn_cell.specs.declared.view.Stage.TheVariants.{Rest}
 use Rattle.turn_cell.specs.declared.view.View.{View}
 use Rattle.kube_meta.specs.Names.{is_namespace}
 use Rattle.call_texts.specs.Told.{told}
 use Rattle.shared_api.specs.Answered.{CallsOn}
 use Rattle.call_texts.specs.Places.{IsPlace}
-use Rattle.http_front.specs.Replies.{Front, MayStamp, Replies, WantsMemory, refused, wants_memory}
-use Rattle.http_front.specs.Steps.{Point, Answers, IsSameBut, Quiet, added}
+use Rattle.http_front.specs.Replies.{Front, MayStamp, Replies, WantsMemory, about, refused, wants_memory}
+use Rattle.http_front.specs.declared.reply.About.TheVariants.{Objects}
+use Rattle.http_front.specs.Steps.{Answers, IsSameBut, Quiet, added}
 use Rattle.http_front.specs.Going.{Goes, MayCall, MayRoute, Routed, Tells, decided}
 use Rattle.http_front.specs.Going as going
 use Rattle.http_front.proofs.Sound.{comes_sound}
@@ -137,7 +136,7 @@ coded s rose stamp v z c (Ok r) calls = comes_sound s rose stamp (items v.seen) 
 coded s rose stamp v z c (Err e) calls = tt
 
 routed_call : (f : Front) (rose : Type 0) (stamp : List ℕ) (seen log : List Item) (c : Call) (r : Result Reply Refusal) (a : ReplyView) (i : Option Item)
-    → MayStamp f.told stamp → Comes f.server rose stamp seen log c (told r) i → Tells f.server.meaning (decided r) a
+    → MayStamp f.told stamp → Comes f.server rose stamp seen log c (told r) i → Tells f.server.meaning (about c) (decided r) a
     → Routed f rose seen log (route.calls c) a i
 routed_call f rose stamp seen log c (Ok r) a i may comes tells =
     inl (record { stamp = stamp; answer = Ok (reply_of r); may = may; told = tells; comes = comes })
@@ -146,7 +145,7 @@ routed_call f rose stamp seen log c (Err e) a i may comes (inl tells) =
 routed_call f rose stamp seen log c (Err e) a i may comes (inr tells) = inr (tells, comes_sound f.server rose stamp seen log c (told (Err e)) i comes)
 
 pub comes_call : {B : Type 0} (f : Front) (rose : Type 0) (n : ℕ) (stamp : List ℕ) (v z : View B) (c : Call) (r : Result Reply Refusal) (a : ReplyView)
-    → v.number ≡ Some n → MayStamp f.told stamp → CallsOn f.server rose stamp v z c (told r) → Tells f.server.meaning (decided r) a
+    → v.number ≡ Some n → MayStamp f.told stamp → CallsOn f.server rose stamp v z c (told r) → Tells f.server.meaning (about c) (decided r) a
     → going.Comes f rose n v z (route.calls c) a
 comes_call f rose n stamp v z c r a named may calls tells = record {
   log = calls.log;
@@ -162,16 +161,16 @@ comes_still f rose n v r a routed = record { log = v.seen; item = None; goes = s
 
 -- it is refused, or there is no memory for the text
 either_told : (f : Front) (a : ReplyView) (e : RefusalView) (i : Option Item) → i ≡ None
-    → (a ≡ refused f.server.meaning e) ⊎ (a ≡ wants_memory) → ((a ≡ refused f.server.meaning e) × (i ≡ None)) ⊎ WantsMemory a i
+    → (a ≡ refused f.server.meaning Objects e) ⊎ (a ≡ wants_memory) → ((a ≡ refused f.server.meaning Objects e) × (i ≡ None)) ⊎ WantsMemory a i
 either_told f a e i none (inl is) = inl (is, none)
 either_told f a e i none (inr is) = inr (is, none)
 
 pub comes_nowhere : {B : Type 0} (f : Front) (rose : Type 0) (n : ℕ) (v : View B) (a : ReplyView)
-    → (a ≡ refused f.server.meaning refusal.no_resource) ⊎ (a ≡ wants_memory) → going.Comes f rose n v v route.no_resource a
+    → (a ≡ refused f.server.meaning Objects refusal.no_resource) ⊎ (a ≡ wants_memory) → going.Comes f rose n v v route.no_resource a
 comes_nowhere f rose n v a tells = comes_still f rose n v route.no_resource a (either_told f a refusal.no_resource None refl tells)
 
 pub comes_bad : {B : Type 0} (f : Front) (rose : Type 0) (n : ℕ) (v : View B) (a : ReplyView) (why : WhyView)
-    → (a ≡ refused f.server.meaning (refusal.bad_request why)) ⊎ (a ≡ wants_memory) → going.Comes f rose n v v (route.bad_request why) a
+    → (a ≡ refused f.server.meaning Objects (refusal.bad_request why)) ⊎ (a ≡ wants_memory) → going.Comes f rose n v v (route.bad_request why) a
 comes_bad f rose n v a why tells = comes_still f rose n v (route.bad_request why) a (either_told f a (refusal.bad_request why) None refl tells)
 
 routed_replies : (f : Front) (rose : Type 0) (seen log : List Item) (q : Request) (r : Route) (a : ReplyView) (i : Option Item)

@@ -1,5 +1,5 @@
 -- A reply's code has a phrase, and a refusal enters nothing.
-use Rattle.std.proofs.Common.{◌≡◌, ◌⊎◌, ◌+◌, ℕ, Bool, true, false, List, Option, None, Some, Result, Ok, Err, inl, inr, refl, sym, subst, ◌∙◌}
+use Rattle.std.proofs.Common.{◌≡◌, ◌⊎◌, ◌+◌, ℕ, Bool, true, false, List, Option, None, Some, Ok, Err, inl, inr, refl, sym, subst, ◌∙◌}
 use Rattle.std.specs.Prelude.{MatchBool, MatchOption, filter, not, ◌&&◌, is_some, nat_eq, if◌then◌else◌}
 use Rattle.std.specs.List.{list_all}
 use Rattle.kube_meta.specs.Key.{KeyView}
@@ -19,15 +19,13 @@ use Rattle.api_calls.specs.Meaning.{Meaning, Request}
 use Rattle.api_calls.specs.Objects.{Stored, find}
 use Rattle.api_calls.specs.Pages.{PageEnd, Place, page_decision}
 use Rattle.api_calls.specs.Pages as page
-use Rattle.api_calls.specs.Legal.{key_of}
 use Rattle.api_calls.specs.Refusal.{RefusalView}
-use Rattle.api_calls.specs.Refusal as refusal
-use Rattle.api_calls.specs.Replies.{Answer, ShowsObject, IsRaw, IsList, Pages, Wrote, Deleted, Deletes, IsRefusedRequest, Creates, GetReply, RawReply, ListReply, CreateReply, ReplaceReply, DeleteReply, SetReply, TrimReply, StartReply, MigrationReply, GroupReply, CrdReply, MigrationsReply, set_answer, trim_answer, start_answer, code_ok, code_created}
-use Rattle.api_calls.specs.Settings.{set_decision, trim_decision, trim_known, trim_free, first_unknown, first_held, start_decision, start_idle, start_room, same_flags}
+use Rattle.api_calls.specs.Replies.{Answer, ShowsObject, IsRaw, IsList, Pages, Wrote, Deleted, IsRefusedRequest, GetReply, RawReply, ListReply, CreateReply, ReplaceReply, DeleteReply, SetReply, TrimReply, StartReply, MigrationReply, GroupReply, CrdReply, MigrationsReply, set_answer, trim_answer, start_answer, code_ok, code_created}
+use Rattle.api_calls.specs.Settings.{trim_known, trim_free, first_unknown, first_held, start_idle, start_room, same_flags}
 use Rattle.api_calls.specs.Room.{lacking, lacking_chunks, lacking_migrations}
 use Rattle.api_calls.specs.State.{State, state, revision, served, has}
 use Rattle.api_calls.specs.Values.{has_finalizer, is_marked, is_forbidden, is_release}
-use Rattle.api_calls.specs.Writes.{with_room, create_decision, replaced, removed, Replaces, ReplaceDecision, DeleteDecision}
+use Rattle.api_calls.specs.Writes.{with_room, create_decision, replaced, removed, ReplaceDecision, DeleteDecision}
 use Rattle.api_calls.specs.declared.flags.Flags.{Flags}
 
 abbrev pub Sound : Answer → Option Item → Type 0

@@ -3,17 +3,16 @@ use Rattle.std.proofs.Common.{◌≡◌, ◌∙◌, ℕ, ◌+◌, ◌-◌, ◌<�
 use Rattle.std.specs.Prelude.{MatchBool}
 use Rattle.std.proofs.lemmas.List.{append-nil}
 use Rattle.std.specs.Io.KnownBytes.{append_known, prepend_known}
-use Rattle.edge_io.specs.Causes.{Rose}
 use Rattle.edge_io.specs.Sends.{AddsSome}
 use Rattle.edge_io.specs.Sending.{added_both, known_nil}
 use Rattle.api_calls.specs.Reply.{ReplyView}
 use Rattle.http_wire.specs.Head.{Request, Reads}
-use Rattle.http_wire.specs.Stream.{End, Asks, Stops, Follows, closed, closing, spent, torn, refused}
+use Rattle.http_wire.specs.Stream.{End, Asks, Follows, closed, closing, spent, torn, refused}
 use Rattle.http_wire.specs.Asking.{asks_more, asks_last, asks_end, asks_spent}
 use Rattle.http_wire.specs.declared.WireFault.{WireFault}
 use Rattle.http_front.specs.Faults.{fault_words, last_words}
 use Rattle.http_front.specs.Talk.{Exchange, asked, response_of, bytes_of, Steps, Conversation, Begins}
-use Rattle.http_front.specs.One.{AnswersOne, EndsInput, IsEnded, BreaksAnswer, BreaksRefusal, Did, HandsOn, RefusesHead, step_of, ReadsOne}
+use Rattle.http_front.specs.One.{AnswersOne, EndsInput, IsEnded, BreaksAnswer, BreaksRefusal, Did, HandsOn, RefusesHead, step_of}
 use Rattle.http_front.specs.Link.{AreFirst, BreaksReading, BreaksWriting, Breaks, answer, refusal, no_memory, memory_words, Links}
 use Rattle.http_front.specs.declared.one.OneEnd.{OneEnd}
 use Rattle.http_front.specs.declared.one.OneEnd.TheVariants as steps

@@ -1,5 +1,5 @@
 -- For private clauses: where a pass went, and what a request was told.
-use Rattle.std.specs.Prelude.{◌≡◌, ◌⊎◌, ◌++◌, ◌<◌, ℕ, List, Option, None, Some, Result, Ok, Err, IsTrue, true}
+use Rattle.std.specs.Prelude.{◌≡◌, ◌⊎◌, ◌++◌, ◌<◌, ℕ, List, Option, Result, Ok, Err, IsTrue, true}
 use mathlib.Core.List.{IsPrefix}
 use Rattle.kube_meta.specs.Names.{is_namespace}
 use Rattle.api_calls.specs.Calls.{Server, Call}
@@ -15,7 +15,8 @@ use Rattle.http_routes.specs.Routes.{Route}
 use Rattle.http_routes.specs.Routes as route
 use Rattle.turn_cell.specs.declared.view.View.{View}
 use Rattle.http_front.specs.Replies.{Front, RoutedReply, WantsMemory, refused, no_method, wants_memory}
-use Rattle.http_front.specs.Steps.{IsSameBut, Quiet, added}
+use Rattle.http_front.specs.Steps.{Quiet, added}
+use Rattle.http_front.specs.declared.reply.About.{About}
 use Rattle.http_front.specs.declared.reply.Answer.{Answer}
 use Rattle.http_front.specs.declared.reply.Answer.TheVariants as answers
 
@@ -30,9 +31,9 @@ decided (Ok r) = Ok (reply_of r)
 decided (Err e) = Err (refusal_of e)
 
 -- how an answer is told; a refusal whose text wants memory is told as want of memory
-abbrev pub Tells : Meaning → replies.Answer → ReplyView → Type 0
-Tells m (Ok r) a = a ≡ r
-Tells m (Err e) a = (a ≡ refused m e) ⊎ (a ≡ wants_memory)
+abbrev pub Tells : Meaning → About → replies.Answer → ReplyView → Type 0
+Tells m subject (Ok r) a = a ≡ r
+Tells m subject (Err e) a = (a ≡ refused m subject e) ⊎ (a ≡ wants_memory)
 
 -- the pass of the number n went from v to z: others made the list log, and then it added its item, if any
 pub record Goes {B : Type 0} (n : ℕ) (v z : View B) (log : List Logged) (item : Option Item) : Type 0 where

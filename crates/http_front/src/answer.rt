@@ -3,21 +3,43 @@ ghost use Rattle.std.specs.Prelude.{◌≡◌, ◌<◌, ◌≤◌, ℕ, Some, le
 ghost use Rattle.http_wire.specs.Inboxes.{LiesIn, request_at};
 ghost use Rattle.http_wire.specs.Response.{HasPhrase};
 ghost use Rattle.http_routes.specs.Routes.{Routes};
-ghost use Rattle.http_routes.specs.Views.{route_of};
+ghost use Rattle.http_routes.specs.Views.{call_view, route_of};
 ghost use Rattle.shared_api.specs.Base.{server_of};
 ghost use Rattle.shared_api.specs.Passes.{IsOf};
+ghost use Rattle.http_front.specs.Replies.{about};
 ghost use Rattle.http_front.specs.Steps.{Answers, IsSameBut, Quiet, point_of};
 ghost use Rattle.http_front.specs.Going.{answer_of, Comes, MayRoute};
 
 use crate::call::make_call;
-use crate::reply::{Answer, refused, told};
+use crate::reply::{About, Answer, refused, told};
 use api_calls::{Refusal, Versions};
 use edge_io::Clock;
-use http_routes::{Route, find_call};
+use http_routes::{Call, Route, find_call};
 use http_wire::{Inbox, RequestParts};
 use shared_api::{Pass, SharedApi};
 use std::alloc::Global;
 use std::sync::Wait;
+
+// What the refusals of a call are about.
+fn about_of(call: &Call<'_>) -> About
+    ensures { result ≡ about (call_view call.now) }
+{
+    match call {
+        Call::Get { .. } => About::Objects,
+        Call::List { .. } => About::Objects,
+        Call::Create { .. } => About::Objects,
+        Call::Replace { .. } => About::Objects,
+        Call::Delete { .. } => About::Objects,
+        Call::Group => About::Objects,
+        Call::Crd => About::Objects,
+        Call::SetVersions { .. } => About::Objects,
+        Call::Trim { .. } => About::Objects,
+        Call::Start { .. } => About::Migrations,
+        Call::Migration { .. } => About::Migrations,
+        Call::Migrations => About::Migrations,
+        Call::Raw { .. } => About::Objects,
+    }
+}
 
 // The answer of a route.
 fn answer_route<V: Versions + Drop, C: Clock, R: Wait>(
@@ -40,12 +62,22 @@ fn answer_route<V: Versions + Drop, C: Clock, R: Wait>(
 {
     match route {
         Route::Calls(call) => {
+            let about = about_of(&call);
             let came = make_call(rt, api, pass, clock, call);
-            told(alloc, api.versions(), came)
+            told(alloc, api.versions(), about, came)
         }
-        Route::NoResource => refused(alloc, api.versions(), &Refusal::NoResource),
+        Route::NoResource => {
+            refused(alloc, api.versions(), About::Objects, &Refusal::NoResource)
+        }
         Route::MethodNotAllowed => Answer::NoMethod,
-        Route::BadRequest(why) => refused(alloc, api.versions(), &Refusal::BadRequest { why }),
+        Route::BadRequest(why) => {
+            refused(
+                alloc,
+                api.versions(),
+                About::Objects,
+                &Refusal::BadRequest { why },
+            )
+        }
     }
 }
 

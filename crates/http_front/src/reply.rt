@@ -5,6 +5,9 @@ ghost use Rattle.edge_io.specs.Sends.{Sends};
 ghost use Rattle.http_wire.specs.Response.{HasPhrase, says};
 ghost use Rattle.api_calls.specs.Reply.{reply_of};
 ghost use Rattle.api_calls.specs.Refusal.{refusal_of};
+ghost use Rattle.api_calls.specs.Status.{code_of_refusal, status_of};
+ghost use Rattle.kj_value.specs.Text.{text_of};
+ghost use Rattle.http_routes.specs.Paths.{migration_group, migrations_word};
 ghost use Rattle.http_front.specs.Replies.{refused as refused_of, wants_memory};
 ghost use Rattle.http_front.specs.Going.{answer_of, decided, Tells};
 ghost use Rattle.http_front.specs.Link.{memory_words};
@@ -25,12 +28,41 @@ pub enum Answer {
     NoMemory,
 }
 
-// The reply to a refused request.
-fn refuse<V: Versions>(alloc: Global, versions: &V, refusal: &Refusal) -> Result<Reply, NoMemory>
-    ensures { IfOk result (λ r. reply_of r ≡ refused_of (V.meaning versions.now) (refusal_of refusal.now)) }
+/// What a refusal is about.
+#[derive(Clone, Copy, Debug, PartialEq, Eq, Drop)]
+pub enum About {
+    /// Objects of the definition.
+    Objects,
+    /// Storage migrations (storagemigration.k8s.io).
+    Migrations,
+}
+
+// The plural name of storage migrations.
+#[tactic(auto, unfolding(http_routes::specs::Paths::migrations_word))]
+fn migrations() -> &'static str
+    ensures { result.now ≡ migrations_word }
 {
-    let plural = versions.plural().as_str();
-    let group = versions.group().as_str();
+    "storageversionmigrations"
+}
+
+// The group of storage migrations.
+#[tactic(auto, unfolding(http_routes::specs::Paths::migration_group))]
+fn migrations_group() -> &'static str
+    ensures { result.now ≡ migration_group }
+{
+    "storagemigration.k8s.io"
+}
+
+// The reply to a refused request about the resource with this plural name in this group.
+fn status_reply(
+    alloc: Global,
+    plural: &str,
+    group: &str,
+    refusal: &Refusal,
+) -> Result<Reply, NoMemory>
+    ensures { IfOk result (λ r. reply_of r
+        ≡ record { code = code_of_refusal (refusal_of refusal.now); text = text_of (status_of (refusal_of refusal.now) plural.now group.now) }) }
+{
     let text = status_text(alloc, refusal, plural, group)?;
     Ok(Reply {
         code: code_of(refusal),
@@ -38,27 +70,51 @@ fn refuse<V: Versions>(alloc: Global, versions: &V, refusal: &Refusal) -> Result
     })
 }
 
+// The reply to a refused request.
+fn refuse<V: Versions>(
+    alloc: Global,
+    versions: &V,
+    about: About,
+    refusal: &Refusal,
+) -> Result<Reply, NoMemory>
+    ensures { IfOk result (λ r. reply_of r ≡ refused_of (V.meaning versions.now) about (refusal_of refusal.now)) }
+{
+    match about {
+        About::Objects => {
+            let plural = versions.plural().as_str();
+            let group = versions.group().as_str();
+            status_reply(alloc, plural, group, refusal)
+        }
+        About::Migrations => status_reply(alloc, migrations(), migrations_group(), refusal),
+    }
+}
+
 /// The answer to a refused request: its Status, where there is memory for the text.
 #[tactic(auto, using(crate::proofs::Codes::codes))]
-pub fn refused<V: Versions>(alloc: Global, versions: &V, refusal: &Refusal) -> Answer
-    ensures tells { (answer_of result ≡ refused_of (V.meaning versions.now) (refusal_of refusal.now)) ⊎ (answer_of result ≡ wants_memory) }
+pub fn refused<V: Versions>(alloc: Global, versions: &V, about: About, refusal: &Refusal) -> Answer
+    ensures tells { (answer_of result ≡ refused_of (V.meaning versions.now) about (refusal_of refusal.now)) ⊎ (answer_of result ≡ wants_memory) }
     ensures phrase { HasPhrase (answer_of result).code }
 {
-    match refuse(alloc, versions, refusal) {
+    match refuse(alloc, versions, about, refusal) {
         Ok(reply) => Answer::Reply(reply),
         Err(_) => Answer::NoMemory,
     }
 }
 
-/// The answer of what a call came to.
-pub fn told<V: Versions>(alloc: Global, versions: &V, came: Result<Reply, Refusal>) -> Answer
+/// The answer of what a call came to, whose refusals are about this.
+pub fn told<V: Versions>(
+    alloc: Global,
+    versions: &V,
+    about: About,
+    came: Result<Reply, Refusal>,
+) -> Answer
     requires { IfOk came (λ r. HasPhrase r.code) }
-    ensures tells { Tells (V.meaning versions.now) (decided came) (answer_of result) }
+    ensures tells { Tells (V.meaning versions.now) about (decided came) (answer_of result) }
     ensures phrase { HasPhrase (answer_of result).code }
 {
     match came {
         Ok(reply) => Answer::Reply(reply),
-        Err(refusal) => refused(alloc, versions, &refusal),
+        Err(refusal) => refused(alloc, versions, about, &refusal),
     }
 }
 

@@ -1,4 +1,3 @@
-use Rattle.std.proofs.Common.{ℕ}
 use Rattle.http_wire.specs.Inboxes.{request_at}
 use Rattle.http_wire.specs.Phrases.{phrase-503}
 use Rattle.http_routes.specs.Views.{route_of}

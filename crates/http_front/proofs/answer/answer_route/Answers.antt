@@ -15,7 +15,7 @@ pub returns-in-Calls-clause-comes : goal.returns-in-Calls-clause-comes
 returns-in-Calls-clause-comes g c = λ n named.
     rw c.in-Calls.is
     (comes_call _ _ n c.make_call-came.ensures.calls.0 _ _ (call_view c.in-Calls.call) c.make_call-came.result _ named
-    c.make_call-came.ensures.calls.1 c.make_call-came.ensures.calls.2 (rw c.versions.ensures at c.told.ensures.tells))
+    c.make_call-came.ensures.calls.1 c.make_call-came.ensures.calls.2 (rw (c.versions.ensures, c.about_of-about.ensures) at c.told.ensures.tells))
 
 pub returns-in-NoResource-clause-comes : goal.returns-in-NoResource-clause-comes
 returns-in-NoResource-clause-comes g c = λ n named.

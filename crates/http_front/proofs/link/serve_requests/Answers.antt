@@ -1,4 +1,4 @@
-use Rattle.std.proofs.Common.{◌≡◌, ◌∙◌, ℕ, None, refl, arith, inl, inr}
+use Rattle.std.proofs.Common.{◌∙◌, None, refl, arith, inl, inr}
 use Rattle.http_front.specs.Steps.{point_of}
 use Rattle.http_front.proofs.Calling.{quiet_on, same_number, same_on}
 use Rattle.http_front.proofs.Talking.{so_far_from, so_far_more, ended_so, ended_last, ended_spent, broke_reading, broke}

@@ -2,7 +2,7 @@ use Rattle.std.proofs.Common.{refl, inl}
 use Rattle.http_wire.specs.Inboxes.{request_at}
 use Rattle.http_wire.specs.declared.WireFault.TheVariants as faults
 use Rattle.http_front.specs.Going.{answer_of}
-use Rattle.http_front.proofs.Talking.{did_close, did_either, did_tear, did_refuse, handed_on}
+use Rattle.http_front.proofs.Talking.{did_close, did_either, did_tear, did_refuse}
 use Rattle.http_front.proofs.one.serve_one.Goals as goal
 
 pub returns-in-Ok-hand_on-clause-did : goal.returns-in-Ok-hand_on-clause-did
