@@ -1,15 +1,19 @@
 #!/usr/bin/env python3
-"""Times `kubeconv pipe`: N creates and then a get of each object, for rising N, in one connection a run.
+"""Times `kubeconv pipe`: creates, gets, replaces and lists of 500 while 1,000, 2,000 and 5,000 objects stand.
 
-Prints requests per second, and how many times as long a request takes as at the smallest N. All is processor time, so that
-what else runs counts little; that of a run with no input is taken off. Every answer is checked: 201 for a create, 200 for a get, status 0 at the end."""
+Prints what one request takes, in microseconds of processor time, so that what else runs counts little, and how many times as long
+it takes with the most objects as with the fewest; the run that makes the objects alone is taken off. Every answer is
+checked: 201 for a create, 200 for all others, status 0 at the end."""
 
 import sys
 
 from programs import best_of, built, parser_of, processor_seconds, timed
 
-SIZES = 500, 2000, 5000
-PLURAL = "namespaces/default/crontabs"
+# So many objects stand while a chore is timed, and so many requests of it are made; at most 10,000 requests are read in a run.
+SIZES = 1000, 2000, 5000
+TIMES = 4900
+LISTS = 50
+VERSION = "/apis/example.com/{}/namespaces/default/crontabs"
 
 
 def name_of(number):
@@ -17,24 +21,54 @@ def name_of(number):
     return f"cron-{number * 2654435769 % 2**32:08x}"
 
 
-def create(name):
-    """The request that creates an object."""
+def request(line, body=""):
+    length = f"Content-Length: {len(body)}\r\n" if body else ""
+    return f"{line} HTTP/1.1\r\n{length}\r\n{body}"
+
+
+def body_of(number, address, over=""):
+    """The body that submits an object at the version that is stored, over the number at which it stands where it does."""
     kind = '"apiVersion":"example.com/v1beta1","kind":"CronTab"'
-    body = f'{{{kind},"metadata":{{"name":"{name}"}},"address":"localhost"}}'
-    return f"POST /apis/example.com/v1beta1/{PLURAL} HTTP/1.1\r\nContent-Length: {len(body)}\r\n\r\n{body}"
+    return f'{{{kind},"metadata":{{"name":"{name_of(number)}"{over}}},"address":"{address}"}}'
 
 
-def get(name, last):
-    """The request that gets an object; the last one asks for closing."""
-    closing = "Connection: close\r\n" if last else ""
-    return f"GET /apis/example.com/v1/{PLURAL}/{name} HTTP/1.1\r\n{closing}\r\n"
+def create(turn, size):
+    """One more object, behind those that stand."""
+    return request(f"POST {VERSION.format('v1beta1')}", body_of(size + turn, "localhost"))
 
 
-def requests(count):
-    """The bytes of so many creates and gets."""
-    names = [name_of(number) for number in range(count)]
-    gets = [get(name, name == names[-1]) for name in names]
-    return "".join([*map(create, names), *gets]).encode()
+def get_stored(turn, size):
+    return request(f"GET {VERSION.format('v1beta1')}/{name_of(turn % size)}")
+
+
+def get_converted(turn, size):
+    return request(f"GET {VERSION.format('v1')}/{name_of(turn % size)}")
+
+
+def replace(turn, size):
+    """An edit of one object after the other. The first was created at the number 2, and each write takes the next, so that the
+    object of this turn stands at two more than the turn, in the second round too."""
+    over = f',"resourceVersion":"{turn + 2}"'
+    return request(f"PUT {VERSION.format('v1beta1')}/{name_of(turn % size)}", body_of(turn % size, f"host-{turn}", over))
+
+
+def list_stored(_turn, _size):
+    return request(f"GET {VERSION.format('v1beta1')}?limit=500")
+
+
+def list_converted(_turn, _size):
+    return request(f"GET {VERSION.format('v1')}?limit=500")
+
+
+# A chore's name, its request, the code that answers it, and how often it is made.
+CHORES = (
+    ("create", create, 201, TIMES),
+    ("get at the stored version", get_stored, 200, TIMES),
+    ("get at the other version", get_converted, 200, TIMES),
+    ("replace", replace, 200, TIMES),
+    ("list of 500, stored", list_stored, 200, LISTS),
+    ("list of 500, converted", list_converted, 200, LISTS),
+)
 
 
 def codes_of(answers):
@@ -70,14 +104,18 @@ def main():
     options = parser.parse_args()
     program = built("kubeconv", options.program, "pipe")
     tasks = {}
-    for count in (0, *SIZES):
-        given, wanted = requests(count), [201] * count + [200] * count
-        tasks[count] = lambda given=given, wanted=wanted: seconds_of(program, given, wanted)
+    for size in SIZES:
+        made = [create(turn, 0) for turn in range(size)]
+        tasks[size, None] = lambda given="".join(made).encode(), wanted=[201] * size: seconds_of(program, given, wanted)
+        for name, ask, code, times in CHORES:
+            asked = [ask(turn, size) for turn in range(times)]
+            given, wanted = "".join(made + asked).encode(), [201] * size + [code] * times
+            tasks[size, name] = lambda given=given, wanted=wanted: seconds_of(program, given, wanted)
     best = best_of(options.runs, tasks)
-    each = {count: (best[count] - best[0]) / (2 * count) for count in SIZES}
-    print(f"{'N':>6} {'requests/s':>12} {'time to N=' + str(SIZES[0]):>14}")
-    for count in SIZES:
-        print(f"{count:>6} {1 / each[count]:>12,.0f} {each[count] / each[SIZES[0]]:>14.2f}")
+    print(f"{'request':<26}" + "".join(f"{f'us, {size} objects':>18}" for size in SIZES) + f"{'last to first':>15}")
+    for name, _ask, _code, times in CHORES:
+        each = [(best[size, name] - best[size, None]) / times for size in SIZES]
+        print(f"{name:<26}" + "".join(f"{it * 1e6:>18.1f}" for it in each) + f"{each[-1] / each[0]:>15.2f}")
 
 
 if __name__ == "__main__":
