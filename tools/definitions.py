@@ -8,9 +8,10 @@ file hands on by `pub use`. A lemma's proof counts for nothing: only the definit
 Run it at the top of the repository. It prints two lists, each in the order of crates.txt: the files that the clauses of
 `kubeconv_cmd` and `kubeconv` reach, which is what has to be read to believe the program, and the files that only other
 public clauses reach, which no program serves yet. With --check it tells which of these have no row in FILE
-(docs/DEFINITIONS.md), or two, or one in the other list's part; and which files it names that nothing reaches, or that aren't
-there. It ends with status 1 if there are any. A row begins with the file, and behind the first one of a crate the next ones
-of its cell need no crate; the part of the second list begins at the line UNSERVED.
+(docs/DEFINITIONS.md), or two, or one in the other list's part; which files it names that nothing reaches, or that aren't
+there; and which definitions it names, as "`A`, `B` of `crate/specs/File`", that the file doesn't have. It ends with status 1 if
+there are any. A row begins with the file, and behind the first one of a crate the next ones of its cell need no crate; the part
+of the second list begins at the line UNSERVED.
 """
 import os, re, sys
 
@@ -169,10 +170,14 @@ def main():
         elsewhere = [short(m) for m in files if m in program | others and (m in others) not in rows.get(short(m), [m in others])]
         spare = sorted(w for w in told if w in known and w not in every)
         gone = sorted(w for w in told if w not in known)
-        for words, what in (lacking, "reached, and without a row"), (twice, "in two rows"), (elsewhere, "in the other list's part"), (spare, "named, and not reached"), (gone, "named, and not there"):
+        foreign = []
+        for m in re.finditer(r"((?:`\w+`(?:, | and )?)+) of `(\w+/specs/\w+)`", document):
+            file = files.get("Rattle." + m.group(2).replace("/", "."))
+            if file: foreign += [f"{name} of {m.group(2)}" for name in re.findall(r"`(\w+)`", m.group(1)) if name not in file.blocks]
+        for words, what in (lacking, "reached, and without a row"), (twice, "in two rows"), (elsewhere, "in the other list's part"), (spare, "named, and not reached"), (gone, "named, and not there"), (foreign, "named, and the file has no such definition"):
             for word in words: print(f"{word}: {what}")
-        print(f"{len(every)} files are reached; {len(lacking)} lacking, {len(twice)} twice, {len(elsewhere)} in the other part, {len(spare)} spare, {len(gone)} not there")
-        raise SystemExit(1 if lacking or twice or elsewhere or spare or gone else 0)
+        print(f"{len(every)} files are reached; {len(lacking)} lacking, {len(twice)} twice, {len(elsewhere)} in the other part, {len(spare)} spare, {len(gone)} not there, {len(foreign)} definitions elsewhere")
+        raise SystemExit(1 if lacking or twice or elsewhere or spare or gone or foreign else 0)
     print("# what the program's clauses reach"); print("\n".join(ordered(program)))
     print("# what only other public clauses reach"); print("\n".join(ordered(others)))
 
