@@ -6,15 +6,19 @@
     python3 tools/build.py --only CRATE..  builds only these libraries and what is below them, and no program
 
 `rt` builds one crate after another, and waits where a second one works in the same copy of the repository. But it takes a library
-as built where its folder `out/rlib` was built of the same text, in whichever copy. So this makes a few copies of the sources among
-the temporary files, one a processor, and has a library built in one of them as soon as those below it stand, those with the
-longest chain above them first; those below are copied there before, and what stands is copied here. Then `rt run` in this copy
-builds the program over them. Each library is proved as it always is, once. The copies are removed at the end, and also after an
-interrupt; what one left that was killed is removed by the next.
+as built where its folder `out/rlib` was built of the same text, in whichever copy, and what another copy on this machine still has
+of one it takes by itself. So this makes a few copies of the sources among the temporary files, one a processor, and has a library
+built in one of them as soon as those below it stand, those with the longest chain above them first. Those below are put there
+before, since `rt` looks through all sources below once more where a library lacks, and can't take it from elsewhere where the kit's
+folder isn't the user's to write into. What stands is put here too; then `rt run` in this copy builds the program over it. Each library
+is proved as it always is, once. The copies are removed at the end, and also after an interrupt; what one left that was killed is
+removed by the next. No other `rt` works in this copy meanwhile: this waits for one that does, and keeps others out until `rt run`.
 
 A line for each library that stands goes to standard error, with how many are left. Where anything fails, `rt run` goes on from
 what stands, one crate after another. The status is that of the last command: 0 where the program stands.
 """
+import contextlib
+import fcntl
 import glob
 import os
 import re
@@ -92,11 +96,28 @@ def places():
 
 
 def sweep():
-    """Removes the copies, and the libraries copied in part, that a run left which was killed."""
+    """Removes the copies, and the libraries put somewhere in part, that a run left which was killed."""
     for it in glob.glob(f"{tempfile.gettempdir()}/kubeconv-build-*") + glob.glob(f"{TOP}/crates/*/out/rlib.*"):
         of = re.search(r"(?:/kubeconv-build-(\d+)-[^/]*|/rlib\.(\d+))$", it)
         if of and not os.path.exists(f"/proc/{of[1] or of[2]}"):
             shutil.rmtree(it, ignore_errors=True)
+
+
+@contextlib.contextmanager
+def alone_in(crates):
+    """Waits until no other rt works in these crates' folders here, as rt itself does, and keeps others out."""
+    with contextlib.ExitStack() as held:
+        for folder in sorted(f"{TOP}/crates/{it}" for it in crates):
+            at = os.open(folder, os.O_RDONLY)
+            held.callback(os.close, at)
+            try:
+                fcntl.flock(at, fcntl.LOCK_EX | fcntl.LOCK_NB)
+            except BlockingIOError:
+                print(f"kubeconv: waiting for another rt to finish in {folder}", file=sys.stderr, flush=True)
+                fcntl.flock(at, fcntl.LOCK_EX)
+            except OSError:
+                pass  # a file system without locks
+        yield
 
 
 def copy_to(to, crates):
@@ -122,15 +143,23 @@ def stamp_of(at, crate):
         return None
 
 
+def link_or_copy(of, to):
+    """Gives a file of a library a second name, as rt does, which writes into no library that stands; or copies it to another disk."""
+    try:
+        os.link(of, to)
+    except OSError:
+        shutil.copy2(of, to)
+
+
 def give(crate, of, to):
-    """Copies a library that stands in one copy to another, where it isn't there yet. It stands there whole or not at all."""
+    """Gives a library that stands in one copy to another, where it isn't there yet. It stands there whole or not at all."""
     stamp, out = stamp_of(of, crate), f"{to}/crates/{crate}/out"
     if stamp is None or stamp == stamp_of(to, crate):
         return
     os.makedirs(out, exist_ok=True)
     new = f"{out}/rlib.{os.getpid()}"
     shutil.rmtree(new, ignore_errors=True)
-    shutil.copytree(f"{of}/crates/{crate}/out/rlib", new, symlinks=True)
+    shutil.copytree(f"{of}/crates/{crate}/out/rlib", new, symlinks=True, copy_function=link_or_copy)
     shutil.rmtree(f"{out}/rlib", ignore_errors=True)
     os.rename(new, f"{out}/rlib")
 
@@ -262,7 +291,8 @@ def build(crates, program, log):
     sweep()
     room = tempfile.mkdtemp(prefix=f"kubeconv-build-{os.getpid()}-")
     try:
-        is_well = side_by_side(order, named, log, room)
+        with alone_in(order):
+            is_well = side_by_side(order, named, log, room)
         if not is_well:
             print("kubeconv: not all libraries could be built side by side: one crate after another now", file=sys.stderr, flush=True)
         if not crates:
