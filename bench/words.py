@@ -1,0 +1,73 @@
+#!/usr/bin/env python3
+"""Looks at what the built program does before its run can begin, of which no contract speaks: where a word of the command line
+isn't UTF-8 it ends with status 2 and the line of that status, and where there is no memory for the words with 7 and its line.
+
+For the second it finds the least memory with which a run of one bad word ends as it should, and gives a run of many long words
+a little more than that, 64 KiB more each time, until these end as they should too. Of the runs before, one at least must
+have ended with 7, and each with 7, or as a process that wasn't given enough to begin with.
+
+Prints what came, and ends with status 1 where it isn't so."""
+
+import resource
+import subprocess
+import sys
+
+from programs import built, parser_of
+
+BAD_WORDS = (2, b"kubeconv: bad command line\n")
+NO_MEMORY = (7, b"kubeconv: out of memory\n")
+KIB = 1024
+MOST = 1024 * 1024 * KIB
+STEP = 64 * KIB
+STEPS = 256
+# A word has at most 128 KiB, and all of them 2 MiB at most.
+LONG_WORDS = ["w" * (100 * KIB)] * 10
+
+
+def ended(program, words, room=None):
+    """How a run of these words ended, with so many bytes of memory: its status and its error line. None where the process
+    didn't begin, or was ended from outside."""
+    limit = (lambda: resource.setrlimit(resource.RLIMIT_AS, (room, room))) if room else None
+    try:
+        run = subprocess.run([program, *words], stdin=subprocess.DEVNULL, capture_output=True, preexec_fn=limit)
+    except (OSError, subprocess.SubprocessError):
+        return None
+    if run.returncode < 0 or run.returncode == 127:
+        return None
+    return run.returncode, run.stderr
+
+
+def least_room(program):
+    """The least memory, in steps, with which a run of one bad word ends as it should."""
+    low, high = 0, MOST // STEP
+    while low + 1 < high:
+        middle = (low + high) // 2
+        if ended(program, ["x"], middle * STEP) == BAD_WORDS:
+            high = middle
+        else:
+            low = middle
+    return high * STEP
+
+
+def main():
+    """Reads the words, runs and prints."""
+    options = parser_of(__doc__, "kubeconv").parse_args()
+    program = built("kubeconv", options.program, "pipe")
+    bad = 0
+    for words in ([b"\xff"], [b"pipe\xc3"], [b"pipe", b"--turns", b"\xed\xa0\x80"]):
+        came = ended(program, words)
+        print(f"{words}: {came}")
+        bad += came != BAD_WORDS
+    room = least_room(program)
+    came = [ended(program, LONG_WORDS, room + STEP * more) for more in range(STEPS)]
+    wanted = came.index(BAD_WORDS) if BAD_WORDS in came else STEPS
+    short = [end for end in came[:wanted] if end is not None]
+    others = [end for end in short if end != NO_MEMORY]
+    print(f"{len(LONG_WORDS)} long words, from {room // KIB} KiB on: {len(short) - len(others)} runs ended with 7, {len(others)} otherwise, "
+          f"and with {STEP * wanted // KIB} KiB more the words are bad")
+    bad += bool(others) or not short or wanted == STEPS
+    sys.exit(1 if bad else 0)
+
+
+if __name__ == "__main__":
+    main()
