@@ -14,12 +14,15 @@ Then comes a table by crate for docs/GATE.md, in processor minutes: the proof of
 begin with, its edits with the check that these begin with, and how many edits it has. It is made of looks: twice a second it
 notes for each process below the command which crate its words name (`--crate-name`), whether they have `--test`, whether it works
 in an edit's folder, and the processor time that it has taken. What a process takes after the last look is lost, so the table
-sums to a little less than the exact sum; the rest of that is the work of rt itself, and running the tests and the programs. A
-crate that an earlier run kept takes nothing, so a whole table needs --anew, or a machine that kept nothing.
+sums to a little less than the exact sum; the rest of that is the work of rt itself, and running the tests and the programs. What
+an earlier run kept, or this one didn't come to, takes nothing: its place says `kept`, and crates of which nothing was seen stand below
+the table. So a whole table needs --anew, or a machine that kept nothing.
 
-It ends with the command's status. --log FILE before the other words writes the looks into FILE, a line a process. Linux only.
+It ends with the command's status. --log FILE before the other words writes the looks into FILE, a line a process, each minute and at
+the end, so that a run that is cut off leaves its table too. Linux only.
 """
 import os
+import re
 import resource
 import subprocess
 import sys
@@ -27,6 +30,7 @@ import threading
 import time
 
 LOOK_SECONDS = 0.5
+LOG_LOOKS = 120
 TICKS = os.sysconf("SC_CLK_TCK")
 KINDS = ("proof", "tests", "edits")
 
@@ -91,10 +95,21 @@ def look(root, seen, known):
             pass
 
 
-def watch(root, ended, seen):
-    known = {}
+def note(log, seen):
+    """Writes the looks into the file, if there is one."""
+    if log:
+        with open(f"{log}.new", "w") as it:
+            it.writelines(f"{crate} {kind} {seconds:.2f}\n" for crate, kind, seconds in seen.values())
+        os.replace(f"{log}.new", log)
+
+
+def watch(root, ended, seen, log):
+    known, looks = {}, 0
     while not ended.wait(LOOK_SECONDS):
         look(root, seen, known)
+        looks += 1
+        if looks % LOG_LOOKS == 0:
+            note(log, seen)
 
 
 def edits_of(crate):
@@ -102,6 +117,15 @@ def edits_of(crate):
         return sum(it.endswith(".edit") for it in os.listdir(f"crates/{crate}/must-fail"))
     except OSError:
         return 0
+
+
+def has_tests(crate):
+    for at, _, names in os.walk(f"crates/{crate}/src"):
+        for name in names:
+            with open(f"{at}/{name}", errors="replace") as it:
+                if re.search(r"^\s*#\[test\]", it.read(), re.MULTILINE):
+                    return True
+    return False
 
 
 def order():
@@ -124,11 +148,15 @@ def table(seen):
     print("| crate | proof | tests | edits |\n|---|---|---|---|")
     for crate in sorted(minutes, key=lambda it: (listed.index(it) if it in listed else len(listed), it)):
         of, count = minutes[crate], edits_of(crate)
-        cells = [f"{of[it]:.1f}" if of[it] else "none" for it in KINDS]
-        if of["edits"] or count:
-            cells[2] = f"{of['edits']:.1f}, {count}" if of["edits"] else f"kept, {count}"
+        cells = [f"{of[it]:.1f}" if of[it] else "kept" for it in KINDS]
+        if not of["tests"] and not has_tests(crate):
+            cells[1] = "none"
+        cells[2] = f"{cells[2]}, {count}" if of["edits"] or count else "none"
         print(f"| `{crate}` | {' | '.join(cells)} |")
     print(f"| all | {' | '.join(f'{each[it]:.1f}' for it in KINDS)} |")
+    unseen = [it for it in listed if it not in minutes]
+    if unseen:
+        print(f"\nNothing was seen of these, since an earlier run kept them, or this one was stopped: {', '.join(unseen)}.")
     over = [it for it in minutes if sum(minutes[it].values()) > 10]
     print(f"\nBy looks: {sum(each.values()):.0f} processor minutes. Over ten in all: {', '.join(sorted(over)) or 'no crate'}.")
 
@@ -137,7 +165,7 @@ def run(words, log):
     began, before = time.monotonic(), resource.getrusage(resource.RUSAGE_CHILDREN)
     started = subprocess.Popen(words)
     ended, seen = threading.Event(), {}
-    watching = threading.Thread(target=watch, args=(started.pid, ended, seen))
+    watching = threading.Thread(target=watch, args=(started.pid, ended, seen, log))
     watching.start()
     while True:
         try:
@@ -150,9 +178,7 @@ def run(words, log):
     watching.join()
     after, clock = resource.getrusage(resource.RUSAGE_CHILDREN), time.monotonic() - began
     user, system = after.ru_utime - before.ru_utime, after.ru_stime - before.ru_stime
-    if log:
-        with open(log, "w") as it:
-            it.writelines(f"{crate} {kind} {seconds:.2f}\n" for crate, kind, seconds in seen.values())
+    note(log, seen)
     sys.stdout.flush()
     print(f"\n`{' '.join(words)}` ended with status {status}, on {len(os.sched_getaffinity(0))} processors:")
     print(f"{(user + system) / 60:.1f} processor minutes ({user / 60:.1f} of them user), {clock / 60:.1f} minutes of the clock\n")
@@ -160,20 +186,21 @@ def run(words, log):
     return status if status >= 0 else 128 - status
 
 
-def main(words):
+def main(words, here):
     log = None
     if words[:1] == ["--log"]:
-        log, words = words[1], words[2:]
+        log, words = os.path.join(here, words[1]), words[2:]
     if words[:1] in (["-h"], ["--help"]):
         print(__doc__, end="")
         return 0
     if words[:1] == ["--times"]:
-        with open(words[1]) as it:
+        with open(os.path.join(here, words[1])) as it:
             table([(crate, kind, float(seconds)) for crate, kind, seconds in map(str.split, it)])
         return 0
     return run(["rt", "ci", *words] if words in ([], ["--anew"]) else words, log)
 
 
 if __name__ == "__main__":
+    came = os.getcwd()
     os.chdir(f"{os.path.dirname(os.path.realpath(__file__))}/..")
-    sys.exit(main(sys.argv[1:]))
+    sys.exit(main(sys.argv[1:], came))
