@@ -7,6 +7,7 @@ use Rattle.std.proofs.lemmas.Bool.{cases_lt}
 use Rattle.std.proofs.lemmas.Bool.Decides.{nat_tests}
 use Rattle.http_wire.specs.Head.{Request}
 use Rattle.http_wire.specs.Response.{HasPhrase}
+use Rattle.http_wire.specs.Phrases.{phrase-200, phrase-201}
 use Rattle.api_calls.specs.Calls.{Server, Call, Told, answered, Comes, decided as as_decided, wants_memory as as_wanted, not_converted, moved, lost, Decides}
 use Rattle.api_calls.specs.Item.{Item, Logged, items, items_of}
 use Rattle.api_calls.specs.Meaning.{Meaning}
@@ -40,7 +41,7 @@ use Rattle.http_front.specs.declared.reply.About.TheVariants.{Objects}
 use Rattle.http_front.specs.Steps.{Answers, IsSameBut, Quiet, added}
 use Rattle.http_front.specs.Going.{Goes, MayCall, MayRoute, Routed, Tells, decided}
 use Rattle.http_front.specs.Going as going
-use Rattle.http_front.proofs.Sound.{comes_sound}
+use Rattle.http_front.proofs.Sound.{IsSuccess, comes_fair}
 
 -- ---- calls
 
@@ -130,9 +131,15 @@ told_is : (r : Result Reply Refusal) → told r ≡ answered (decided r)
 told_is (Ok r) = refl
 told_is (Err e) = refl
 
+success_phrase : (code : ℕ) → IsSuccess code → HasPhrase code
+success_phrase code ok = elim ok [
+  | inl e ↦ subst (λ (n : ℕ). HasPhrase n) (sym e) phrase-200
+  | inr e ↦ subst (λ (n : ℕ). HasPhrase n) (sym e) phrase-201
+]
+
 pub coded : {B : Type 0} (s : Server) (rose : Type 0) (stamp : List ℕ) (v z : View B) (c : Call) (r : Result Reply Refusal)
     → CallsOn s rose stamp v z c (told r) → IfOk r (λ x. HasPhrase x.code)
-coded s rose stamp v z c (Ok r) calls = comes_sound s rose stamp (items v.seen) (items calls.log) c (told (Ok r)) calls.item calls.comes
+coded s rose stamp v z c (Ok r) calls = success_phrase r.code (comes_fair s rose stamp (items v.seen) (items calls.log) c (told (Ok r)) calls.item calls.comes)
 coded s rose stamp v z c (Err e) calls = tt
 
 routed_call : (f : Front) (rose : Type 0) (stamp : List ℕ) (seen log : List Item) (c : Call) (r : Result Reply Refusal) (a : ReplyView) (i : Option Item)
@@ -142,7 +149,7 @@ routed_call f rose stamp seen log c (Ok r) a i may comes tells =
     inl (record { stamp = stamp; answer = Ok (reply_of r); may = may; told = tells; comes = comes })
 routed_call f rose stamp seen log c (Err e) a i may comes (inl tells) =
     inl (record { stamp = stamp; answer = Err (refusal_of e); may = may; told = tells; comes = comes })
-routed_call f rose stamp seen log c (Err e) a i may comes (inr tells) = inr (tells, comes_sound f.server rose stamp seen log c (told (Err e)) i comes)
+routed_call f rose stamp seen log c (Err e) a i may comes (inr tells) = inr (tells, (comes_fair f.server rose stamp seen log c (told (Err e)) i comes).0)
 
 pub comes_call : {B : Type 0} (f : Front) (rose : Type 0) (n : ℕ) (stamp : List ℕ) (v z : View B) (c : Call) (r : Result Reply Refusal) (a : ReplyView)
     → v.number ≡ Some n → MayStamp f.told stamp → CallsOn f.server rose stamp v z c (told r) → Tells f.server.meaning (about c) (decided r) a

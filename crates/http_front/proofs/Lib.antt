@@ -2,3 +2,4 @@ pub mod Codes
 pub mod Sound
 pub mod Calling
 pub mod Talking
+pub mod Failures

@@ -5,3 +5,4 @@ pub mod Talk
 pub mod One
 pub mod Link
 pub mod Going
+pub mod Failures

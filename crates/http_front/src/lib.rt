@@ -10,6 +10,7 @@
 mod answer;
 mod call;
 mod fault;
+pub mod laws;
 mod link;
 mod one;
 mod reply;
