@@ -3,7 +3,7 @@
 use Rattle.std.proofs.Common.{◌≡◌, ◌≢◌, ◌∙◌, ℕ, zero, suc, ◌+◌, ◌<◌, ◌≤◌, nat_eq, Bool, true, false, List, [], ◌∷◌, ◌++◌, Option, Some, None, Result, Ok, Err, inl, inr, refl, ap, sym, subst, arith, append_assoc}
 use Rattle.std.proofs.lemmas.Bool.Decides.{nat_tests}
 use Rattle.std.proofs.lemmas.List.{append-nil, append_cancel_left}
-use Rattle.std.specs.Prelude.{map, if◌then◌else◌}
+use Rattle.std.specs.Prelude.{OnErr, map, if◌then◌else◌}
 use Rattle.kube_meta.specs.Key.{KeyView}
 use Rattle.kube_meta.specs.Plan.{Migration, running, may_claim, is_done}
 use Rattle.api_calls.specs.Calls.{Server, Call, work, Told, answered, worked, failed, gave_back, no_memory, IsTurn, Decides, Fails, IsMoved, IsLost, Comes, decided, wants_memory, not_converted, moved, lost}
@@ -19,7 +19,7 @@ use Rattle.turn_cell.specs.Turns.{addition}
 use Rattle.turn_cell.specs.Views.{IsAlone}
 use Rattle.turn_cell.specs.declared.view.View.{View}
 use Rattle.shared_api.specs.Answered.{CallsOn}
-use Rattle.shared_api.specs.Steps.{IsTold}
+use Rattle.shared_api.specs.Steps.{IsTold, IsToPrepare}
 use Rattle.shared_api.specs.declared.step.TurnStep.{TurnStep}
 use Rattle.shared_api.specs.declared.step.WorkFault.{WorkFault}
 use Rattle.http_wire.specs.Head.{Request}
@@ -214,6 +214,17 @@ told_leaves : (came : Result TurnStep WorkFault) (left : Option ℕ) (t : Told) 
 told_leaves (Ok step) left t is = subst (λ (x : Told). Leaves x left) (sym is.2) refl
 told_leaves (Err fault) left t is = subst (λ (x : Told). Leaves x left) (sym is) refl
 
+-- a turn that failed, as a worker is told, did so of this
+abbrev FailsOf : Told → Type 0 → Type 0
+FailsOf (answered a) P = Unit {0}
+FailsOf (worked e c) P = Unit {0}
+FailsOf (failed f c) P = P
+FailsOf (gave_back b) P = Unit {0}
+
+told_fails : (came : Result TurnStep WorkFault) (left : Option ℕ) (t : Told) (P : Type 0) → IsTold came left t → OnErr came P → FailsOf t P
+told_fails (Ok step) left t P is why = subst (λ (x : Told). FailsOf x P) (sym is.2) tt
+told_fails (Err fault) left t P is why = subst (λ (x : Told). FailsOf x P) (sym is) why
+
 -- while no item came in, none named a key
 not_moved : (m : Meaning) (log : List Item) (claim : Option ℕ) → IsMoved m log log claim → ⊥
 not_moved m log claim is = subst (λ (since : List Item). In is.named.item since) none is.named.stands
@@ -249,18 +260,22 @@ at_both p q logs claims = ap (λ (log : List Item). let w : At = record { log = 
 
 -- how a turn comes out where no other calls, and the tool has no fault
 turn_comes : (s : Server) (rose : Type 0) (stamp : List ℕ) (p q : At) (c : Call) (t : Told) (i : Option Item) → ¬ rose → c ≡ work p.claim
-    → Comes s rose stamp p.log p.log c t i → Leaves t q.claim → q.log ≡ grown p.log i → TakesTurn s p q
-turn_comes s rose stamp p q c t i never is (decided d u j how) leaves grows =
+    → Comes s rose stamp p.log p.log c t i → Leaves t q.claim → FailsOf t (IsToPrepare s.meaning q.log p.claim) → q.log ≡ grown p.log i → TakesTurn s p q
+turn_comes s rose stamp p q c t i never is (decided d u j how) leaves why grows =
     let turn : IsTurn (turn_at s p) u j = subst (λ (x : Call). Decides s stamp p.log x u j) is how in
     inl (at_both q (turned s p)
     (grows ∙ ap (λ (x : Option Item). grown p.log x) turn.1)
     (subst (λ (x : Told). Leaves x q.claim) turn.0 leaves))
-turn_comes s rose stamp p q c t i never is (wants_memory d u how) leaves grows =
+turn_comes s rose stamp p q c t i never is (wants_memory d u how) leaves why grows =
     let fails : u ≡ failed no_memory p.claim = subst (λ (x : Call). Fails no_memory x u) is how in
-    inr (at_both q p grows (subst (λ (x : Told). Leaves x q.claim) fails leaves))
-turn_comes s rose stamp p q c t i never is (not_converted d u r converts how) leaves grows = absurd (never r)
-turn_comes s rose stamp p q c t i never is (moved claim how) leaves grows = absurd (not_moved s.meaning p.log claim how)
-turn_comes s rose stamp p q c t i never is (lost claim how) leaves grows = absurd (not_lost s.meaning p.log claim how)
+    let asked : IsToPrepare s.meaning q.log p.claim = subst (λ (x : Told). FailsOf x (IsToPrepare s.meaning q.log p.claim)) fails why in
+    inr (
+      subst (λ (log : List Item). IsToPrepare s.meaning log p.claim) grows asked,
+      at_both q p grows (subst (λ (x : Told). Leaves x q.claim) fails leaves),
+    )
+turn_comes s rose stamp p q c t i never is (not_converted d u r converts how) leaves why grows = absurd (never r)
+turn_comes s rose stamp p q c t i never is (moved claim how) leaves why grows = absurd (not_moved s.meaning p.log claim how)
+turn_comes s rose stamp p q c t i never is (lost claim how) leaves why grows = absurd (not_lost s.meaning p.log claim how)
 
 grown_addition : {B : Type 0} (v : View B) (log : List Logged) (item : Option Item) → items (log ++ addition v log item) ≡ grown (items log) item
 grown_addition v log None = ap (λ (ls : List Logged). items ls) (append-nil log)
@@ -268,12 +283,13 @@ grown_addition v log (Some i) = items_both log (addition v log (Some i))
 
 -- a turn on a pass that no other calls beside
 pub turn_alone : {B : Type 0} (s : Server) (rose : Type 0) (v z : View B) (claim left : Option ℕ) (came : Result TurnStep WorkFault) (t : Told)
-    → ¬ rose → IsAlone v → IsTold came left t → CallsOn s rose [] v z (work claim) t
+    → ¬ rose → IsAlone v → IsTold came left t → OnErr came (IsToPrepare s.meaning (items z.seen) claim) → CallsOn s rose [] v z (work claim) t
     → TakesTurn s (record { log = items v.seen; claim = claim }) (record { log = items z.seen; claim = left })
-turn_alone {B = B} s rose v z claim left came t never alone told calls =
+turn_alone {B = B} s rose v z claim left came t never alone told why calls =
     turn_comes s rose [] (record { log = items v.seen; claim = claim }) (record { log = items z.seen; claim = left }) (work claim) t calls.item never refl
     (subst (λ (log : List Logged). Comes s rose [] (items v.seen) (items log) (work claim) t calls.item) same calls.comes)
     (told_leaves came left t told)
+    (told_fails came left t (IsToPrepare s.meaning (items z.seen) claim) told why)
     (ap (λ (w : View B). items w.seen) calls.turned.3 ∙ ap (λ (log : List Logged). items (log ++ addition v log calls.item)) same ∙ grown_addition v v.seen calls.item)
   where
     same : calls.log ≡ v.seen

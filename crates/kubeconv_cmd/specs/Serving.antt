@@ -22,6 +22,7 @@ use Rattle.http_front.specs.Replies.{Front, Replies}
 use Rattle.http_front.specs.Talk.{Conversation}
 use Rattle.http_front.specs.declared.link.End.{End as LinkEnd}
 use Rattle.http_front.specs.declared.link.End.TheVariants as links
+use Rattle.shared_api.specs.Steps.{IsToPrepare}
 use Rattle.kubeconv_cmd.specs.declared.pipe.PipeEnd.{PipeEnd}
 use Rattle.kubeconv_cmd.specs.declared.pipe.PipeEnd.TheVariants.{Closed, Torn, Refused, Spent, ReadFault, WriteFault}
 use Rattle.kubeconv_cmd.specs.Status.{status_of, pipe_status}
@@ -66,9 +67,10 @@ turn_at s p = work_decision (revision p.log + 1) (state s.meaning p.log) p.claim
 abbrev pub turned : Server → At → At
 turned s p = record { log = grown p.log (turn_at s p).decision.item; claim = (turn_at s p).claim }
 
--- The worker takes a turn, which is as it is decided; or memory is wanted for it, and then nothing changes.
+-- The worker takes a turn, which is as it is decided; or it is to prepare an object, memory is wanted for that, and nothing
+-- changes.
 abbrev pub TakesTurn : Server → At → At → Type 0
-TakesTurn s p q = (q ≡ turned s p) ⊎ (q ≡ p)
+TakesTurn s p q = (q ≡ turned s p) ⊎ (IsToPrepare s.meaning p.log p.claim × (q ≡ p))
 
 -- so many turns, one after the other
 pub data TakesTurns (s : Server) (p : At) : ℕ → At → Type 0 where

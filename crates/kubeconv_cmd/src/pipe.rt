@@ -36,7 +36,7 @@ pub(crate) enum PipeEnd {
     WriteFault,
 }
 
-// The worker takes so many turns on a pass that no other calls beside. One that wants memory comes to nothing.
+// The worker takes so many turns on a pass that no other calls beside. One that wants memory to prepare an object comes to nothing.
 fn take_turns<V: Versions<Tool = NoTool> + Drop, R: Wait>(
     rt: &R,
     api: &SharedApi<V>,

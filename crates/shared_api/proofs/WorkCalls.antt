@@ -1,6 +1,6 @@
 -- The call of a worker's turn, from its turns.
 use Rattle.std.proofs.Common.{◌≡◌, ◌++◌, ◌+◌, ℕ, List, [], Option, None, Some, Ok, Err, ap, sym, subst, refl, ◌∙◌}
-use Rattle.std.specs.Prelude.{◌≢◌, pos, IsTrue, IsErrOf}
+use Rattle.std.specs.Prelude.{◌≢◌, pos, IsTrue, IsErrOf, OnErr, Result}
 use Rattle.api_calls.specs.declared.versions.ConvFault.{ConvFault}
 use Rattle.api_calls.specs.declared.versions.ConvFault.TheVariants as conv
 use Rattle.shared_api.specs.Faults.{work_fault}
@@ -34,7 +34,7 @@ use Rattle.turn_cell.specs.declared.view.View.{View}
 use Rattle.turn_cell.specs.Turns.{Turned}
 use Rattle.turn_cell.specs.Laws.{turns_join}
 use Rattle.shared_api.specs.Answered.{CallsOn}
-use Rattle.shared_api.specs.Steps.{IsStep, IsTold, failure_of}
+use Rattle.shared_api.specs.Steps.{IsStep, IsTold, IsToPrepare, failure_of}
 use Rattle.shared_api.specs.Working.{Begins, IsCopy, IsReady, Touches, first_of, second_of}
 use Rattle.shared_api.specs.declared.step.Begun.{Begun}
 use Rattle.shared_api.specs.declared.step.Begun.TheVariants as begun
@@ -172,6 +172,16 @@ failed_calls s rose v z claim left r k rv f b told rises = (
     by : (f : WorkFault) → (f ≡ fault.Converter → rose) → Comes s rose [] (items v.seen) (items b.log) (work claim) (failed (failure_of f) claim) None
     by fault.Converter rises = calls.not_converted (work claim) (failed converter claim) (rises refl) tt refl
     by fault.NoMemory rises = calls.wants_memory (work claim) (failed no_memory claim) refl
+
+-- and it was told to prepare at the list that the pass then sees
+pub failed_asked : {B : Type 0} (s : Server) (v z : View B) (claim left : Option ℕ) (r : Begun) (k : KeyView) (rv : ℕ) (b : Begins s v z claim left r)
+    → (first_of s.meaning (items b.log) claim).decision.answer ≡ prepare k rv → IsToPrepare s.meaning (items z.seen) claim
+failed_asked s v z claim left r k rv b told =
+    subst (λ (log : List Logged). IsToPrepare s.meaning (items log) claim) (sym (seen-none v z b.log (begun-none s v z claim left r k rv b told))) (k, rv, told)
+
+pub on_err : {T E : Type 0} (r : Result T E) (P : Type 0) → P → OnErr r P
+on_err (Ok x) P p = tt
+on_err (Err e) P p = p
 
 -- the second step, at a later list
 second-at : (s : Server) (rose : Type 0) (seen between since : List Item) (claim : Option ℕ) (k : KeyView) (rv at : ℕ) (first : List Item) → first ≡ seen ++ between

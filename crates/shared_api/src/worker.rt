@@ -1,5 +1,5 @@
 //! A worker's turn.
-ghost use Rattle.std.specs.Prelude.{◌≡◌, ◌≢◌, ◌<◌, ◌≤◌, [], List, ℕ, IfOk, Option, Some};
+ghost use Rattle.std.specs.Prelude.{◌≡◌, ◌≢◌, ◌<◌, ◌≤◌, [], List, ℕ, IfOk, OnErr, Option, Some};
 ghost use Rattle.kube_meta.specs.Key.{KeyView};
 ghost use Rattle.turn_cell.specs.Turns.{IsResting};
 ghost use Rattle.api_calls.specs.Calls.{Told, work};
@@ -12,7 +12,7 @@ ghost use Rattle.api_calls.specs.Versions.{AreFlags};
 ghost use Rattle.shared_api.specs.Answered.{CallsOn};
 ghost use Rattle.shared_api.specs.Base.{server_of};
 ghost use Rattle.shared_api.specs.Passes.{IsOf};
-ghost use Rattle.shared_api.specs.Steps.{IsStep, IsTold};
+ghost use Rattle.shared_api.specs.Steps.{IsStep, IsTold, IsToPrepare};
 ghost use Rattle.shared_api.specs.Working.{Begins, IsReady, Tells, Touches, first_of, is_entered};
 ghost use Rattle.shared_api.specs.declared.cell.CoreBase.{CoreBase};
 
@@ -165,8 +165,9 @@ fn touch<V: Versions + Drop, R: Wait>(
 impl<V: Versions + Drop> SharedApi<V> {
     /// A worker's turn: it takes a claim, or prepares an object of its claim's range for the migration's target and
     /// stores it there, or tells that the range or the migration is done. The object is converted outside the turn, and
-    /// where another call changed it meanwhile nothing is written (`Moved`). After a fault nothing was entered, and the
-    /// worker has the claim that it had.
+    /// where another call changed it meanwhile nothing is written (`Moved`). A fault comes only where an object is to be
+    /// prepared: every other turn takes no memory and no tool. After a fault nothing was entered, and the worker has the
+    /// claim that it had.
     pub fn worker_turn<R: Wait>(
         &self,
         rt: &R,
@@ -178,6 +179,7 @@ impl<V: Versions + Drop> SharedApi<V> {
         ensures answer { (t : Told) × IsTold result w.new.claim t
             × CallsOn (server_of V.meaning self.now.base) (V.Tool.faults pass.old.tool < V.Tool.faults pass.new.tool) []
             pass.old.view pass.new.view (work w.old.claim) t }
+        ensures asked { OnErr result (IsToPrepare (V.meaning self.now.base.versions) (items pass.new.view.seen) w.old.claim) }
         ensures rises { V.Tool.faults pass.old.tool ≤ V.Tool.faults pass.new.tool }
     {
         let lent = self.given();

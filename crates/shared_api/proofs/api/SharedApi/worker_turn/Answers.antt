@@ -11,14 +11,14 @@ use Rattle.turn_cell.specs.declared.view.View.{View}
 use Rattle.shared_api.specs.Answered.{CallsOn}
 use Rattle.shared_api.specs.Base.{server_of}
 use Rattle.shared_api.specs.Passes.{Known}
-use Rattle.shared_api.specs.Steps.{IsTold}
+use Rattle.shared_api.specs.Steps.{IsTold, IsToPrepare}
 use Rattle.shared_api.specs.declared.cell.CoreBase.{CoreBase}
 use Rattle.shared_api.specs.declared.step.Begun.TheVariants as begun
 use Rattle.shared_api.specs.declared.step.WorkFault.TheVariants as fault
 use Rattle.shared_api.specs.Faults.{work_fault}
 use Rattle.shared_api.specs.declared.step.TurnStep.{TurnStep}
 use Rattle.shared_api.specs.declared.step.WorkFault.{WorkFault}
-use Rattle.shared_api.proofs.WorkCalls.{copy-key, copy-ready, copy-said, ended_calls, failed_calls, fault-rose, ready-seen, touched_calls}
+use Rattle.shared_api.proofs.WorkCalls.{copy-key, copy-ready, copy-said, ended_calls, failed_asked, failed_calls, fault-rose, on_err, ready-seen, touched_calls}
 use Rattle.shared_api.proofs.api.SharedApi.worker_turn.Goals as goal
 
 pub moved-requires-clause-stored : goal.moved-requires-clause-stored
@@ -75,6 +75,13 @@ returns-in-NoMemory-clause-answer g c =
     (λ (k : Known (CoreBase g.row.V.Denot) g.row.V-Tool.Denot). (t : Told) × IsTold (Err fault.NoMemory) c.begin.new.w.claim t
     × CallsOn (server_of g.V.Versions.meaning c.args.self.now.base) rose [] k.view c.begin.new.pass.seat.me.0 (work c.args.w.now.claim) t)
     c.pass.view_is calls
+
+pub returns-in-NoMemory-clause-asked : goal.returns-in-NoMemory-clause-asked
+returns-in-NoMemory-clause-asked g c =
+    let based : c.pass.inside.turn.seat.me.0.base ≡ Some c.args.self.now.base = ap (λ (k : Known (CoreBase g.row.V.Denot) g.row.V-Tool.Denot). k.view.base) c.pass.view_is ∙ c.requires.of.base in
+    let began = c.in-NoMemory.ensures.begins c.args.self.now.base based in
+    failed_asked (server_of g.V.Versions.meaning c.args.self.now.base) c.pass.inside.turn.seat.me.0 c.begin.new.pass.seat.me.0 c.args.w.now.claim c.begin.new.w.claim
+    begun.NoMemory began.tells.0 began.tells.1 began began.tells.2
 
 pub touch-requires-clause-ready : goal.touch-requires-clause-ready
 touch-requires-clause-ready g c =
@@ -158,3 +165,11 @@ returns-in_err-new-in-Asked-clause-answer g c =
     (λ (r : Result TurnStep WorkFault). (t : Told) × IsTold r c.begin.new.w.claim t
     × CallsOn (server_of g.V.Versions.meaning c.args.self.now.base) rose [] c.pass.inside.turn.seat.me.0 c.begin.new.pass.seat.me.0 (work c.args.w.now.claim) t)
     (sym result) calls)
+
+pub returns-in_err-new-in-Asked-clause-asked : goal.returns-in_err-new-in-Asked-clause-asked
+returns-in_err-new-in-Asked-clause-asked g c =
+    let based : c.pass.inside.turn.seat.me.0.base ≡ Some c.args.self.now.base = ap (λ (k : Known (CoreBase g.row.V.Denot) g.row.V-Tool.Denot). k.view.base) c.pass.view_is ∙ c.requires.of.base in
+    let began = c.in-Asked.ensures.begins c.args.self.now.base based in
+    on_err c.from_residual.result (IsToPrepare (g.V.Versions.meaning c.args.self.now.base.versions) (items c.begin.new.pass.seat.me.0.seen) c.args.w.now.claim)
+    (failed_asked (server_of g.V.Versions.meaning c.args.self.now.base) c.pass.inside.turn.seat.me.0 c.begin.new.pass.seat.me.0 c.args.w.now.claim c.begin.new.w.claim
+    (begun.Asked c.in-Asked.rv c.in-Asked.target c.in-Asked.seen) began.tells.0 c.in-Asked.rv began began.tells.1)
