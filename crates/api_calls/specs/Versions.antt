@@ -154,6 +154,10 @@ pub record Decides (m : Meaning) : Type 0 where
   pub excludes : (r : Request) (h : ObjectView) (e : Option ℕ) (f : Fault) → m.admits r h e → m.refuses r f → ⊥
   pub complete : (r : Request) → IsRequest m r → ((h : ObjectView) (e : Option ℕ) → m.admits r h e → ⊥) → ((f : Fault) → m.refuses r f → ⊥) → ⊥
 
+-- a request is refused for one reason
+pub record RefusesOnce (m : Meaning) : Type 0 where
+  pub one_fault : (r : Request) (f g : Fault) → m.refuses r f → m.refuses r g → f ≡ g
+
 -- a request whose body is no object is refused for that
 pub record RefusesUnread (m : Meaning) : Type 0 where
   pub not_json : (r : Request) → IsRefusedJson r.bytes OBJECT_LEVELS NotJson → m.refuses r (bad_request not_json)

@@ -4,7 +4,7 @@ use Rattle.std.proofs.Math.Logic.{∥∥₁_elim}
 use Rattle.std.specs.Coded.{×_prop, le_prop}
 use Rattle.kube_meta.specs.View.{ObjectView}
 use Rattle.api_calls.specs.Meaning.{Request, Weighs}
-use Rattle.api_calls.specs.Versions.{AreFlags, StandsAt, Stand, IgnoresStamps, IsOneToOne, KeepsFinalizers, NamesDiffer, IsAdmitted, AdmitsWhole, Decides, RefusesUnread}
+use Rattle.api_calls.specs.Versions.{AreFlags, StandsAt, Stand, IgnoresStamps, IsOneToOne, KeepsFinalizers, NamesDiffer, IsAdmitted, AdmitsWhole, Decides, RefusesOnce, RefusesUnread}
 use Rattle.crd_reading.specs.Accepted.{AreOffered}
 use Rattle.keep_laws.specs.Given.{OneList}
 use Rattle.crd_meaning.specs.Definition.{Definition, count_of, opening_of, IsLoaded}
@@ -13,9 +13,11 @@ use Rattle.crd_meaning.proofs.Places as places
 use Rattle.crd_meaning.proofs.Forms.{one_form, only_hub}
 use Rattle.crd_meaning.proofs.Made.{has_form}
 use Rattle.crd_meaning.proofs.Verdicts as verdicts
+use Rattle.crd_meaning.proofs.Causes.{one_reason}
 use Rattle.crd_laws.specs.Loaded.{loaded_meaning}
 use Rattle.crd_laws.specs.Known.{laws, given}
 use Rattle.crd_laws.specs.Opening.{opening_flags, names_apart}
+use Rattle.crd_laws.specs.Faults.{Fault-set}
 
 module _ (d : Definition) where
   pub few : ∥ IsLoaded d ∥₁ → (2 ≤ count_of d) × (count_of d ≤ 8)
@@ -91,6 +93,12 @@ module _ (d : Definition) (o : Settings) where
     complete = λ r is never_admitted never_refused.
         ∥∥₁_elim loaded (λ x y. absurd x)
         (λ l. (verdicts.decides (given one) o d l).complete r (record { known = is.known; ns = is.ns }) (λ h e a. never_admitted h e (l, a)) never_refused);
+  }
+
+  -- that two faults are one is a proposition, so that the mere fact that the definition was loaded gives it
+  pub refuses_once : OneList → ∥ IsLoaded d ∥₁ → RefusesOnce (loaded_meaning d o)
+  refuses_once one loaded = record {
+    one_fault = λ r f g a b. ∥∥₁_elim loaded (Fault-set f g) (λ l. one_reason (given one) d l r f g a b);
   }
 
   -- a weight doesn't look at the settings, nor at what is whole or admitted

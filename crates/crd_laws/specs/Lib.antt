@@ -2,4 +2,5 @@ pub mod Loaded
 pub mod OneText
 pub mod Known
 pub mod Opening
+pub mod Faults
 pub mod Laws

@@ -69,7 +69,7 @@ impl Versions for VersionSet {
     ghost use Rattle.crd_settings.specs.Settled.{settings_of};
     ghost use Rattle.crd_settings.specs.Decided.{decides_flags, decides_keep};
     ghost use Rattle.crd_laws.specs.Loaded.{loaded_meaning};
-    ghost use Rattle.crd_laws.specs.Laws.{few, opens, names, stand, unstamped, one_to_one, finalizers, admits_whole, decides, unread};
+    ghost use Rattle.crd_laws.specs.Laws.{few, opens, names, stand, unstamped, one_to_one, finalizers, admits_whole, decides, refuses_once, unread};
 
     type Tool = NoTool;
 
@@ -98,6 +98,8 @@ impl Versions for VersionSet {
     ghost admitted = { λ it. admits_whole it.set (settings_of it.set.view) it.one_list };
 
     ghost decides = { λ it honest. decides it.set (settings_of it.set.view) it.one_list it.loaded };
+
+    ghost refuses_once = { λ it honest. refuses_once it.set (settings_of it.set.view) it.one_list it.loaded };
 
     ghost unread = { λ it honest. unread it.set (settings_of it.set.view) };
 

@@ -1,5 +1,5 @@
 -- The laws of `Versions`, of this definition.
-use Rattle.std.proofs.Common.{◌≡◌, ◌∙◌, ℕ, zero, suc, ◌<◌, ◌≤◌, max, List, [], ◌∷◌, Option, Some, None, Bool, true, false, inl, inr, lit<, subst, ap, sym, refl, arith}
+use Rattle.std.proofs.Common.{◌≡◌, ◌∙◌, ℕ, zero, suc, ◌<◌, ◌≤◌, max, List, [], ◌∷◌, Option, Some, None, Bool, true, false, inl, inr, lit<, subst, ap, ap₂, sym, refl, arith}
 use Rattle.std.specs.Prelude.{◌⊎◌, ℤ, slice_get, IsSome, IfSome, nat_lt, nat_le, ◌==◌, if◌then◌else◌, length, codes}
 use Rattle.std.proofs.lemmas.Bool.Decides.{nat_tests}
 use Rattle.serde_json.specs.Data as serde
@@ -13,12 +13,14 @@ use Rattle.kube_meta.specs.Names.{is_name, is_namespace}
 use Rattle.object_reading.specs.Keeping.{KeepsRules, is_empty_or}
 use Rattle.api_calls.specs.Cause.{CauseView, not_json, too_deep, not_whole, not_object, wrong_version, wrong_kind, wrong_namespace, wrong_name, bad_query, bad_token, bad_options}
 use Rattle.api_calls.specs.Meaning.{Request, Fault, bad_request, invalid, Weighs, stamped, unnumbered, widest, chunks, measure}
-use Rattle.api_calls.specs.Versions.{AreFlags, AreStamps, IsBody, StandsAt, Stand, IgnoresStamps, IsOneToOne, IsRequest, KeepsFinalizers, NamesDiffer, IsAdmitted, AdmitsWhole, Decides, RefusesUnread, DecidesBodies}
+use Rattle.api_calls.specs.Readings.{IsFaulty, one_fault}
+use Rattle.api_calls.specs.Readings as reading
+use Rattle.api_calls.specs.Versions.{AreFlags, AreStamps, IsBody, StandsAt, Stand, IgnoresStamps, IsOneToOne, IsRequest, KeepsFinalizers, NamesDiffer, IsAdmitted, AdmitsWhole, Decides, RefusesOnce, RefusesUnread, DecidesBodies}
 use Rattle.api_calls.specs.declared.flags.Flags.{Flags}
 use Rattle.api_calls.specs.declared.versions.TheConstants.{OBJECT_LEVELS}
 use Rattle.versions_fixture.specs.Parts.{PartsView, body_at, meta_at, object_at, bare, version_at, version_name}
 use Rattle.versions_fixture.specs.Documents.{depth-document, sound-document, document_name, document_value}
-use Rattle.versions_fixture.specs.Definition.{IsFixtureHub, Submits, placed, Admits, no_name, no_number, too_heavy, IsInvalid, FixtureRefuses, storing, setting, Sets, keeping, FixtureKeeps, IsNone, two_names, weight_of}
+use Rattle.versions_fixture.specs.Definition.{IsFixtureHub, Submits, placed, Admits, IsOther, Breaks, no_name, no_number, too_heavy, IsInvalid, FixtureRefuses, storing, setting, Sets, keeping, FixtureKeeps, IsNone, two_names, weight_of}
 use Rattle.versions_fixture.specs.declared.admission.TheConstants.{MOST_CHUNKS}
 use Rattle.versions_fixture.specs.declared.parts.Version.{Version}
 use Rattle.versions_fixture.specs.declared.parts.Version.TheVariants.{V1, V1beta1}
@@ -352,6 +354,57 @@ decides = record { one = one; excludes = excludes; complete = complete }
 
 pub admits_whole : AdmitsWhole two_names
 admits_whole = record { admitted = admitted }
+
+-- ---- one reason
+
+-- what is refused of a body that is read as a value
+data Told (r : Request) (j : Json) (f : Fault) : Type 0 where
+  is_other : (o : IsOther r) → o.value ≡ j → f ≡ bad_request not_object → Told r j f
+  is_invalid : (name : List ℕ) (cause : CauseView) (i : IsInvalid r name cause)
+      → document (object_at (version_at r.version) (bare name i.value)) ≡ j → f ≡ invalid name cause → Told r j f
+
+faulty : (r : Request) (f : Fault) → FixtureRefuses r f → IsFaulty r.bytes OBJECT_LEVELS (Told r) f
+faulty r (bad_request not_json) n = record { finding = reading.not_json; finds = n; follows = refl }
+faulty r (bad_request too_deep) n = record { finding = reading.too_deep; finds = n; follows = refl }
+faulty r (bad_request not_whole) n = record { finding = reading.not_whole; finds = n; follows = refl }
+faulty r (bad_request not_object) n = record { finding = reading.value n.value; finds = n.reads; follows = is_other n refl refl }
+faulty r (bad_request wrong_version) n = absurd n
+faulty r (bad_request wrong_kind) n = absurd n
+faulty r (bad_request wrong_namespace) n = absurd n
+faulty r (bad_request wrong_name) n = absurd n
+faulty r (bad_request (bad_query parameter)) n = absurd n
+faulty r (bad_request bad_token) n = absurd n
+faulty r (bad_request bad_options) n = absurd n
+faulty r (invalid name cause) n = record {
+  finding = reading.value (document (object_at (version_at r.version) (bare name n.value)));
+  finds = n.submits;
+  follows = is_invalid name cause n refl refl;
+}
+
+-- of the rules that a document of the form breaks one is the first
+one_cause : (r : Request) (name : List ℕ) (value : Option (List ℕ)) (c d : CauseView) → Breaks r name value c → Breaks r name value d → c ≡ d
+one_cause r name value c d (no_name p e) (no_name q g) = e ∙ sym g
+one_cause r name value c d (no_name p e) (no_number q s g) = absurd (true_false (is_name name) q p)
+one_cause r name value c d (no_name p e) (too_heavy q n w g) = absurd (true_false (is_name name) q p)
+one_cause r name value c d (no_number p s e) (no_name q g) = absurd (true_false (is_name name) p q)
+one_cause r name value c d (no_number p s e) (no_number q t g) = e ∙ sym g
+one_cause r name value c d (no_number p s e) (too_heavy q n w g) = absurd (none_some r.name n s)
+one_cause r name value c d (too_heavy p n w e) (no_name q g) = absurd (true_false (is_name name) p q)
+one_cause r name value c d (too_heavy p n w e) (no_number q s g) = absurd (none_some r.name n s)
+one_cause r name value c d (too_heavy p n w e) (too_heavy q m x g) = e ∙ sym g
+
+one_told : (r : Request) (j : Json) (f g : Fault) → Told r j f → Told r j g → f ≡ g
+one_told r j f g (is_other o p e) (is_other q s h) = e ∙ sym h
+one_told r j f g (is_other o p e) (is_invalid n c i s h) = absurd (o.other n i.value (p ∙ sym s))
+one_told r j f g (is_invalid n c i s h) (is_other o p e) = absurd (o.other n i.value (p ∙ sym s))
+one_told r j f g (is_invalid n c i p e) (is_invalid m d k q h) =
+    let names : n ≡ m = document_name (version_at r.version) (bare n i.value) (bare m k.value) (p ∙ sym q) in
+    let values : i.value ≡ k.value = document_value (version_at r.version) (bare n i.value) (bare m k.value) (p ∙ sym q) in
+    let there : Breaks r m k.value c = subst (λ (x : List ℕ × Option (List ℕ)). Breaks r x.0 x.1 c) (λ l. (names l, values l)) i.breaks in
+    e ∙ ap₂ invalid names (one_cause r m k.value c d there k.breaks) ∙ sym h
+
+pub refuses_once : RefusesOnce two_names
+refuses_once = record { one_fault = λ r f g p q. one_fault r.bytes OBJECT_LEVELS (Told r) (one_told r) f g (faulty r f p) (faulty r g q) }
 
 document_object : (x : ObjectView) → (fields : Pairs) × (document x ≡ object (members_of fields))
 unfolding document

@@ -44,7 +44,7 @@ impl Versions for TwoNames {
     ghost use Rattle.std.specs.Prelude.{true, refl};
     ghost use Rattle.std.proofs.Common.{arith};
     ghost use Rattle.versions_fixture.specs.Definition.{two_names};
-    ghost use Rattle.versions_fixture.specs.Laws.{admits_whole, decides, decides_flags, decides_keep, finalizers, legal_opening, names_differ, one_to_one, stand, unread, unstamped};
+    ghost use Rattle.versions_fixture.specs.Laws.{admits_whole, decides, decides_flags, decides_keep, finalizers, legal_opening, names_differ, one_to_one, refuses_once, stand, unread, unstamped};
 
     type Tool = NoTool;
 
@@ -73,6 +73,8 @@ impl Versions for TwoNames {
     ghost admitted = { λ it. admits_whole };
 
     ghost decides = { λ it honest. decides };
+
+    ghost refuses_once = { λ it honest. refuses_once };
 
     ghost unread = { λ it honest. unread };
 

@@ -59,6 +59,8 @@ impl Versions for UnknownNames {
 
     ghost decides = { λ it honest. not_honest honest };
 
+    ghost refuses_once = { λ it honest. not_honest honest };
+
     ghost unread = { λ it honest. not_honest honest };
 
     ghost decides_flags = { λ it. decides_flags };
