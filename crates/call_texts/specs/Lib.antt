@@ -1,16 +1,6 @@
 pub mod Places
 pub mod Faults
 pub mod Told
+pub mod Spelled
 pub mod PageTexts
-pub mod Offered
 pub mod Listing
-pub mod Migrating
-pub mod Changing
-pub mod Starting
-pub mod Sealed
-pub mod Readying
-pub mod Replacing
-pub mod Deleting
-pub mod Removing
-pub mod Marking
-pub mod Leavings

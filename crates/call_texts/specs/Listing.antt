@@ -6,7 +6,6 @@ use Rattle.kube_meta.specs.Document.{document}
 use Rattle.kube_meta.specs.Key.{KeyView}
 use Rattle.kube_meta.specs.View.{ObjectView}
 use Rattle.api_calls.specs.Documents.{numbered}
-use Rattle.api_calls.specs.Item.{items}
 use Rattle.api_calls.specs.Meaning.{Meaning}
 use Rattle.api_calls.specs.Token.{token_text}
 use Rattle.api_calls.specs.Versions.{IsStored}

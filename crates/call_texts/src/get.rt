@@ -19,7 +19,7 @@ use kube_meta::Key;
 
 impl<V: Versions> Given<'_, V> {
     /// The reply that shows at a version what is stored.
-    pub(crate) fn show(&self, tool: &mut V::Tool, v: u8, seen: &Seen) -> Result<Reply, ConvFault>
+    pub fn show(&self, tool: &mut V::Tool, v: u8, seen: &Seen) -> Result<Reply, ConvFault>
         requires known { v < (V.meaning self.now.versions.now).count }
         requires stored { (h : ObjectView) × IsStored (V.meaning self.now.versions.now) seen.now.at h seen.now.bytes.bytes }
         requires born { seen.now.born < BORN_END }

@@ -1,55 +1,32 @@
-//! What the calls of the server read, store and show, outside any turn.
+//! What the calls of the server show of objects and pages, and why they refuse, outside any turn.
 //!
-//! A call's work is done here before its turn, by what a look at the core saw: bodies are read, values converted, and the
-//! texts written that are stored and shown, so that nothing after a commit takes memory. The crate's one contract is that
-//! each answer and each prepared value is what the replies' definitions say at the list of that look. It knows nothing of
-//! passes, turns or threads.
+//! A reply is made here of what a look at the core saw: an object's text at a version, a page of them, a stored text. The
+//! crate's one contract is that each answer is what the replies' definitions say at the list of that look. `write_texts` and
+//! `setting_texts`, which stand on it, do the same for writes, and for settings and migrations. It knows nothing of passes,
+//! turns or threads.
 #![tactic(auto)]
 
 // The definition that is shown by, and the parts of every text.
 mod documents;
 mod given;
-mod item;
 mod page_text;
 mod place;
 mod refused;
-mod seal;
 mod served;
-mod tried;
 mod written;
 
-// What bodies ask for.
-mod options;
-mod start_body;
-
-// Values that are to be stored, with the texts that show them.
-mod change;
-mod mark;
-mod moving;
-mod prepare;
-mod update;
-
-// What each call prepares and tells.
-mod crd;
-mod create;
-mod delete;
-mod deleted;
+// What each call tells.
 mod get;
-mod group;
+mod item;
 mod list;
-mod migrations;
 mod raw;
-mod replace;
-mod set;
-mod start;
-mod trim;
 
-pub use change::Change;
-pub use create::Fresh;
-pub use delete::{DeleteTry, Leaving};
+pub use documents::{object_text, reply_text, stored_text};
 pub use given::Given;
-pub use options::is_served_delete;
+pub use page_text::{add, comma_before, group_version, quoted};
 pub use place::place_of;
-pub use refused::{Refused, not_admitted, plain};
+pub use refused::{
+    Refused, bad_definition, no_finalizer, not_admitted, not_read, not_started, plain,
+};
 pub use served::is_served;
-pub use tried::Tried;
+pub use written::read_form;

@@ -10,14 +10,14 @@ use kj_value::{JVal, NoMemory, Txt, write};
 use std::alloc::Global;
 
 /// What stands before the thing at a place of a list.
-pub(crate) fn comma_before(i: usize) -> &'static str
+pub fn comma_before(i: usize) -> &'static str
     ensures { result.now ≡ comma_before i }
 {
     if i == 0 { "" } else { "," }
 }
 
 /// A text in quotes.
-pub(crate) fn quoted(alloc: Global, text: &str) -> Result<Txt, NoMemory>
+pub fn quoted(alloc: Global, text: &str) -> Result<Txt, NoMemory>
     ensures { IfOk result (λ t. t.bytes ≡ quoted text.now) }
 {
     let value = JVal::Text(Txt::of(alloc, text)?);
@@ -25,11 +25,7 @@ pub(crate) fn quoted(alloc: Global, text: &str) -> Result<Txt, NoMemory>
 }
 
 /// `GROUP/VERSION` in quotes.
-pub(crate) fn group_version<V: Versions>(
-    alloc: Global,
-    versions: &V,
-    v: u8,
-) -> Result<Txt, NoMemory>
+pub fn group_version<V: Versions>(alloc: Global, versions: &V, v: u8) -> Result<Txt, NoMemory>
     requires { v < (V.meaning versions.now).count }
     ensures { IfOk result (λ t. t.bytes ≡ quoted (group_version (V.meaning versions.now) v)) }
 {
@@ -41,7 +37,7 @@ pub(crate) fn group_version<V: Versions>(
 }
 
 /// Adds a piece. The room doubles where it is spent.
-pub(crate) fn add(text: &mut String, piece: &str) -> Result<(), NoMemory>
+pub fn add(text: &mut String, piece: &str) -> Result<(), NoMemory>
     ensures { OnOk result (Adds (string_bytes text.old) piece.now (string_bytes text.new)) }
 {
     text.push_str(piece)?;
@@ -49,7 +45,7 @@ pub(crate) fn add(text: &mut String, piece: &str) -> Result<(), NoMemory>
 }
 
 /// Adds what stands before the objects of a list.
-pub(crate) fn add_front<V: Versions>(
+pub fn add_front<V: Versions>(
     alloc: Global,
     text: &mut String,
     versions: &V,
@@ -79,7 +75,7 @@ fn add_left(text: &mut String, remaining: u64) -> Result<(), NoMemory>
 }
 
 /// Adds what stands behind the objects of a list: the token that goes on, the number, and how many are left.
-pub(crate) fn add_back<V: Versions>(
+pub fn add_back<V: Versions>(
     alloc: Global,
     text: &mut String,
     versions: &V,

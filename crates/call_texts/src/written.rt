@@ -1,7 +1,7 @@
 //! The object of a stored text.
 ghost use Rattle.std.specs.Prelude.{◌≡◌, IfOk};
 ghost use Rattle.kube_meta.specs.View.{ObjectView, object_of};
-ghost use Rattle.call_texts.specs.Deleting.{IsTextOf};
+ghost use Rattle.call_texts.specs.Spelled.{IsTextOf};
 
 use api_calls::OBJECT_LEVELS;
 use kj_value::{JsonFault, NoMemory, one_reading, read, text_reads};
@@ -10,7 +10,7 @@ use object_reading::read_written;
 use std::alloc::Global;
 
 /// The object whose document has this compact text.
-pub(crate) fn read_form(alloc: Global, bytes: &[u8]) -> Result<Object, NoMemory>
+pub fn read_form(alloc: Global, bytes: &[u8]) -> Result<Object, NoMemory>
     requires { (x : ObjectView) × IsTextOf x bytes.now }
     ensures { (x : ObjectView) → IsTextOf x bytes.now → IfOk result (λ y. object_of y ≡ x) }
 {

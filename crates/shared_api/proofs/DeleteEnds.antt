@@ -24,19 +24,19 @@ use Rattle.api_core.specs.declared.seen.Prepared.{Prepared}
 use Rattle.turn_cell.specs.declared.view.View.{View}
 use Rattle.call_texts.specs.Told.{Came, decided}
 use Rattle.shared_api.specs.Answered.{CallsOn}
-use Rattle.call_texts.specs.Leavings.{Deleted, IsLeaving, IsMarking, IsPlain, TellsMark, TellsPlain}
+use Rattle.write_texts.specs.Leavings.{Deleted, IsLeaving, IsMarking, IsPlain, TellsMark, TellsPlain}
 use Rattle.shared_api.specs.DeleteTurns.{EndsDelete, TriesDelete}
 use Rattle.shared_api.specs.WriteTurns.{Commits, Rested, Stays}
-use Rattle.call_texts.specs.Removing.{IsToMark, WasAt}
+use Rattle.write_texts.specs.Removing.{IsToMark, WasAt}
 use Rattle.shared_api.specs.RemovalTurns.{marks, removes}
 use Rattle.shared_api.specs.Turning.{Reads, Settles, Writes}
 use Rattle.shared_api.specs.declared.cell.CoreBase.{CoreBase}
-use Rattle.call_texts.specs.declared.delete.DeleteTry.{DeleteTry}
-use Rattle.call_texts.specs.declared.delete.DeleteTry.TheVariants as try
-use Rattle.call_texts.specs.declared.delete.Leaving.{Leaving}
+use Rattle.write_texts.specs.declared.delete.DeleteTry.{DeleteTry}
+use Rattle.write_texts.specs.declared.delete.DeleteTry.TheVariants as try
+use Rattle.write_texts.specs.declared.delete.Leaving.{Leaving}
 use Rattle.call_texts.specs.declared.refused.Refused.{Refused}
-use Rattle.call_texts.specs.declared.seal.Sealed.{Sealed}
-use Rattle.call_texts.proofs.DeleteLooks.{bad_body, came-by, lacking, no-finalizers}
+use Rattle.write_texts.specs.declared.seal.Sealed.{Sealed}
+use Rattle.write_texts.proofs.DeleteLooks.{bad_body, came-by, lacking, no-finalizers}
 use Rattle.shared_api.proofs.Deletes.{marked-again, marked-came, removed-again, removed-came}
 use Rattle.shared_api.proofs.Entering.{writes-join, writes_calls}
 use Rattle.shared_api.proofs.Results.{reads-join, reads-writes}

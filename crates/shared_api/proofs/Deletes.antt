@@ -20,12 +20,12 @@ use Rattle.api_calls.specs.Writes.{at_number, delete_commit, if_storage, mark_co
 use Rattle.api_core.specs.CoreLaws.{same-later}
 use Rattle.api_core.specs.declared.seen.Prepared.{Prepared}
 use Rattle.call_texts.specs.Told.{Came}
-use Rattle.call_texts.specs.Leavings as leavings
-use Rattle.call_texts.specs.Leavings.{IsMarking, IsPlain, IsRetried, SaysMark, SaysPlain}
+use Rattle.write_texts.specs.Leavings as leavings
+use Rattle.write_texts.specs.Leavings.{IsMarking, IsPlain, IsRetried, SaysMark, SaysPlain}
 use Rattle.shared_api.specs.WriteTurns.{is_done}
-use Rattle.call_texts.specs.Sealed.{opened}
+use Rattle.write_texts.specs.Sealed.{opened}
 use Rattle.shared_api.specs.Turning.{item_if}
-use Rattle.call_texts.specs.declared.seal.Sealed.{Sealed}
+use Rattle.write_texts.specs.declared.seal.Sealed.{Sealed}
 use Rattle.shared_api.proofs.Leaving.{delete-item, known-now, later-items, mark-item}
 use Rattle.shared_api.proofs.Results.{seal-shows}
 use Rattle.call_texts.proofs.Showing.{shown_other}

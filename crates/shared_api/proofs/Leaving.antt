@@ -18,7 +18,7 @@ use Rattle.api_core.specs.Prepared.{FitsAt, KnownAt}
 use Rattle.api_core.specs.Stands.{Stands}
 use Rattle.api_core.specs.View.{CoreView}
 use Rattle.api_core.specs.declared.seen.Prepared.{Prepared}
-use Rattle.call_texts.specs.Removing.{IsToMark, WasAt}
+use Rattle.write_texts.specs.Removing.{IsToMark, WasAt}
 use Rattle.shared_api.proofs.Committing.{EntersIt, at_number-item, choose}
 
 -- ---- what is known at a later turn

@@ -21,7 +21,7 @@ use Rattle.turn_cell.specs.Turns.{Gives}
 use Rattle.call_texts.specs.Told.{Came}
 use Rattle.shared_api.specs.Answered.{CallsOn}
 use Rattle.shared_api.specs.Base.{StandsCell, base_of, server_of}
-use Rattle.call_texts.specs.Migrating.{HaveTargets}
+use Rattle.setting_texts.specs.Migrating.{HaveTargets}
 use Rattle.shared_api.specs.MigrationTurns.{LooksMigrations}
 use Rattle.shared_api.specs.declared.cell.CoreBase.{CoreBase}
 use Rattle.call_texts.proofs.IfOk.{if_ok}

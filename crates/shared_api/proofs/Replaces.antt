@@ -28,21 +28,21 @@ use Rattle.api_core.specs.declared.seen.Prepared.{Prepared}
 use Rattle.turn_cell.specs.declared.view.View.{View}
 use Rattle.call_texts.specs.Told.{Came, decided}
 use Rattle.shared_api.specs.Answered.{CallsOn}
-use Rattle.call_texts.specs.Readying.{Tells}
+use Rattle.write_texts.specs.Readying.{Tells}
 use Rattle.shared_api.specs.WriteTurns.{Commits, Rested, Results, SeenAt, is_done, releases, replaces}
-use Rattle.call_texts.specs.Replacing.{Goes, IsMade, Replies, StandsOver}
+use Rattle.write_texts.specs.Replacing.{Goes, IsMade, Replies, StandsOver}
 use Rattle.shared_api.specs.ReplaceTurns.{Attempts, Settled}
 use Rattle.shared_api.specs.Turning.{Reads, Writes, item_if}
-use Rattle.call_texts.specs.declared.change.Change.{Change}
-use Rattle.call_texts.specs.declared.tried.Tried.{Tried}
-use Rattle.call_texts.specs.declared.tried.Tried.TheVariants as tried
+use Rattle.write_texts.specs.declared.change.Change.{Change}
+use Rattle.write_texts.specs.declared.tried.Tried.{Tried}
+use Rattle.write_texts.specs.declared.tried.Tried.TheVariants as tried
 use Rattle.call_texts.proofs.Born.{born-within}
 use Rattle.shared_api.proofs.Committing.{replace-item}
 use Rattle.shared_api.proofs.Entering.{writes-join, writes_calls}
-use Rattle.call_texts.proofs.Preparing.{failed-came}
+use Rattle.write_texts.proofs.Preparing.{failed-came}
 use Rattle.shared_api.proofs.Results.{bound-came, never_converter, never_memory, reads-join, reads-writes, results-join}
-use Rattle.call_texts.proofs.Updating.{first_of_both, update-follows}
-use Rattle.call_texts.proofs.Replacing.{Accepts, Lacks, number, refused_with}
+use Rattle.write_texts.proofs.Updating.{first_of_both, update-follows}
+use Rattle.write_texts.proofs.Replacing.{Accepts, Lacks, number, refused_with}
 
 -- ---- a reply is no want of memory and no fault of the tool
 

@@ -29,16 +29,16 @@ use Rattle.turn_cell.specs.Laws.{turns_join}
 use Rattle.call_texts.specs.Told.{Came, decided}
 use Rattle.shared_api.specs.Answered.{CallsOn}
 use Rattle.call_texts.specs.Faults.{admission, failed}
-use Rattle.call_texts.specs.Readying.{Tells}
+use Rattle.write_texts.specs.Readying.{Tells}
 use Rattle.shared_api.specs.WriteTurns.{Commits, Created, Decided, Rested, Results, Tries, creates, is_done}
-use Rattle.call_texts.specs.Sealed.{Seals, opened}
+use Rattle.write_texts.specs.Sealed.{Seals, opened}
 use Rattle.shared_api.specs.Turning.{Reads, Writes, item_if}
-use Rattle.call_texts.specs.declared.seal.Sealed.{Sealed}
-use Rattle.call_texts.specs.declared.tried.Tried.{Tried}
-use Rattle.call_texts.specs.declared.tried.Tried.TheVariants as tried
+use Rattle.write_texts.specs.declared.seal.Sealed.{Sealed}
+use Rattle.write_texts.specs.declared.tried.Tried.{Tried}
+use Rattle.write_texts.specs.declared.tried.Tried.TheVariants as tried
 use Rattle.shared_api.proofs.Committing.{create-item}
 use Rattle.shared_api.proofs.Entering.{writes-join, writes_calls}
-use Rattle.call_texts.proofs.Preparing.{failed-came}
+use Rattle.write_texts.proofs.Preparing.{failed-came}
 
 -- a seal shows the value
 pub seal-shows : (m : Meaning) (boot v number born : ℕ) (h : ObjectView) (s : Sealed) (bytes : List ℕ) → Seals m v h s → number < 2 ^ 62 → bytes ≡ opened s boot number born

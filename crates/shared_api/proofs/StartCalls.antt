@@ -27,7 +27,7 @@ use Rattle.turn_cell.specs.declared.view.View.{View}
 use Rattle.call_texts.specs.Told.{Came}
 use Rattle.shared_api.specs.Answered.{CallsOn}
 use Rattle.shared_api.specs.Base.{StandsCell, base_of, server_of}
-use Rattle.call_texts.specs.Starting.{HasTarget, IsUnstarted, is_started}
+use Rattle.setting_texts.specs.Starting.{HasTarget, IsUnstarted, is_started}
 use Rattle.shared_api.specs.StartTurns.{Begins}
 use Rattle.shared_api.specs.Turning.{Closes, Settles, Writes, item_if}
 use Rattle.shared_api.specs.declared.cell.CoreBase.{CoreBase}

@@ -29,7 +29,7 @@ use Rattle.turn_cell.specs.declared.view.View.{View}
 use Rattle.call_texts.specs.Told.{Came}
 use Rattle.shared_api.specs.Answered.{CallsOn}
 use Rattle.shared_api.specs.Base.{StandsCell, base_of, server_of}
-use Rattle.call_texts.specs.Changing.{HasVersion, Shows, is_trimmed}
+use Rattle.setting_texts.specs.Changing.{HasVersion, Shows, is_trimmed}
 use Rattle.shared_api.specs.ChangeTurns.{Trims}
 use Rattle.shared_api.specs.Turning.{Closes, Settles, Writes, item_if}
 use Rattle.shared_api.specs.declared.cell.CoreBase.{CoreBase}

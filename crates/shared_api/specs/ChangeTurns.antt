@@ -11,7 +11,7 @@ use Rattle.api_calls.specs.declared.flags.Flags.{Flags}
 use Rattle.api_calls.specs.declared.flags.StoredList.{StoredList}
 use Rattle.turn_cell.specs.declared.view.View.{View}
 use Rattle.shared_api.specs.Turning.{Writes}
-use Rattle.call_texts.specs.Changing.{HasVersion, Shows}
+use Rattle.setting_texts.specs.Changing.{HasVersion, Shows}
 
 abbrev pub is_set : SetEnd → Bool
 is_set (set stored) = true

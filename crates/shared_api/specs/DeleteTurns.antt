@@ -9,8 +9,8 @@ use Rattle.turn_cell.specs.declared.view.View.{View}
 use Rattle.call_texts.specs.Told.{Came, decided}
 use Rattle.shared_api.specs.WriteTurns.{Stays}
 use Rattle.shared_api.specs.Turning.{Writes}
-use Rattle.call_texts.specs.declared.delete.DeleteTry.{DeleteTry}
-use Rattle.call_texts.specs.declared.delete.DeleteTry.TheVariants as try
+use Rattle.write_texts.specs.declared.delete.DeleteTry.{DeleteTry}
+use Rattle.write_texts.specs.declared.delete.DeleteTry.TheVariants as try
 
 -- ---- attempts
 

@@ -7,7 +7,7 @@ use Rattle.api_calls.specs.Item.{Logged, items}
 use Rattle.api_calls.specs.State.{state}
 use Rattle.turn_cell.specs.declared.view.View.{View}
 use Rattle.shared_api.specs.Turning.{Reads}
-use Rattle.call_texts.specs.Migrating.{HaveTargets}
+use Rattle.setting_texts.specs.Migrating.{HaveTargets}
 
 -- a look at the migrations
 pub record LooksMigrations {B : Type 0} (s : Server) (v z : View B) (r : Result (List Migration) NoMemory) : Type 0 where

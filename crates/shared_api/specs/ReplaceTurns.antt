@@ -8,10 +8,10 @@ use Rattle.api_calls.specs.Replies.{Answer}
 use Rattle.turn_cell.specs.declared.view.View.{View}
 use Rattle.call_texts.specs.Told.{decided}
 use Rattle.shared_api.specs.WriteTurns.{Results, Stays}
-use Rattle.call_texts.specs.declared.change.Change.{Change}
-use Rattle.call_texts.specs.declared.tried.Tried.{Tried}
-use Rattle.call_texts.specs.declared.tried.Tried.TheVariants.{Told, Moved}
-use Rattle.call_texts.specs.Replacing.{Goes, Replies}
+use Rattle.write_texts.specs.declared.change.Change.{Change}
+use Rattle.write_texts.specs.declared.tried.Tried.{Tried}
+use Rattle.write_texts.specs.declared.tried.Tried.TheVariants.{Told, Moved}
+use Rattle.write_texts.specs.Replacing.{Goes, Replies}
 
 -- an answer after a turn, or one that is decided at what the pass had seen
 abbrev pub Settled : {B : Type 0} → Server → Type 0 → View B → View B → (List Item → Answer → Option Item → Type 0) → Answer → Type 0

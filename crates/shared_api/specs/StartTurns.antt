@@ -7,7 +7,7 @@ use Rattle.api_calls.specs.Settings.{start_decision}
 use Rattle.api_calls.specs.State.{state}
 use Rattle.turn_cell.specs.declared.view.View.{View}
 use Rattle.shared_api.specs.Turning.{Writes}
-use Rattle.call_texts.specs.Starting.{HasTarget}
+use Rattle.setting_texts.specs.Starting.{HasTarget}
 
 -- a turn that started a migration of a name, or didn't
 pub record Begins {B : Type 0} (s : Server) (v z : View B) (name : List ℕ) (end : StartEnd) : Type 0 where

@@ -17,8 +17,8 @@ use Rattle.api_core.specs.declared.seen.Prepared.{Prepared}
 use Rattle.turn_cell.specs.declared.view.View.{View}
 use Rattle.call_texts.specs.Told.{decided}
 use Rattle.shared_api.specs.Turning.{Reads, Writes}
-use Rattle.call_texts.specs.declared.tried.Tried.{Tried}
-use Rattle.call_texts.specs.declared.tried.Tried.TheVariants.{Told, Moved}
+use Rattle.write_texts.specs.declared.tried.Tried.{Tried}
+use Rattle.write_texts.specs.declared.tried.Tried.TheVariants.{Told, Moved}
 
 -- an end with which an item was entered
 abbrev pub is_done : WriteEnd → Bool

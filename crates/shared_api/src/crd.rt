@@ -10,6 +10,7 @@ use crate::api::{Pass, SharedApi};
 use crate::settle::settle;
 use api_calls::{Refusal, Reply, Versions};
 use call_texts::plain;
+use setting_texts::definition;
 use std::sync::Wait;
 
 impl<V: Versions + Drop> SharedApi<V> {
@@ -23,6 +24,6 @@ impl<V: Versions + Drop> SharedApi<V> {
     {
         let lent = self.given();
         let (flags, stored) = settle(rt, &self.turn, &mut pass.turn);
-        plain(lent.definition(&flags, &stored))
+        plain(definition(&lent, &flags, &stored))
     }
 }

@@ -10,7 +10,7 @@ ghost use Rattle.shared_api.specs.Answered.{CallsOn};
 ghost use Rattle.shared_api.specs.Base.{server_of};
 ghost use Rattle.shared_api.specs.Passes.{IsOf};
 ghost use Rattle.call_texts.specs.Places.{IsPlace};
-ghost use Rattle.call_texts.specs.Readying.{IsFresh};
+ghost use Rattle.write_texts.specs.Readying.{IsFresh};
 ghost use Rattle.shared_api.specs.WriteTurns.{Created, Results, Tries};
 ghost use Rattle.shared_api.specs.declared.cell.CoreBase.{CoreBase};
 
@@ -19,10 +19,11 @@ use crate::cell::{CoreBase, CoreCell};
 use crate::settle::settle;
 use crate::writing::enter_new;
 use api_calls::{Incoming, Refusal, Reply, Versions};
-use call_texts::{Fresh, Given, Refused, Tried, is_served, not_admitted, place_of, plain};
+use call_texts::{Given, Refused, is_served, not_admitted, place_of, plain};
 use kj_value::Stamp;
 use std::sync::Wait;
 use turn_cell::{PassOf, Turn};
+use write_texts::{Fresh, Tried, fresh_of, ready_new, told_new};
 
 // Prepares a new object for a storage version, outside the turn, and enters it in one.
 fn try_new<V: Versions + Drop, R: Wait>(
@@ -47,10 +48,10 @@ fn try_new<V: Versions + Drop, R: Wait>(
         (Created (server_of V.meaning b) new.now.v (object_of new.now.hub) new.now.weight) result }
     ensures rises { V.Tool.faults tool.old ≤ V.Tool.faults tool.new }
 {
-    match lent.ready_new(tool, storage, new) {
+    match ready_new(lent, tool, storage, new) {
         Ok((prepared, sealed, name)) => {
             let end = enter_new(rt, turn, pass, new.v, prepared, &new.hub);
-            lent.told_new(end, sealed, name)
+            told_new(lent, end, sealed, name)
         }
         Err(fault) => Tried::Told(Err(Refused::from(fault))),
     }
@@ -123,7 +124,7 @@ fn create_with<V: Versions + Drop, R: Wait>(
         Ok(admitted) => admitted,
         Err(fault) => return Err(not_admitted(lent.alloc, lent.versions, fault)),
     };
-    let new = lent.fresh(input, stamp, admitted)?;
+    let new = fresh_of(lent, input, stamp, admitted)?;
     enter(rt, lent, turn, pass, tool, flags.storage, &new)
 }
 

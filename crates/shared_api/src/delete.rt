@@ -8,7 +8,7 @@ ghost use Rattle.api_calls.specs.Versions.{IsStamp};
 ghost use Rattle.call_texts.specs.Told.{decided, told};
 ghost use Rattle.shared_api.specs.Answered.{CallsOn};
 ghost use Rattle.shared_api.specs.Base.{server_of};
-ghost use Rattle.call_texts.specs.Leavings.{Deleted};
+ghost use Rattle.write_texts.specs.Leavings.{Deleted};
 ghost use Rattle.shared_api.specs.DeleteTurns.{EndsDelete, TriesDelete};
 ghost use Rattle.shared_api.specs.Passes.{IsOf};
 ghost use Rattle.call_texts.specs.Places.{IsPlace};
@@ -20,13 +20,12 @@ use crate::look::look;
 use crate::removing::{mark, remove};
 use crate::settle::settle;
 use api_calls::{Refusal, Reply, Versions, Why};
-use call_texts::{
-    DeleteTry, Given, Leaving, Refused, is_served, is_served_delete, place_of, plain,
-};
+use call_texts::{Given, Refused, is_served, place_of, plain};
 use kj_value::{NoMemory, Stamp};
 use kube_meta::Key;
 use std::sync::Wait;
 use turn_cell::{PassOf, Turn};
+use write_texts::{DeleteTry, Leaving, is_served_delete, leaving_of, told_marked, told_removed};
 
 // Looks at the object, makes ready what its delete takes, outside the turn, and enters it in one.
 fn try_delete<V: Versions + Drop, R: Wait>(
@@ -51,11 +50,11 @@ fn try_delete<V: Versions + Drop, R: Wait>(
     ensures rises { V.Tool.faults tool.old ≤ V.Tool.faults tool.new }
 {
     let looked = look(rt, lent.alloc, turn, pass, key);
-    match lent.leaving(tool, v, key, stamp, looked) {
+    match leaving_of(lent, tool, v, key, stamp, looked) {
         Ok(Leaving::Told(reply)) => DeleteTry::Told(Ok(reply)),
         Ok(Leaving::Plain { number, text }) => {
             let end = remove(rt, turn, pass, v, key, number);
-            lent.told_removed(end, key, text)
+            told_removed(lent, end, key, text)
         }
         Ok(
             Leaving::Mark {
@@ -67,7 +66,7 @@ fn try_delete<V: Versions + Drop, R: Wait>(
             },
         ) => {
             let end = mark(rt, turn, pass, v, key, number, new, &hub, stamp);
-            lent.told_marked(end, key, sealed, born)
+            told_marked(lent, end, key, sealed, born)
         }
         Err(refused) => DeleteTry::Told(Err(refused)),
     }

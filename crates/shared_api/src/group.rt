@@ -11,6 +11,7 @@ use crate::api::{Pass, SharedApi};
 use crate::settle::settle;
 use api_calls::{Refusal, Reply, Versions, priority};
 use call_texts::plain;
+use setting_texts::group;
 use std::sync::Wait;
 
 impl<V: Versions + Drop> SharedApi<V> {
@@ -24,6 +25,6 @@ impl<V: Versions + Drop> SharedApi<V> {
     {
         let lent = self.given();
         let (flags, _stored) = settle(rt, &self.turn, &mut pass.turn);
-        plain(lent.group(&flags))
+        plain(group(&lent, &flags))
     }
 }

@@ -10,6 +10,7 @@ use crate::api::{Pass, SharedApi};
 use crate::look_migrations::look_migrations;
 use api_calls::{Refusal, Reply, Versions};
 use call_texts::plain;
+use setting_texts::{all_migrations, one_migration};
 use std::sync::Wait;
 
 impl<V: Versions + Drop> SharedApi<V> {
@@ -28,7 +29,7 @@ impl<V: Versions + Drop> SharedApi<V> {
     {
         let lent = self.given();
         let looked = look_migrations(rt, self.alloc, &self.turn, &mut pass.turn);
-        plain(lent.one_migration(name, looked))
+        plain(one_migration(&lent, name, looked))
     }
 
     /// All storage migrations by name: 200 with their list. It is refused for want of memory alone.
@@ -40,6 +41,6 @@ impl<V: Versions + Drop> SharedApi<V> {
     {
         let lent = self.given();
         let looked = look_migrations(rt, self.alloc, &self.turn, &mut pass.turn);
-        plain(lent.all_migrations(looked))
+        plain(all_migrations(&lent, looked))
     }
 }

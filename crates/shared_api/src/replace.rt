@@ -12,7 +12,7 @@ ghost use Rattle.shared_api.specs.Base.{server_of};
 ghost use Rattle.shared_api.specs.Passes.{IsOf};
 ghost use Rattle.call_texts.specs.Places.{IsPlace};
 ghost use Rattle.shared_api.specs.WriteTurns.{Results};
-ghost use Rattle.call_texts.specs.Replacing.{Goes, Replies};
+ghost use Rattle.write_texts.specs.Replacing.{Goes, Replies};
 ghost use Rattle.shared_api.specs.ReplaceTurns.{Attempts, Settled};
 ghost use Rattle.shared_api.specs.declared.cell.CoreBase.{CoreBase};
 
@@ -22,10 +22,13 @@ use crate::look::look;
 use crate::writing::{enter_over, enter_release};
 use api_calls::{Incoming, Refusal, Reply, Versions, one_stored, one_weight};
 use api_core::Peeked;
-use call_texts::{Change, Given, Refused, Tried, is_served, not_admitted, place_of, plain};
+use call_texts::{Given, Refused, is_served, not_admitted, place_of, plain};
 use kube_meta::Key;
 use std::sync::Wait;
 use turn_cell::{PassOf, Turn};
+use write_texts::{
+    Change, Tried, changing, ready_over, ready_release, told_over, told_release, unchanged,
+};
 
 // Prepares an update for a storage version, outside the turn, and enters it in one.
 fn put<V: Versions + Drop, R: Wait>(
@@ -51,10 +54,10 @@ fn put<V: Versions + Drop, R: Wait>(
         → Attempts (server_of V.meaning b) (V.Tool.faults tool.old < V.Tool.faults tool.new) pass.old.seat.me.0 pass.new.seat.me.0 q key.now change.now result }
     ensures rises { V.Tool.faults tool.old ≤ V.Tool.faults tool.new }
 {
-    match lent.ready_over(tool, storage, key, change) {
+    match ready_over(lent, tool, storage, key, change) {
         Ok((prepared, sealed, name)) => {
             let end = enter_over(rt, turn, pass, change.v, change.over, prepared, &change.hub);
-            lent.told_over(end, sealed, name)
+            told_over(lent, end, sealed, name)
         }
         Err(fault) => Tried::Told(Err(Refused::from(fault))),
     }
@@ -91,7 +94,7 @@ fn attempt<V: Versions + Drop, R: Wait>(
     ensures rises { V.Tool.faults tool.old ≤ V.Tool.faults tool.new }
 {
     if is_there(change, storage) {
-        return Tried::Told(lent.unchanged(tool, change));
+        return Tried::Told(unchanged(lent, tool, change));
     }
     put(rt, lent, turn, pass, tool, storage, key, change)
 }
@@ -154,10 +157,10 @@ fn release<V: Versions + Drop, R: Wait>(
         (Replies (server_of V.meaning b) q key.now) (decided result) }
     ensures rises { V.Tool.faults tool.old ≤ V.Tool.faults tool.new }
 {
-    match lent.ready_release(tool, key, change) {
+    match ready_release(lent, tool, key, change) {
         Ok((sealed, name)) => {
             let end = enter_release(rt, turn, pass, change.v, key, change.over);
-            lent.told_release(end, sealed, name)
+            told_release(lent, end, sealed, name)
         }
         Err(fault) => Err(Refused::from(fault)),
     }
@@ -243,7 +246,7 @@ fn replace_with<V: Versions + Drop, R: Wait>(
         Ok(admitted) => admitted,
         Err(fault) => return Err(not_admitted(lent.alloc, lent.versions, fault)),
     };
-    let change = match lent.changing(tool, input.version, key, found, admitted) {
+    let change = match changing(lent, tool, input.version, key, found, admitted) {
         Ok(change) => change,
         Err(refused) => return Err(refused),
     };

@@ -18,6 +18,7 @@ use crate::settle::settle;
 use api_calls::{Flags, Refusal, Reply, StoredList, Versions};
 use api_core::SetEnd;
 use call_texts::Refused;
+use setting_texts::{flags_in, showing};
 use std::marker::Brand;
 use std::sync::Wait;
 use turn_cell::{PassOf, Turn};
@@ -69,7 +70,7 @@ impl<V: Versions + Drop> SharedApi<V> {
         ensures tool { pass.new.tool ≡ pass.old.tool }
     {
         let lent = self.given();
-        let (flags, text) = match lent.flags_in(bytes) {
+        let (flags, text) = match flags_in(&lent, bytes) {
             Ok(read) => read,
             Err(refused) => {
                 let _settings = settle(rt, &self.turn, &mut pass.turn);
@@ -77,6 +78,6 @@ impl<V: Versions + Drop> SharedApi<V> {
             }
         };
         let stored = set(rt, &self.turn, &mut pass.turn, flags);
-        Ok(lent.showing(&flags, &stored, text))
+        Ok(showing(&lent, &flags, &stored, text))
     }
 }

@@ -10,7 +10,7 @@ ghost use Rattle.call_texts.specs.Told.{told};
 ghost use Rattle.shared_api.specs.Answered.{CallsOn};
 ghost use Rattle.shared_api.specs.Base.{server_of};
 ghost use Rattle.shared_api.specs.Passes.{IsOf};
-ghost use Rattle.call_texts.specs.Starting.{is_started};
+ghost use Rattle.setting_texts.specs.Starting.{is_started};
 ghost use Rattle.shared_api.specs.StartTurns.{Begins};
 ghost use Rattle.shared_api.specs.declared.cell.CoreBase.{CoreBase};
 
@@ -22,6 +22,7 @@ use api_calls::{Refusal, Reply, Versions};
 use call_texts::{Refused, plain};
 use kj_value::Txt;
 use migrate_core::StartEnd;
+use setting_texts::{start_in, started};
 use std::marker::Brand;
 use std::sync::Wait;
 use turn_cell::{PassOf, Turn};
@@ -79,7 +80,7 @@ impl<V: Versions + Drop> SharedApi<V> {
         ensures tool { pass.new.tool ≡ pass.old.tool }
     {
         let lent = self.given();
-        let (name, copy, texts) = match lent.start_in(bytes) {
+        let (name, copy, texts) = match start_in(&lent, bytes) {
             Ok(read) => read,
             Err(refused) => {
                 let _settings = settle(rt, &self.turn, &mut pass.turn);
@@ -87,6 +88,6 @@ impl<V: Versions + Drop> SharedApi<V> {
             }
         };
         let end = start(rt, &self.turn, &mut pass.turn, name, &copy);
-        plain(lent.started(end, copy, texts))
+        plain(started(&lent, end, copy, texts))
     }
 }

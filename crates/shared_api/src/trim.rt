@@ -7,7 +7,7 @@ ghost use Rattle.turn_cell.specs.Turns.{IsResting};
 ghost use Rattle.call_texts.specs.Told.{told};
 ghost use Rattle.shared_api.specs.Answered.{CallsOn};
 ghost use Rattle.shared_api.specs.Base.{server_of};
-ghost use Rattle.call_texts.specs.Changing.{is_trimmed};
+ghost use Rattle.setting_texts.specs.Changing.{is_trimmed};
 ghost use Rattle.shared_api.specs.ChangeTurns.{Trims};
 ghost use Rattle.shared_api.specs.Passes.{IsOf};
 ghost use Rattle.shared_api.specs.declared.cell.CoreBase.{CoreBase};
@@ -19,6 +19,7 @@ use crate::settle::settle;
 use api_calls::{Flags, Refusal, Reply, StoredList, Versions};
 use api_core::TrimEnd;
 use call_texts::{Refused, plain};
+use setting_texts::{keep_in, trimmed};
 use std::marker::Brand;
 use std::sync::Wait;
 use turn_cell::{PassOf, Turn};
@@ -75,7 +76,7 @@ impl<V: Versions + Drop> SharedApi<V> {
         ensures tool { pass.new.tool ≡ pass.old.tool }
     {
         let lent = self.given();
-        let (keep, text) = match lent.keep_in(bytes) {
+        let (keep, text) = match keep_in(&lent, bytes) {
             Ok(read) => read,
             Err(refused) => {
                 let _settings = settle(rt, &self.turn, &mut pass.turn);
@@ -83,6 +84,6 @@ impl<V: Versions + Drop> SharedApi<V> {
             }
         };
         let (end, flags, stored) = trim(rt, &self.turn, &mut pass.turn, &keep);
-        plain(lent.trimmed(end, &flags, &stored, text))
+        plain(trimmed(&lent, end, &flags, &stored, text))
     }
 }

@@ -30,6 +30,7 @@ use std::marker::Brand;
 use std::snapshot::Snapshot;
 use std::sync::Wait;
 use turn_cell::{PassOf, Turn};
+use write_texts::moved;
 
 // Whether a turn that ended so entered an item.
 fn enters(end: &TurnEnd) -> bool
@@ -186,7 +187,7 @@ impl<V: Versions + Drop> SharedApi<V> {
         match begin(rt, self.alloc, &self.turn, &mut pass.turn, w) {
             Begun::Ended(step) => Ok(step),
             Begun::Asked { rv, target, seen } => {
-                let new = lent.moved(&mut pass.tool, target, seen)?;
+                let new = moved(&lent, &mut pass.tool, target, seen)?;
                 Ok(touch(rt, &self.turn, &mut pass.turn, w, rv, new))
             }
             Begun::NoMemory => Err(WorkFault::NoMemory),

@@ -37,8 +37,8 @@ admit-requires-clause-known g c =
     let flags = subst (λ (x : g.row.V.Denot). AreFlags (g.V.Versions.meaning x).count c.settle.result.0) (sym base.2) settled.are_flags in
     record { known = c.is_served.ensures.known (g.V.Versions.meaning c.args.lent.now.versions.now).count flags c.if-not-is_served.false; ns = c.requires.ns }
 
-pub fresh-requires-clause-request : goal.fresh-requires-clause-request
-fresh-requires-clause-request g c =
+pub fresh_of-requires-clause-request : goal.fresh_of-requires-clause-request
+fresh_of-requires-clause-request g c =
     let base = c.requires.base in
     let settled = c.settle.ensures.settles base.0 base.1 in
     let flags = subst (λ (x : g.row.V.Denot). AreFlags (g.V.Versions.meaning x).count c.settle.result.0) (sym base.2) settled.are_flags in

@@ -1,7 +1,7 @@
 use Rattle.std.proofs.Common.{◌≡◌, ◌<◌, Some, ◌∙◌, arith}
 use Rattle.call_texts.specs.Told.{decided}
 use Rattle.shared_api.specs.Base.{server_of}
-use Rattle.call_texts.specs.Leavings.{Deleted}
+use Rattle.write_texts.specs.Leavings.{Deleted}
 use Rattle.shared_api.proofs.DeleteEnds.{ends-join, stays-join}
 use Rattle.shared_api.proofs.Results.{rested-base}
 use Rattle.shared_api.proofs.delete.delete_with.Goals as goal

@@ -11,22 +11,22 @@ use Rattle.api_calls.specs.Versions.{AreFlags}
 use Rattle.api_core.specs.Ends.{delete_end}
 use Rattle.api_core.specs.Prepared.{Sees}
 use Rattle.shared_api.specs.Base.{server_of}
-use Rattle.call_texts.specs.Leavings.{Deleted, IsLeaving, TellsMark}
+use Rattle.write_texts.specs.Leavings.{Deleted, IsLeaving, TellsMark}
 use Rattle.shared_api.specs.declared.cell.CoreBase.{CoreBase}
-use Rattle.call_texts.specs.declared.delete.Leaving.{Leaving}
-use Rattle.call_texts.specs.declared.delete.Leaving.TheVariants as leaving
+use Rattle.write_texts.specs.declared.delete.Leaving.{Leaving}
+use Rattle.write_texts.specs.declared.delete.Leaving.TheVariants as leaving
 use Rattle.shared_api.proofs.DeleteEnds.{base-read, look-ends, marked-known, marked-tries, plain-free, ready-here, removed-tries}
 use Rattle.shared_api.proofs.Deletes.{delete-never, mark-never}
 use Rattle.shared_api.proofs.delete.try_delete.Goals as goal
 
-pub leaving-requires-clause-flags : goal.leaving-requires-clause-flags
-leaving-requires-clause-flags g c =
+pub leaving_of-requires-clause-flags : goal.leaving_of-requires-clause-flags
+leaving_of-requires-clause-flags g c =
     let base = c.requires.base in
     let looked = c.look-looked.ensures.looks base.0 base.1 in
     subst (λ (x : g.row.V.Denot). IfOk c.look-looked.result (λ p. AreFlags (g.V.Versions.meaning x).count p.flags)) (sym base.2) looked.flags
 
-pub leaving-requires-clause-sees : goal.leaving-requires-clause-sees
-leaving-requires-clause-sees g c =
+pub leaving_of-requires-clause-sees : goal.leaving_of-requires-clause-sees
+leaving_of-requires-clause-sees g c =
     let base = c.requires.base in
     let looked = c.look-looked.ensures.looks base.0 base.1 in
     subst
@@ -48,7 +48,7 @@ returns-in-Ok-Told-clause-tries g c b is =
     let stamp = c.args.stamp.text in
     let looked = c.look-looked.ensures.looks b is in
     let there : w.base ≡ Some b = base-read s v w looked.log looked.reads ∙ is in
-    let rose = g.V.Tool.Tool.faults c.args.tool.now < g.V.Tool.Tool.faults c.leaving.new.tool in
+    let rose = g.V.Tool.Tool.faults c.args.tool.now < g.V.Tool.Tool.faults c.leaving_of.new.tool in
     let ready : IsLeaving s.meaning s.boot rose (items looked.log) c.args.v k stamp (Ok (leaving.Told c.in-Ok-Told.reply)) =
     ready-here g.V.Versions.meaning b c.args.lent.now.versions.now c.args.lent.now.boot rose (items looked.log) c.args.v k stamp c.look-looked.result (Ok c.in-Ok-Told.field-0) (Ok (leaving.Told c.in-Ok-Told.reply)) versions boots
     looked.reads.few looked.sees c.in-Ok-Told.ensures.ready (ap (λ (x : Leaving). Ok x) c.in-Ok-Told.field-0-is) in
@@ -67,7 +67,7 @@ returns-in-Err-clause-tries g c b is =
     let stamp = c.args.stamp.text in
     let looked = c.look-looked.ensures.looks b is in
     let there : w.base ≡ Some b = base-read s v w looked.log looked.reads ∙ is in
-    let rose = g.V.Tool.Tool.faults c.args.tool.now < g.V.Tool.Tool.faults c.leaving.new.tool in
+    let rose = g.V.Tool.Tool.faults c.args.tool.now < g.V.Tool.Tool.faults c.leaving_of.new.tool in
     let ready : IsLeaving s.meaning s.boot rose (items looked.log) c.args.v k stamp (Err c.in-Err.refused) =
     ready-here g.V.Versions.meaning b c.args.lent.now.versions.now c.args.lent.now.boot rose (items looked.log) c.args.v k stamp c.look-looked.result (Err c.in-Err.refused) (Err c.in-Err.refused) versions boots
     looked.reads.few looked.sees c.in-Err.ensures.ready (refl) in
@@ -85,7 +85,7 @@ remove-end-requires-clause-known g c =
     let stamp = c.args.stamp.text in
     let looked = c.look-looked.ensures.looks base.0 base.1 in
     let there : w.base ≡ Some base.0 = base-read s v w looked.log looked.reads ∙ base.1 in
-    let rose = g.V.Tool.Tool.faults c.args.tool.now < g.V.Tool.Tool.faults c.leaving.new.tool in
+    let rose = g.V.Tool.Tool.faults c.args.tool.now < g.V.Tool.Tool.faults c.leaving_of.new.tool in
     let ready : IsLeaving s.meaning s.boot rose (items looked.log) c.args.v k stamp (Ok (leaving.Plain c.in-Ok-Plain.number c.in-Ok-Plain.text)) =
     ready-here g.V.Versions.meaning base.0 c.args.lent.now.versions.now c.args.lent.now.boot rose (items looked.log) c.args.v k stamp c.look-looked.result (Ok c.in-Ok-Plain.field-0) (Ok (leaving.Plain c.in-Ok-Plain.number c.in-Ok-Plain.text)) versions boots
     looked.reads.few looked.sees c.in-Ok-Plain.ensures.ready (ap (λ (x : Leaving). Ok x) c.in-Ok-Plain.field-0-is) in
@@ -115,7 +115,7 @@ returns-in-Ok-Plain-clause-tries g c b is =
     let stamp = c.args.stamp.text in
     let looked = c.look-looked.ensures.looks b is in
     let there : w.base ≡ Some b = base-read s v w looked.log looked.reads ∙ is in
-    let rose = g.V.Tool.Tool.faults c.args.tool.now < g.V.Tool.Tool.faults c.leaving.new.tool in
+    let rose = g.V.Tool.Tool.faults c.args.tool.now < g.V.Tool.Tool.faults c.leaving_of.new.tool in
     let ready : IsLeaving s.meaning s.boot rose (items looked.log) c.args.v k stamp (Ok (leaving.Plain c.in-Ok-Plain.number c.in-Ok-Plain.text)) =
     ready-here g.V.Versions.meaning b c.args.lent.now.versions.now c.args.lent.now.boot rose (items looked.log) c.args.v k stamp c.look-looked.result (Ok c.in-Ok-Plain.field-0) (Ok (leaving.Plain c.in-Ok-Plain.number c.in-Ok-Plain.text)) versions boots
     looked.reads.few looked.sees c.in-Ok-Plain.ensures.ready (ap (λ (x : Leaving). Ok x) c.in-Ok-Plain.field-0-is) in
@@ -134,7 +134,7 @@ mark-end-requires-clause-sized g c =
     let stamp = c.args.stamp.text in
     let looked = c.look-looked.ensures.looks base.0 base.1 in
     let there : w.base ≡ Some base.0 = base-read s v w looked.log looked.reads ∙ base.1 in
-    let rose = g.V.Tool.Tool.faults c.args.tool.now < g.V.Tool.Tool.faults c.leaving.new.tool in
+    let rose = g.V.Tool.Tool.faults c.args.tool.now < g.V.Tool.Tool.faults c.leaving_of.new.tool in
     let ready : IsLeaving s.meaning s.boot rose (items looked.log) c.args.v k stamp (Ok (leaving.Mark c.in-Ok-Mark.number c.in-Ok-Mark.born c.in-Ok-Mark.new c.in-Ok-Mark.sealed c.in-Ok-Mark.hub)) =
     ready-here g.V.Versions.meaning base.0 c.args.lent.now.versions.now c.args.lent.now.boot rose (items looked.log) c.args.v k stamp c.look-looked.result (Ok c.in-Ok-Mark.field-0) (Ok (leaving.Mark c.in-Ok-Mark.number c.in-Ok-Mark.born c.in-Ok-Mark.new c.in-Ok-Mark.sealed c.in-Ok-Mark.hub)) versions boots
     looked.reads.few looked.sees c.in-Ok-Mark.ensures.ready (ap (λ (x : Leaving). Ok x) c.in-Ok-Mark.field-0-is) in
@@ -152,7 +152,7 @@ mark-end-requires-clause-known g c =
     let stamp = c.args.stamp.text in
     let looked = c.look-looked.ensures.looks base.0 base.1 in
     let there : w.base ≡ Some base.0 = base-read s v w looked.log looked.reads ∙ base.1 in
-    let rose = g.V.Tool.Tool.faults c.args.tool.now < g.V.Tool.Tool.faults c.leaving.new.tool in
+    let rose = g.V.Tool.Tool.faults c.args.tool.now < g.V.Tool.Tool.faults c.leaving_of.new.tool in
     let ready : IsLeaving s.meaning s.boot rose (items looked.log) c.args.v k stamp (Ok (leaving.Mark c.in-Ok-Mark.number c.in-Ok-Mark.born c.in-Ok-Mark.new c.in-Ok-Mark.sealed c.in-Ok-Mark.hub)) =
     ready-here g.V.Versions.meaning base.0 c.args.lent.now.versions.now c.args.lent.now.boot rose (items looked.log) c.args.v k stamp c.look-looked.result (Ok c.in-Ok-Mark.field-0) (Ok (leaving.Mark c.in-Ok-Mark.number c.in-Ok-Mark.born c.in-Ok-Mark.new c.in-Ok-Mark.sealed c.in-Ok-Mark.hub)) versions boots
     looked.reads.few looked.sees c.in-Ok-Mark.ensures.ready (ap (λ (x : Leaving). Ok x) c.in-Ok-Mark.field-0-is) in
@@ -179,7 +179,7 @@ told_marked-requires-clause-born g c =
     let stamp = c.args.stamp.text in
     let looked = c.look-looked.ensures.looks base.0 base.1 in
     let there : w.base ≡ Some base.0 = base-read s v w looked.log looked.reads ∙ base.1 in
-    let rose = g.V.Tool.Tool.faults c.args.tool.now < g.V.Tool.Tool.faults c.leaving.new.tool in
+    let rose = g.V.Tool.Tool.faults c.args.tool.now < g.V.Tool.Tool.faults c.leaving_of.new.tool in
     let ready : IsLeaving s.meaning s.boot rose (items looked.log) c.args.v k stamp (Ok (leaving.Mark c.in-Ok-Mark.number c.in-Ok-Mark.born c.in-Ok-Mark.new c.in-Ok-Mark.sealed c.in-Ok-Mark.hub)) =
     ready-here g.V.Versions.meaning base.0 c.args.lent.now.versions.now c.args.lent.now.boot rose (items looked.log) c.args.v k stamp c.look-looked.result (Ok c.in-Ok-Mark.field-0) (Ok (leaving.Mark c.in-Ok-Mark.number c.in-Ok-Mark.born c.in-Ok-Mark.new c.in-Ok-Mark.sealed c.in-Ok-Mark.hub)) versions boots
     looked.reads.few looked.sees c.in-Ok-Mark.ensures.ready (ap (λ (x : Leaving). Ok x) c.in-Ok-Mark.field-0-is) in
@@ -197,7 +197,7 @@ told_marked-requires-clause-room g c =
     let stamp = c.args.stamp.text in
     let looked = c.look-looked.ensures.looks base.0 base.1 in
     let there : w.base ≡ Some base.0 = base-read s v w looked.log looked.reads ∙ base.1 in
-    let rose = g.V.Tool.Tool.faults c.args.tool.now < g.V.Tool.Tool.faults c.leaving.new.tool in
+    let rose = g.V.Tool.Tool.faults c.args.tool.now < g.V.Tool.Tool.faults c.leaving_of.new.tool in
     let ready : IsLeaving s.meaning s.boot rose (items looked.log) c.args.v k stamp (Ok (leaving.Mark c.in-Ok-Mark.number c.in-Ok-Mark.born c.in-Ok-Mark.new c.in-Ok-Mark.sealed c.in-Ok-Mark.hub)) =
     ready-here g.V.Versions.meaning base.0 c.args.lent.now.versions.now c.args.lent.now.boot rose (items looked.log) c.args.v k stamp c.look-looked.result (Ok c.in-Ok-Mark.field-0) (Ok (leaving.Mark c.in-Ok-Mark.number c.in-Ok-Mark.born c.in-Ok-Mark.new c.in-Ok-Mark.sealed c.in-Ok-Mark.hub)) versions boots
     looked.reads.few looked.sees c.in-Ok-Mark.ensures.ready (ap (λ (x : Leaving). Ok x) c.in-Ok-Mark.field-0-is) in
@@ -216,7 +216,7 @@ returns-in-Ok-Mark-clause-tries g c b is =
     let stamp = c.args.stamp.text in
     let looked = c.look-looked.ensures.looks b is in
     let there : w.base ≡ Some b = base-read s v w looked.log looked.reads ∙ is in
-    let rose = g.V.Tool.Tool.faults c.args.tool.now < g.V.Tool.Tool.faults c.leaving.new.tool in
+    let rose = g.V.Tool.Tool.faults c.args.tool.now < g.V.Tool.Tool.faults c.leaving_of.new.tool in
     let ready : IsLeaving s.meaning s.boot rose (items looked.log) c.args.v k stamp (Ok (leaving.Mark c.in-Ok-Mark.number c.in-Ok-Mark.born c.in-Ok-Mark.new c.in-Ok-Mark.sealed c.in-Ok-Mark.hub)) =
     ready-here g.V.Versions.meaning b c.args.lent.now.versions.now c.args.lent.now.boot rose (items looked.log) c.args.v k stamp c.look-looked.result (Ok c.in-Ok-Mark.field-0) (Ok (leaving.Mark c.in-Ok-Mark.number c.in-Ok-Mark.born c.in-Ok-Mark.new c.in-Ok-Mark.sealed c.in-Ok-Mark.hub)) versions boots
     looked.reads.few looked.sees c.in-Ok-Mark.ensures.ready (ap (λ (x : Leaving). Ok x) c.in-Ok-Mark.field-0-is) in

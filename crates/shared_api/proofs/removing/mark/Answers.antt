@@ -5,7 +5,7 @@ use Rattle.api_calls.specs.State.{revision, state}
 use Rattle.api_core.specs.Ends.{delete_end}
 use Rattle.api_core.specs.Prepared.{Marking, PreparesValue}
 use Rattle.shared_api.specs.Base.{base_of}
-use Rattle.call_texts.specs.Removing.{IsToMark}
+use Rattle.write_texts.specs.Removing.{IsToMark}
 use Rattle.shared_api.specs.RemovalTurns.{marks}
 use Rattle.shared_api.specs.declared.cell.CoreBase.{CoreBase}
 use Rattle.shared_api.proofs.Committing.{EntersIt, commits, committed-stands, few-revision}

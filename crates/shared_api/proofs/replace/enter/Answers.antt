@@ -2,7 +2,7 @@ use Rattle.std.proofs.Common.{◌≡◌, ◌<◌, Some, inr, sym, subst, ◌∙�
 use Rattle.api_calls.specs.Item.{items}
 use Rattle.call_texts.specs.Told.{decided}
 use Rattle.shared_api.specs.Base.{server_of}
-use Rattle.call_texts.specs.Replacing.{Goes, Replies}
+use Rattle.write_texts.specs.Replacing.{Goes, Replies}
 use Rattle.shared_api.proofs.Replaces.{settled-join}
 use Rattle.shared_api.proofs.Results.{rested-base, rested-join}
 use Rattle.shared_api.proofs.replace.enter.Goals as goal

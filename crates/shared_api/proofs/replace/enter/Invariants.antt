@@ -4,7 +4,7 @@ use Rattle.api_calls.specs.Item.{items}
 use Rattle.api_calls.specs.Meaning.{Request}
 use Rattle.shared_api.specs.Base.{server_of}
 use Rattle.shared_api.specs.WriteTurns.{Rested}
-use Rattle.call_texts.specs.Replacing.{Goes}
+use Rattle.write_texts.specs.Replacing.{Goes}
 use Rattle.shared_api.specs.declared.cell.CoreBase.{CoreBase}
 use Rattle.shared_api.proofs.replace.enter.Given as goal
 

@@ -8,9 +8,9 @@ use Rattle.api_calls.specs.declared.versions.ConvFault.{ConvFault}
 use Rattle.api_core.specs.Ends.{replace_end}
 use Rattle.api_core.specs.Prepared.{PreparesValue, Replacing}
 use Rattle.shared_api.specs.Base.{server_of}
-use Rattle.call_texts.specs.Readying.{Tells}
+use Rattle.write_texts.specs.Readying.{Tells}
 use Rattle.shared_api.specs.WriteTurns.{Commits, SeenAt, replaces}
-use Rattle.call_texts.specs.Replacing.{Replies}
+use Rattle.write_texts.specs.Replacing.{Replies}
 use Rattle.shared_api.specs.declared.cell.CoreBase.{CoreBase}
 use Rattle.shared_api.proofs.Replaces.{over-attempts, over-born, over-seen}
 use Rattle.shared_api.proofs.Results.{failed-results}

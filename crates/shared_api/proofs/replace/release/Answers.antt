@@ -10,7 +10,7 @@ use Rattle.api_core.specs.Prepared.{IsEnding}
 use Rattle.call_texts.specs.Told.{decided}
 use Rattle.shared_api.specs.Base.{server_of}
 use Rattle.shared_api.specs.WriteTurns.{Commits, SeenAt, releases}
-use Rattle.call_texts.specs.Replacing.{Replies}
+use Rattle.write_texts.specs.Replacing.{Replies}
 use Rattle.shared_api.specs.declared.cell.CoreBase.{CoreBase}
 use Rattle.shared_api.proofs.Replaces.{ending-seen, release-born, release-results}
 use Rattle.shared_api.proofs.Results.{failed-results}

@@ -14,9 +14,9 @@ use Rattle.turn_cell.specs.declared.view.View.{View}
 use Rattle.call_texts.specs.Told.{decided}
 use Rattle.shared_api.specs.Base.{server_of}
 use Rattle.call_texts.specs.Faults.{admission}
-use Rattle.call_texts.specs.Replacing.{Changes, Goes, Refuses, Replies}
+use Rattle.write_texts.specs.Replacing.{Changes, Goes, Refuses, Replies}
 use Rattle.shared_api.specs.declared.cell.CoreBase.{CoreBase}
-use Rattle.call_texts.proofs.Overs.{goes, not_admitted-came, refuses-came, refuses-rises, stored-found, unserved-came}
+use Rattle.write_texts.proofs.Overs.{goes, not_admitted-came, refuses-came, refuses-rises, stored-found, unserved-came}
 use Rattle.shared_api.proofs.Replaces.{looked_calls, seen-of, settled-join, settled_calls}
 use Rattle.shared_api.proofs.replace.replace_with.Goals as goal
 

@@ -1,9 +1,0 @@
-use Rattle.std.proofs.Common.{◌≤◌, sym, subst}
-use Rattle.kj_value.specs.Json.{Json, depth}
-use Rattle.call_texts.proofs.StatusFields.{depth-deleted_status}
-use Rattle.call_texts.proofs.given.Given.deleted_text.Goals as goal
-
-pub write-requires : goal.write-requires
-write-requires g c =
-    subst (λ (j : Json). depth j ≤ 100) (sym c.in_ok-status.ensures)
-    (depth-deleted_status (g.V.Versions.meaning c.args.self.now.versions.now) c.args.name.now c.in_ok-id.id.bytes)

@@ -1,7 +1,0 @@
-use Rattle.std.proofs.Common.{ap}
-use Rattle.api_core.specs.Ends.{replace_end}
-use Rattle.api_core.specs.declared.ends.ReplaceEnd.{ReplaceEnd}
-use Rattle.call_texts.proofs.given.Given.told_over.Goals as goal
-
-pub open-text-requires-clause-born : goal.open-text-requires-clause-born
-open-text-requires-clause-born g c = c.requires.born c.in-Done.rv c.in-Done.born (ap (λ (e : ReplaceEnd). replace_end e) c.in-Done.is)

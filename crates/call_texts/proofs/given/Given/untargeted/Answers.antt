@@ -1,9 +1,0 @@
-use Rattle.std.proofs.Common.{◌∙◌, ◌++◌, ap, List, ℕ}
-use Rattle.kube_meta.specs.declared.limits.Condition.TheVariants.{Running}
-use Rattle.call_texts.specs.PageTexts.{untargeted_text}
-use Rattle.call_texts.proofs.given.Given.untargeted.Goals as goal
-
-pub returns : goal.returns
-returns g c =
-    let m = g.V.Versions.meaning c.args.self.now.versions.now in
-    c.in_ok-add_untargeted.ensures.text ∙ ap (λ (t : List ℕ). t ++ untargeted_text m c.args.name.now Running) c.new-text.ensures.bytes

@@ -1,6 +1,0 @@
-use Rattle.std.proofs.Common.{◌≡◌}
-use Rattle.call_texts.specs.Offered.{ranked_below}
-use Rattle.call_texts.proofs.group.offered.Given as goal
-
-abbrev pub invariant-loop-v : goal.invariant-loop-v
-invariant-loop-v g l = l.ranked.items ≡ ranked_below (g.V.Versions.meaning l.versions) l.flags l.v

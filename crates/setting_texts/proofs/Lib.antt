@@ -1,0 +1,5 @@
+pub mod Joined
+pub mod Starting
+pub mod Sorting
+pub mod NamedMigrations
+pub mod Offering

@@ -1,0 +1,10 @@
+pub mod StatusFields
+pub mod Sealing
+pub mod ServedBodies
+pub mod Preparing
+pub mod Ascii
+pub mod Updating
+pub mod Replacing
+pub mod Overs
+pub mod Stamps
+pub mod DeleteLooks
