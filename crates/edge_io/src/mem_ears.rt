@@ -141,6 +141,8 @@ impl Source for MemInput {
 
     ghost origin = { origin_of };
 
+    ghost most = { λ s. Some s.piece };
+
     fn read(&mut self, into: &mut [u8]) -> Result<usize, Failed>
         requires { 0 < length into.old }
         ensures bound { ReadsAtMost result into.new }
@@ -148,6 +150,8 @@ impl Source for MemInput {
         ensures end { IfOk result (λ n. n ≡ 0 → IsAtEnd (Some (left_of self.new))) }
         ensures cause { HasCause self.old.calls.faults self.new.calls.faults result }
         ensures origin { origin_of self.new ≡ origin_of self.old }
+        ensures few { IfOk result (λ n. IfSome (Some self.old.piece) (λ m. n ≤ m)) }
+        ensures most { Some self.new.piece ≡ Some self.old.piece }
         ensures fails { IsErr result ↔ IsListed self.old.calls }
         ensures count { IfOk result (λ n. n ≡ read_count self.old (length into.old)) }
         ensures after { IsAfterRead self.old self.new result }

@@ -1,5 +1,5 @@
 //! A source in memory.
-ghost use Rattle.std.specs.Prelude.{◌≡◌, ◌↔◌, ◌<◌, ◌≤◌, None, Some, length, take, IsErr, IfOk};
+ghost use Rattle.std.specs.Prelude.{◌≡◌, ◌↔◌, ◌<◌, ◌≤◌, None, Some, length, take, IsErr, IfOk, IfSome};
 ghost use Rattle.std.specs.Io.{ReadsAtMost};
 ghost use Rattle.std.specs.Io.KnownBytes.{IsAtEnd};
 ghost use Rattle.edge_io.specs.Calls.{IsListed};
@@ -97,6 +97,8 @@ impl Source for MemSource {
 
     ghost origin = { origin_of };
 
+    ghost most = { λ s. Some s.piece };
+
     fn read(&mut self, into: &mut [u8]) -> Result<usize, Failed>
         requires { 0 < length into.old }
         ensures bound { ReadsAtMost result into.new }
@@ -104,6 +106,8 @@ impl Source for MemSource {
         ensures end { IfOk result (λ n. n ≡ 0 → IsAtEnd (Some (left_of self.new))) }
         ensures cause { HasCause self.old.calls.faults self.new.calls.faults result }
         ensures origin { origin_of self.new ≡ origin_of self.old }
+        ensures few { IfOk result (λ n. IfSome (Some self.old.piece) (λ m. n ≤ m)) }
+        ensures most { Some self.new.piece ≡ Some self.old.piece }
 
         // It fails exactly at the listed calls, and else gives as much as a piece has and `into` holds.
         ensures fails { IsErr result ↔ IsListed self.old.calls }

@@ -49,6 +49,8 @@ impl Source for SureSource {
 
     ghost origin = { λ s. None };
 
+    ghost most = { λ s. None };
+
     fn read(&mut self, into: &mut [u8]) -> Result<usize, Failed>
         requires { 0 < length into.old }
         ensures bound { ReadsAtMost result into.new }

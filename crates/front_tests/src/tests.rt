@@ -4,8 +4,8 @@ use api_calls::{NoTool, Versions};
 use crd_versions::{VersionSet, load};
 use crontab_example::{definition, rules};
 use edge_io::{FixedClock, MemSink, MemSource};
-use http_front::{End, serve_link};
-use http_wire::WireFault;
+use http_front::{End, OneEnd, serve_link, serve_one};
+use http_wire::{Inbox, WireFault};
 use kj_value::Stamp;
 use kube_meta::Limits;
 use shared_api::SharedApi;
@@ -163,6 +163,48 @@ fn ends(rt: HostRuntime) -> Result<(), Fail> {
         assert_eq!(&rt; written.as_slice(), output);
         assert_eq!(&rt; ended, end);
     }
+    Ok(())
+}
+
+// How one step of a connection with two requests comes out, in pieces of this size, and what is left of its input behind it.
+fn first_of_two(rt: &impl Wait, alloc: Global, piece: usize) -> Result<(OneEnd, Vec<u8>), Fail>
+    requires { 0 < piece }
+{
+    let versions = TwoNames::new(alloc)?;
+    let (api, mut pass) = SharedApi::open(alloc, versions, NoTool, ROOM, 0)?;
+    let mut inbox = Inbox::open(alloc)?;
+    let requests = b"GET /nowhere HTTP/1.1\r\n\r\nGET /nowhere HTTP/1.1\r\n\r\n";
+    let mut source = MemSource::new(requests.to_vec(alloc)?, piece, Vec::new(alloc));
+    let mut sink = MemSink::new(alloc, 1_000, Vec::new(alloc))?;
+    let clock = FixedClock::new(Stamp {
+        text: *b"2024-01-02T03:04:05Z",
+    });
+    let end = serve_one(
+        rt,
+        alloc,
+        &api,
+        &mut pass,
+        &mut inbox,
+        &mut source,
+        &mut sink,
+        &clock,
+    );
+    Ok((end, source.left().to_vec(alloc)?))
+}
+
+// The first request has 25 bytes, so of the second three are read in pieces of seven, and none in pieces of one.
+#[test]
+fn nothing_past_a_request(rt: HostRuntime) -> Result<(), Fail> {
+    let alloc = rt.alloc();
+    let (end, left) = first_of_two(&rt, alloc, 1)?;
+    assert_eq!(&rt; end, OneEnd::Answered);
+    assert_eq!(&rt;
+        left.as_slice(),
+        b"GET /nowhere HTTP/1.1\r\n\r\n".as_slice()
+    );
+    let (end, left) = first_of_two(&rt, alloc, 7)?;
+    assert_eq!(&rt; end, OneEnd::Answered);
+    assert_eq!(&rt; left.as_slice(), b" /nowhere HTTP/1.1\r\n\r\n".as_slice());
     Ok(())
 }
 

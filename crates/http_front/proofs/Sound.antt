@@ -18,7 +18,6 @@ use Rattle.api_calls.specs.Meaning as fault
 use Rattle.api_calls.specs.Objects.{Stored, find}
 use Rattle.api_calls.specs.Pages.{PageEnd, Place, page_decision}
 use Rattle.api_calls.specs.Pages as page
-use Rattle.api_calls.specs.Legal.{key_of}
 use Rattle.api_calls.specs.Refusal.{RefusalView, SubjectView}
 use Rattle.api_calls.specs.Refusal as refusal
 use Rattle.api_calls.specs.Replies.{Answer, ShowsObject, IsRaw, IsList, Pages, Wrote, Deleted, IsRefusedRequest, GetReply, RawReply, ListReply, CreateReply, ReplaceReply, DeleteReply, SetReply, TrimReply, StartReply, MigrationReply, GroupReply, CrdReply, MigrationsReply, set_answer, trim_answer, start_answer, fault_refusal, body_refusal, start_refusal, definition_subject, code_ok, code_created}

@@ -12,7 +12,7 @@ use Rattle.http_wire.specs.Asking.{asks_more, asks_last, asks_end, asks_spent}
 use Rattle.http_wire.specs.declared.WireFault.{WireFault}
 use Rattle.http_front.specs.Faults.{fault_words, last_words}
 use Rattle.http_front.specs.Talk.{Exchange, asked, response_of, bytes_of, Steps, Conversation, Begins}
-use Rattle.http_front.specs.One.{AnswersOne, EndsInput, IsEnded, BreaksAnswer, BreaksRefusal, Did, HandsOn, RefusesHead, step_of}
+use Rattle.http_front.specs.One.{AnswersOne, EndsInput, IsEnded, BreaksAnswer, BreaksRefusal, Did, HandsOn, IfAnswered, RefusesHead, step_of}
 use Rattle.http_front.specs.Link.{AreFirst, BreaksReading, BreaksWriting, Breaks, answer, refusal, no_memory, memory_words, Links}
 use Rattle.http_front.specs.declared.one.OneEnd.{OneEnd}
 use Rattle.http_front.specs.declared.one.OneEnd.TheVariants as steps
@@ -25,6 +25,20 @@ pub did_either : {S : Type 0} (Step : S → Request → ReplyView → S → Type
     → AnswersOne Step closes s t known left before written → Did Step (step_of closes) s t known left before written
 did_either Step true s t known left before written one = one
 did_either Step false s t known left before written one = one
+
+pub if_answered : (closes : Bool) (P : Type 0) → P → IfAnswered (step_of closes) P
+if_answered true P holds = holds
+if_answered false P holds = holds
+
+-- a head that is refused is no answer
+pub if_refused : (f : WireFault) (before written : Option (List ℕ)) (step : OneEnd) (P : Type 0) → RefusesHead f before written step → IfAnswered step P
+if_refused f before written (steps.Refused g) P refuses = tt
+if_refused f before written steps.WriteFault P refuses = tt
+if_refused f before written steps.Answered P refuses = absurd refuses
+if_refused f before written steps.Last P refuses = absurd refuses
+if_refused f before written steps.Closed P refuses = absurd refuses
+if_refused f before written (steps.Torn held) P refuses = absurd refuses
+if_refused f before written steps.ReadFault P refuses = absurd refuses
 
 -- an answer was handed on
 pub handed_on : (closes : Bool) (flushed untouched : Type 0) → flushed → HandsOn (step_of closes) flushed untouched

@@ -77,6 +77,16 @@ HandsOn (Torn held) flushed untouched = untouched
 HandsOn ReadFault flushed untouched = untouched
 HandsOn WriteFault flushed untouched = Unit {0}
 
+-- of a request that was answered
+abbrev pub IfAnswered : OneEnd → Type 0 → Type 0
+IfAnswered Answered p = p
+IfAnswered Last p = p
+IfAnswered Closed p = Unit {0}
+IfAnswered (Torn held) p = Unit {0}
+IfAnswered (Refused f) p = Unit {0}
+IfAnswered ReadFault p = Unit {0}
+IfAnswered WriteFault p = Unit {0}
+
 -- the step of an answer
 abbrev pub step_of : Bool → OneEnd
 step_of true = Last

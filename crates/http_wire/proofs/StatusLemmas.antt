@@ -1,5 +1,5 @@
 -- Heads of responses, of bytes that have more behind them.
-use Rattle.std.proofs.Common.{◌≡◌, ℕ, ◌+◌, ◌-◌, ◌≤◌, List, ◌++◌, length, take, drop, map, min, Err, ap, sym, ◌∙◌, subst, arith, append_assoc, length-append, inl, inr}
+use Rattle.std.proofs.Common.{◌≡◌, ℕ, ◌+◌, ◌≤◌, List, ◌++◌, length, take, drop, map, min, Err, ap, sym, ◌∙◌, subst, arith, append_assoc, length-append, inl, inr}
 use Rattle.std.proofs.lemmas.List.{take-append-drop, take-take, length-take-le, length-map, take_min}
 use Rattle.httparse.specs.declared.spans.HeaderSpan.{HeaderSpan}
 use Rattle.httparse.specs.declared.spans.ResponseSpans.{ResponseSpans}

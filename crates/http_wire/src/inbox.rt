@@ -1,9 +1,9 @@
 //! The bytes that were read and not yet used.
-ghost use Rattle.std.specs.Prelude.{◌≡◌, ◌<◌, ◌≤◌, ◌+◌, ◌-◌, ◌++◌, [], List, ℕ, length, take, drop, slice_range, vec_len, IfOk, MatchResult};
+ghost use Rattle.std.specs.Prelude.{◌≡◌, ◌<◌, ◌≤◌, ◌+◌, ◌-◌, ◌++◌, [], List, ℕ, length, take, drop, slice_range, vec_len, Some, IfOk, OnOk, IfSome, MatchResult};
 ghost use Rattle.std.specs.Io.KnownBytes.{prepend_known, IsAtEnd};
 ghost use Rattle.edge_io.specs.Causes.{HasCause, Rose};
 ghost use Rattle.http_wire.specs.declared.inbox.TheConstants.{ROOM};
-ghost use Rattle.http_wire.specs.Head.{HasNoWhole};
+ghost use Rattle.http_wire.specs.Head.{HasNoWhole, FewBehind};
 ghost use Rattle.http_wire.specs.Received.{LacksResponse};
 ghost use Rattle.http_wire.specs.Inboxes.{Held, LiesIn, part_of};
 
@@ -46,6 +46,8 @@ fn read_behind<S: Source>(bytes: &mut [u8], at: usize, input: &mut S) -> Result<
     ensures end { IfOk result (λ n. n ≡ 0 → IsAtEnd (S.left input.new)) }
     ensures cause { HasCause (S.faults input.old) (S.faults input.new) result }
     ensures origin { S.origin input.new ≡ S.origin input.old }
+    ensures few { IfOk result (λ n. IfSome (S.most input.old) (λ m. n ≤ m)) }
+    ensures most { S.most input.new ≡ S.most input.old }
 {
     input.read(&mut bytes[at..])
 }
@@ -91,6 +93,8 @@ fn refill<S: Source>(bytes: &mut [u8], start: usize, end: usize, input: &mut S) 
     ensures end { IfOk result.count (λ n. n ≡ 0 → IsAtEnd (S.left input.new)) }
     ensures cause { HasCause (S.faults input.old) (S.faults input.new) result.count }
     ensures origin { S.origin input.new ≡ S.origin input.old }
+    ensures few { IfOk result.count (λ n. IfSome (S.most input.old) (λ m. n ≤ m)) }
+    ensures most { S.most input.new ≡ S.most input.old }
 {
     let at = make_room(bytes, start, end);
     let count = read_behind(bytes, at + (end - start), input);
@@ -155,6 +159,9 @@ impl Inbox {
         ensures end { IfOk result (λ n. n ≡ 0 → IsAtEnd (S.left input.new)) }
         ensures cause { HasCause (S.faults input.old) (S.faults input.new) result }
         ensures origin { S.origin input.new ≡ S.origin input.old }
+        // Where a request is whole now, fewer bytes stand behind it than one read gives.
+        ensures prompt { (m : ℕ) → S.most input.old ≡ Some m → OnOk result (FewBehind self.new.bytes m) }
+        ensures most { S.most input.new ≡ S.most input.old }
     {
         self.read_more(input)
     }
@@ -184,6 +191,8 @@ impl Inbox {
         ensures end { IfOk result (λ n. n ≡ 0 → IsAtEnd (S.left input.new)) }
         ensures cause { HasCause (S.faults input.old) (S.faults input.new) result }
         ensures origin { S.origin input.new ≡ S.origin input.old }
+        ensures few { IfOk result (λ n. IfSome (S.most input.old) (λ m. n ≤ m)) }
+        ensures most { S.most input.new ≡ S.most input.old }
     {
         let found = refill(&mut self.bytes, self.start, self.end, input);
         self.end = found.start + (self.end - self.start);

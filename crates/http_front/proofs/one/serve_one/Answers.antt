@@ -1,8 +1,8 @@
-use Rattle.std.proofs.Common.{refl, inl}
+use Rattle.std.proofs.Common.{refl, inl, arith, length-drop}
 use Rattle.http_wire.specs.Inboxes.{request_at}
 use Rattle.http_wire.specs.declared.WireFault.TheVariants as faults
 use Rattle.http_front.specs.Going.{answer_of}
-use Rattle.http_front.proofs.Talking.{did_close, did_either, did_tear, did_refuse}
+use Rattle.http_front.proofs.Talking.{did_close, did_either, did_tear, did_refuse, if_answered, if_refused}
 use Rattle.http_front.proofs.one.serve_one.Goals as goal
 
 pub returns-in-Ok-hand_on-clause-did : goal.returns-in-Ok-hand_on-clause-did
@@ -48,3 +48,24 @@ pub returns-clause-did : goal.returns-clause-did
 returns-clause-did g c = λ n named.
     did_refuse _ (faults.BodyTooLong c.in-Err-BodyTooLong.length) c.refused-in-Err-BodyTooLong.result _ _ _ _ _
     (λ b known. rw c.in-Err-BodyTooLong.field-0-is at (c.in-Err-BodyTooLong.ensures.asks b known)) (rw c.in-Err-BodyTooLong.length-is at c.refused-in-Err-BodyTooLong.ensures.wrote)
+
+pub returns-in-Ok-hand_on-clause-prompt : goal.returns-in-Ok-hand_on-clause-prompt
+returns-in-Ok-hand_on-clause-prompt g c = λ none m is.
+    let few = c.in-Ok.ensures.prompt none m is in
+    let behind = length-drop c.read_request.new.inbox.request c.read_request.new.inbox.bytes in
+    rw (c.step_of.ensures, c.used.ensures) (if_answered c.in-Ok.parts.closing _ (omega (arith, behind, few, c.in-Ok.ensures.next.within)))
+
+pub returns-in-Err-BadHead-clause-prompt : goal.returns-in-Err-BadHead-clause-prompt
+returns-in-Err-BadHead-clause-prompt g c = λ none m is. if_refused _ _ _ c.refused.result _ c.refused.ensures.wrote
+
+pub returns-in-Err-HeadTooLong-clause-prompt : goal.returns-in-Err-HeadTooLong-clause-prompt
+returns-in-Err-HeadTooLong-clause-prompt g c = λ none m is.
+    if_refused _ _ _ c.refused-in-Err-HeadTooLong.result _ c.refused-in-Err-HeadTooLong.ensures.wrote
+
+pub returns-in-Err-LengthRequired-clause-prompt : goal.returns-in-Err-LengthRequired-clause-prompt
+returns-in-Err-LengthRequired-clause-prompt g c = λ none m is.
+    if_refused _ _ _ c.refused-in-Err-LengthRequired.result _ c.refused-in-Err-LengthRequired.ensures.wrote
+
+pub returns-clause-prompt : goal.returns-clause-prompt
+returns-clause-prompt g c = λ none m is.
+    if_refused _ _ _ c.refused-in-Err-BodyTooLong.result _ c.refused-in-Err-BodyTooLong.ensures.wrote

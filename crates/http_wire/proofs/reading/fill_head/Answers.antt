@@ -13,5 +13,6 @@ loop-count-preserved g c = record {
   none = no_head_grown c.loop-count.inbox.bytes c.fill.new.self.bytes c.in_ok-count.ensures.front c.loop-count.invariant.none
       (no_line _ _ _ _ c.held-held.ensures c.held.ensures c.if-has_empty_line.ensures.1);
   origin = c.in_ok-count.ensures.origin ∙ c.loop-count.invariant.origin;
+  most = c.in_ok-count.ensures.most ∙ c.loop-count.invariant.most;
   later = omega (arith, c.in_ok-count.ensures.cause.later, c.loop-count.invariant.later);
 }

@@ -11,6 +11,7 @@ invariant-loop-count g l = record {
   room : length l.inbox.bytes < MOST_HEAD_BYTES;
   none : HasNoHead l.inbox.bytes;
   origin : g.S.Source.origin l.input ≡ g.S.Source.origin l.fn.input;
+  most : g.S.Source.most l.input ≡ g.S.Source.most l.fn.input;
   later : g.S.Source.faults l.fn.input ≤ g.S.Source.faults l.input;
 }
 
