@@ -1,0 +1,4 @@
+pub mod Alone
+pub mod Results
+pub mod Opened
+pub mod Counted
