@@ -6,3 +6,4 @@ pub mod Serving
 pub mod Ending
 pub mod TaskEnding
 pub mod TaskLemmas
+pub mod DrillEnding

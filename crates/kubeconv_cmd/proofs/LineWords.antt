@@ -1,6 +1,6 @@
 -- What words are as options, and which line they are.
-use Rattle.std.proofs.Common.{◌≡◌, ◌≢◌, ◌∙◌, ℕ, ◌<◌, ◌≤◌, List, [], ◌∷◌, ◌++◌, suc, ◌-◌, length, map, take, drop, get_or, refl, ap, sym, subst, arith, Option, Some, None}
-use Rattle.std.specs.Prelude.{codes, MatchOption}
+use Rattle.std.proofs.Common.{◌≡◌, ◌≢◌, ◌∙◌, ℕ, ◌<◌, ◌≤◌, List, [], ◌∷◌, ◌++◌, suc, ◌-◌, length, map, take, drop, get_or, refl, ap, sym, subst, arith, inl, inr, Option, Some, None}
+use Rattle.std.specs.Prelude.{codes, decimal, IfSome, MatchOption, ◌^◌}
 use Rattle.std.proofs.Math.Seq.{take-length}
 use Rattle.std.proofs.lemmas.List.{append_cancel_left}
 use Rattle.std.proofs.lemmas.Fmt.{decimal_injective}
@@ -9,8 +9,9 @@ use Rattle.kj_value.specs.declared.txt.Txt.{Txt}
 use Rattle.kubeconv_cmd.specs.declared.words.Taken.{Taken}
 use Rattle.kubeconv_cmd.specs.declared.words.Given.{Given}
 use Rattle.kubeconv_cmd.specs.declared.words.Command.{Command}
+use Rattle.kubeconv_cmd.specs.declared.numbers.TheConstants.{MOST_STEPS}
 use Rattle.kubeconv_cmd.specs.Given.{line_of, values_in, TakesFirst, GivesOne, IsCommand}
-use Rattle.kubeconv_cmd.specs.Lines.{built_in, from_files, convert, review, Line, pipe, task, Flag, crd_flag, rules_flag, to_flag, turns_flag, flag_text, IsValue, Begins, apart, joined, Values, no_values, value_at, with_value, Gives, no_more, one_more, command_word, SpellsTurns, HasValues, IsLine}
+use Rattle.kubeconv_cmd.specs.Lines.{built_in, from_files, example, convert, review, Line, pipe, task, drill, Flag, crd_flag, rules_flag, to_flag, turns_flag, flag_text, IsValue, Begins, apart, joined, Values, no_values, value_at, with_value, Gives, no_more, one_more, command_word, SpellsTurns, HasValues, HasOptions, HasNumbers, IsLine}
 
 -- ---- one option
 
@@ -119,6 +120,10 @@ one_line (pipe built_in m) (pipe built_in n) v e one other = ap (λ (k : ℕ). p
 one_line (pipe built_in m) (pipe (from_files d s) n) v e one other = let crd_is : None ≡ Some d = sym one.0 ∙ other.0 in cc
 one_line (pipe built_in m) (task d s (convert w)) v e one other = let first : 112 ≡ 99 = ap (λ (s : List ℕ). get_or s 0 0) e in absurd (omega (arith, first))
 one_line (pipe built_in m) (task d s review) v e one other = let first : 112 ≡ 114 = ap (λ (s : List ℕ). get_or s 0 0) e in absurd (omega (arith, first))
+one_line (pipe built_in m) (pipe example n) v e one other = absurd other
+one_line (pipe built_in m) (drill a b) v e one other = absurd other
+one_line (pipe example m) b v e one other = absurd one
+one_line (drill x n) b v e one other = absurd one
 one_line (pipe (from_files c r) m) (pipe built_in n) v e one other = let crd_is : Some c ≡ None = sym one.0 ∙ other.0 in cc
 one_line (pipe (from_files c r) m) (pipe (from_files d s) n) v e one other =
     let crd_is : Some c ≡ Some d = sym one.0 ∙ other.0 in
@@ -127,6 +132,8 @@ one_line (pipe (from_files c r) m) (pipe (from_files d s) n) v e one other =
     cc
 one_line (pipe (from_files c r) m) (task d s (convert w)) v e one other = let first : 112 ≡ 99 = ap (λ (s : List ℕ). get_or s 0 0) e in absurd (omega (arith, first))
 one_line (pipe (from_files c r) m) (task d s review) v e one other = let first : 112 ≡ 114 = ap (λ (s : List ℕ). get_or s 0 0) e in absurd (omega (arith, first))
+one_line (pipe (from_files c r) m) (pipe example n) v e one other = absurd other
+one_line (pipe (from_files c r) m) (drill a b) v e one other = absurd other
 one_line (task c r (convert v2)) (pipe built_in n) v e one other = let first : 99 ≡ 112 = ap (λ (s : List ℕ). get_or s 0 0) e in absurd (omega (arith, first))
 one_line (task c r (convert v2)) (pipe (from_files d s) n) v e one other = let first : 99 ≡ 112 = ap (λ (s : List ℕ). get_or s 0 0) e in absurd (omega (arith, first))
 one_line (task c r (convert v2)) (task d s (convert w)) v e one other =
@@ -135,6 +142,8 @@ one_line (task c r (convert v2)) (task d s (convert w)) v e one other =
     let to_is : Some v2 ≡ Some w = sym one.2 ∙ other.2 in
     cc
 one_line (task c r (convert v2)) (task d s review) v e one other = let first : 99 ≡ 114 = ap (λ (s : List ℕ). get_or s 0 0) e in absurd (omega (arith, first))
+one_line (task c r (convert v2)) (pipe example n) v e one other = absurd other
+one_line (task c r (convert v2)) (drill a b) v e one other = absurd other
 one_line (task c r review) (pipe built_in n) v e one other = let first : 114 ≡ 112 = ap (λ (s : List ℕ). get_or s 0 0) e in absurd (omega (arith, first))
 one_line (task c r review) (pipe (from_files d s) n) v e one other = let first : 114 ≡ 112 = ap (λ (s : List ℕ). get_or s 0 0) e in absurd (omega (arith, first))
 one_line (task c r review) (task d s (convert w)) v e one other = let first : 114 ≡ 99 = ap (λ (s : List ℕ). get_or s 0 0) e in absurd (omega (arith, first))
@@ -142,6 +151,8 @@ one_line (task c r review) (task d s review) v e one other =
     let crd_is : Some c ≡ Some d = sym one.0 ∙ other.0 in
     let rules_is : Some r ≡ Some s = sym one.1 ∙ other.1 in
     cc
+one_line (task c r review) (pipe example n) v e one other = absurd other
+one_line (task c r review) (drill a b) v e one other = absurd other
 
 -- ---- words in memory
 
@@ -186,16 +197,16 @@ gives_more ws f v r before more (Some g) begins free is gives =
     one_more ws f v r before (values_in g) begins free (subst (λ (x : Values). Gives r x (values_in g)) is gives)
 
 -- a line's words are its command and its options
-pub line_found : (words : List (List ℕ)) (first : List ℕ) (rest : List (List ℕ)) (values : Values) (o : Option Command) (line : Line) → words ≡ first ∷ rest
-    → ((after : Values) → Gives rest no_values after → after ≡ values) → IsCommand first values o → IsLine words line → MatchOption o ⊥ (λ c. line ≡ line_of c)
-line_found words first rest values None line is one command l =
-    let same : first ∷ rest ≡ command_word line ∷ l.options = sym is ∙ l.command in
+pub line_found : (first : List ℕ) (rest : List (List ℕ)) (values : Values) (o : Option Command) (line : Line)
+    → ((after : Values) → Gives rest no_values after → after ≡ values) → IsCommand first values o → HasOptions (first ∷ rest) line → MatchOption o ⊥ (λ c. line ≡ line_of c)
+line_found first rest values None line one command l =
+    let same : first ∷ rest ≡ command_word line ∷ l.options = l.command in
     let e : first ≡ command_word line = cc in
     let t : l.options ≡ rest = cc in
     let g : Gives rest no_values l.values = rw (sym t) l.gives in
     command line e (subst (λ (v : Values). HasValues line v) (one l.values g) l.has)
-line_found words first rest values (Some c) line is one command l =
-    let same : first ∷ rest ≡ command_word line ∷ l.options = sym is ∙ l.command in
+line_found first rest values (Some c) line one command l =
+    let same : first ∷ rest ≡ command_word line ∷ l.options = l.command in
     let e : first ≡ command_word line = cc in
     let t : l.options ≡ rest = cc in
     let g : Gives rest no_values l.values = rw (sym t) l.gives in
@@ -207,3 +218,99 @@ one_end ws before one other (no_more values) (no_more others) = refl
 one_end ws before one other (no_more values) (one_more words f v r first last begins free gives) = absurd (none_begins f v r begins)
 one_end ws before one other (one_more words f v r first last begins free gives) g =
     one_end r (with_value f v before) one other gives (gives_rest ws f v r before other begins g).1
+
+-- ---- drills
+
+-- a drill has no options
+pub no_drill : (rest : List (List ℕ)) (line : Line) → HasOptions (codes "drill" ∷ rest) line → ⊥
+no_drill rest (pipe named turns) l =
+    let e : codes "drill" ≡ codes "pipe" = let same : codes "drill" ∷ rest ≡ codes "pipe" ∷ l.options = l.command in cc in
+    let first : 100 ≡ 112 = ap (λ (s : List ℕ). get_or s 0 0) e in omega (arith, first)
+no_drill rest (task c r (convert to)) l =
+    let e : codes "drill" ≡ codes "convert" = let same : codes "drill" ∷ rest ≡ codes "convert" ∷ l.options = l.command in cc in
+    let first : 100 ≡ 99 = ap (λ (s : List ℕ). get_or s 0 0) e in omega (arith, first)
+no_drill rest (task c r review) l =
+    let e : codes "drill" ≡ codes "review" = let same : codes "drill" ∷ rest ≡ codes "review" ∷ l.options = l.command in cc in
+    let first : 100 ≡ 114 = ap (λ (s : List ℕ). get_or s 0 0) e in omega (arith, first)
+no_drill rest (drill start count) l = l.has
+
+-- and another command has no two numbers
+pub only_drill : (first : List ℕ) (rest : List (List ℕ)) (line : Line) → HasNumbers (first ∷ rest) line → first ≡ codes "drill"
+only_drill first rest line h =
+    let same : first ∷ rest ≡ codes "drill" ∷ decimal h.start ∷ decimal h.count ∷ [] = h.spelled in cc
+
+-- two numbers are one drill
+pub same_drill : (a b : List ℕ) (x n : ℕ) (line : Line) → a ≡ decimal x → x ≤ 9223372036854775807 → b ≡ decimal n → n ≤ MOST_STEPS → HasNumbers (codes "drill" ∷ a ∷ b ∷ []) line → line ≡ drill x n
+same_drill a b x n line start low count few h =
+    h.is ∙ ap (λ (y : ℕ). drill y h.count) (sym first) ∙ ap (λ (m : ℕ). drill x m) (sym second)
+  where
+    words : codes "drill" ∷ a ∷ b ∷ [] ≡ codes "drill" ∷ decimal h.start ∷ decimal h.count ∷ []
+    words = h.spelled
+
+    first : x ≡ h.start
+    first = let spelled : a ≡ decimal h.start = cc in decimal_injective x h.start (omega (arith, low)) (omega (arith, h.low)) (sym start ∙ spelled)
+
+    second : n ≡ h.count
+    second = let spelled : b ≡ decimal h.count = cc in decimal_injective n h.count (omega (arith, few)) (omega (arith, h.few)) (sym count ∙ spelled)
+
+-- how many words stand behind the command
+pub no_numbers : (ws : List Txt) (line : Line) → length ws < 1 → HasNumbers (codes "drill" ∷ map bytes_of ws) line → ⊥
+no_numbers [] line few h = let same : codes "drill" ∷ [] ≡ codes "drill" ∷ decimal h.start ∷ decimal h.count ∷ [] = h.spelled in cc
+no_numbers (x ∷ ws) line few h = omega (arith, few)
+
+pub no_count : (a : List ℕ) (ws : List Txt) (line : Line) → length ws < 1 → HasNumbers (codes "drill" ∷ a ∷ map bytes_of ws) line → ⊥
+no_count a [] line few h = let same : codes "drill" ∷ a ∷ [] ≡ codes "drill" ∷ decimal h.start ∷ decimal h.count ∷ [] = h.spelled in cc
+no_count a (x ∷ ws) line few h = omega (arith, few)
+
+pub no_third : (a b : List ℕ) (ws : List Txt) (line : Line) → 1 ≤ length ws → HasNumbers (codes "drill" ∷ a ∷ b ∷ map bytes_of ws) line → ⊥
+no_third a b [] line some h = omega (arith, some)
+no_third a b (x ∷ ws) line some h =
+    let same : codes "drill" ∷ a ∷ b ∷ bytes_of x ∷ map bytes_of ws ≡ codes "drill" ∷ decimal h.start ∷ decimal h.count ∷ [] = h.spelled in cc
+
+pub none_behind : (ws : List Txt) → length ws < 1 → map bytes_of ws ≡ []
+none_behind [] few = refl
+none_behind (x ∷ ws) few = absurd (omega (arith, few))
+
+-- a line of the same words
+pub only_line : (o : Option Command) (ws us : List (List ℕ)) → ws ≡ us → ((line : Line) → HasNumbers us line → MatchOption o ⊥ (λ c. line ≡ line_of c))
+    → (line : Line) → HasNumbers ws line → MatchOption o ⊥ (λ c. line ≡ line_of c)
+only_line o ws us same only line h = only line (subst (λ (x : List (List ℕ)). HasNumbers x line) same h)
+
+pub is_line : (o : Option Command) (ws us : List (List ℕ)) → ws ≡ us → IfSome o (λ c. HasNumbers us (line_of c)) → IfSome o (λ c. HasNumbers ws (line_of c))
+is_line None ws us same is = tt
+is_line (Some c) ws us same is = subst (λ (x : List (List ℕ)). HasNumbers x (line_of c)) (sym same) is
+
+-- ---- a command and the words behind it
+
+pub drill_is : (o : Option Command) (w : List ℕ) (ws : List (List ℕ)) → w ≡ codes "drill" → IfSome o (λ c. HasNumbers (codes "drill" ∷ ws) (line_of c)) → IfSome o (λ c. IsLine (w ∷ ws) (line_of c))
+drill_is None w ws same is = tt
+drill_is (Some c) w ws same is = inr (subst (λ (x : List ℕ). HasNumbers (x ∷ ws) (line_of c)) (sym same) is)
+
+pub drill_only : (o : Option Command) (w : List ℕ) (ws : List (List ℕ)) → w ≡ codes "drill"
+    → ((line : Line) → HasNumbers (codes "drill" ∷ ws) line → MatchOption o ⊥ (λ c. line ≡ line_of c)) → (line : Line) → IsLine (w ∷ ws) line → MatchOption o ⊥ (λ c. line ≡ line_of c)
+drill_only o w ws same only line (inl l) = absurd (no_drill ws line (subst (λ (x : List ℕ). HasOptions (x ∷ ws) line) same l))
+drill_only o w ws same only line (inr h) = only line (subst (λ (x : List ℕ). HasNumbers (x ∷ ws) line) same h)
+
+pub options_are : (o : Option Command) (ws : List (List ℕ)) → IfSome o (λ c. HasOptions ws (line_of c)) → IfSome o (λ c. IsLine ws (line_of c))
+options_are None ws is = tt
+options_are (Some c) ws is = inl is
+
+pub options_only : (o : Option Command) (w : List ℕ) (ws : List (List ℕ)) → (w ≡ codes "drill" → ⊥)
+    → ((line : Line) → HasOptions (w ∷ ws) line → MatchOption o ⊥ (λ c. line ≡ line_of c)) → (line : Line) → IsLine (w ∷ ws) line → MatchOption o ⊥ (λ c. line ≡ line_of c)
+options_only o w ws other only line (inl l) = only line l
+options_only o w ws other only line (inr h) = absurd (other (only_drill w ws line h))
+
+-- words in memory are a line as the same words are
+pub line_is : (o : Option Command) (ws us : List (List ℕ)) → ws ≡ us → IfSome o (λ c. IsLine us (line_of c)) → IfSome o (λ c. IsLine ws (line_of c))
+line_is None ws us same is = tt
+line_is (Some c) ws us same is = subst (λ (x : List (List ℕ)). IsLine x (line_of c)) (sym same) is
+
+pub line_only : (o : Option Command) (ws us : List (List ℕ)) → ws ≡ us → ((line : Line) → IsLine us line → MatchOption o ⊥ (λ c. line ≡ line_of c))
+    → (line : Line) → IsLine ws line → MatchOption o ⊥ (λ c. line ≡ line_of c)
+line_only o ws us same only line l = only line (subst (λ (x : List (List ℕ)). IsLine x line) same l)
+
+-- no words are no line
+pub no_line : (ws : List Txt) (words : List (List ℕ)) (line : Line) → map bytes_of ws ≡ words → length ws < 1 → IsLine words line → ⊥
+no_line [] words line same few (inl l) = let none : [] ≡ command_word line ∷ l.options = same ∙ l.command in cc
+no_line [] words line same few (inr h) = let none : [] ≡ codes "drill" ∷ decimal h.start ∷ decimal h.count ∷ [] = same ∙ h.spelled in cc
+no_line (x ∷ ws) words line same few l = omega (arith, few)

@@ -11,7 +11,7 @@ use Rattle.kubeconv_cmd.specs.declared.words.Flag.{Flag as FlagCode}
 use Rattle.kubeconv_cmd.specs.declared.words.Flag.TheVariants as flags
 use Rattle.kubeconv_cmd.specs.declared.words.Taken.{Taken}
 use Rattle.kubeconv_cmd.specs.declared.words.Given.{Given}
-use Rattle.kubeconv_cmd.specs.Lines.{Named, built_in, from_files, Task, convert, review, Line, pipe, task, Flag, crd_flag, rules_flag, to_flag, turns_flag, Begins, Values, Gives, command_word, HasValues}
+use Rattle.kubeconv_cmd.specs.Lines.{Named, built_in, from_files, Task, convert, review, Line, pipe, task, drill, Flag, crd_flag, rules_flag, to_flag, turns_flag, Begins, Values, Gives, command_word, HasValues}
 
 abbrev pub named_of : NamedCode → Named
 named_of named.BuiltIn = built_in
@@ -24,6 +24,7 @@ task_of tasks.Review = review
 abbrev pub line_of : Command → Line
 line_of (commands.Pipe n turns) = pipe (named_of n) turns
 line_of (commands.Task crd rules t) = task crd.now rules.now (task_of t)
+line_of (commands.Drill start count) = drill start count
 
 abbrev pub flag_in : FlagCode → Flag
 flag_in flags.Crd = crd_flag

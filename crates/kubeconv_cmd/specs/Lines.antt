@@ -1,12 +1,17 @@
 -- The lines of the program, and the words that they are.
-use Rattle.std.specs.Prelude.{◌≡◌, ◌≢◌, ◌≤◌, ◌++◌, ℕ, List, [], ◌∷◌, Option, None, Some, codes, decimal}
+use Rattle.std.specs.Prelude.{◌≡◌, ◌≢◌, ◌≤◌, ◌<◌, ◌^◌, ◌⊎◌, ◌++◌, ℕ, List, [], ◌∷◌, Option, None, Some, codes, decimal}
+use Rattle.kj_value.specs.Reading.{Reads}
+use Rattle.crontab_example.specs.Documents.{definition_document, rules_document}
 use Rattle.kubeconv_cmd.specs.declared.turns.TheConstants.{MOST_TURNS}
+use Rattle.kubeconv_cmd.specs.declared.numbers.TheConstants.{MOST_STEPS}
 use Rattle.built_in.specs.Texts.{definition_text, rules_text}
 
--- the definition that a line names: the one that is built in, or the one of a file, with the rules of conversion of another
+-- the definition that a line names: the one that is built in, the one of a file, with the rules of conversion of another, or the
+-- shared example
 pub data Named : Type 0 where
   built_in : Named
   from_files : List ℕ → List ℕ → Named
+  example : Named
 
 -- what is done with one document
 pub data Task : Type 0 where
@@ -20,11 +25,14 @@ pub data Line : Type 0 where
   pipe : Named → ℕ → Line
   -- reads one document and writes one line, by the definition of one file with the rules of another
   task : List ℕ → List ℕ → Task → Line
+  -- takes so many steps, which are drawn from the state of the first number on
+  drill : ℕ → ℕ → Line
 
 -- the definition that a line names
 abbrev pub named_in : Line → Named
 named_in (pipe named turns) = named
 named_in (task crd rules t) = from_files crd rules
+named_in (drill start count) = example
 
 -- ---- options
 
@@ -89,26 +97,43 @@ abbrev pub command_word : Line → List ℕ
 command_word (pipe named turns) = codes "pipe"
 command_word (task crd rules (convert to)) = codes "convert"
 command_word (task crd rules review) = codes "review"
+command_word (drill start count) = codes "drill"
 
 -- how many turns are spelled: in decimal digits without leading zeros, up to the most; none where nothing is given
 abbrev pub SpellsTurns : Option (List ℕ) → ℕ → Type 0
 SpellsTurns None turns = turns ≡ 0
 SpellsTurns (Some text) turns = (text ≡ decimal turns) × (turns ≤ MOST_TURNS)
 
--- the options that a line has, in any order, are given with these values
+-- the options that a line has, in any order, are given with these values; a drill has none, and two numbers in their place
 abbrev pub HasValues : Line → Values → Type 0
 HasValues (pipe built_in turns) v = (v.crd ≡ None) × (v.rules ≡ None) × (v.to ≡ None) × SpellsTurns v.turns turns
 HasValues (pipe (from_files crd rules) turns) v = (v.crd ≡ Some crd) × (v.rules ≡ Some rules) × (v.to ≡ None) × SpellsTurns v.turns turns
+HasValues (pipe example turns) v = ⊥
 HasValues (task crd rules (convert to)) v = (v.crd ≡ Some crd) × (v.rules ≡ Some rules) × (v.to ≡ Some to) × (v.turns ≡ None)
 HasValues (task crd rules review) v = (v.crd ≡ Some crd) × (v.rules ≡ Some rules) × (v.to ≡ None) × (v.turns ≡ None)
+HasValues (drill start count) v = ⊥
 
--- the words are this line
-pub record IsLine (words : List (List ℕ)) (line : Line) : Type 0 where
+-- the words are this line, a command with its options
+pub record HasOptions (words : List (List ℕ)) (line : Line) : Type 0 where
   pub options : List (List ℕ)
   pub values : Values
   pub command : words ≡ command_word line ∷ options
   pub gives : Gives options no_values values
   pub has : HasValues line values
+
+-- the words are this line, a drill with its two numbers: in decimal digits without a sign or leading zeros, the first below 2^63
+-- and the second up to the most
+pub record HasNumbers (words : List (List ℕ)) (line : Line) : Type 0 where
+  pub start : ℕ
+  pub count : ℕ
+  pub is : line ≡ drill start count
+  pub spelled : words ≡ codes "drill" ∷ decimal start ∷ decimal count ∷ []
+  pub low : start < 2 ^ 63
+  pub few : count ≤ MOST_STEPS
+
+-- the words are this line
+abbrev pub IsLine : List (List ℕ) → Line → Type 0
+IsLine words line = HasOptions words line ⊎ HasNumbers words line
 
 -- ---- files
 
@@ -116,3 +141,4 @@ pub record IsLine (words : List (List ℕ)) (line : Line) : Type 0 where
 abbrev pub Texts : (List ℕ → Option (List ℕ)) → Named → List ℕ → List ℕ → Type 0
 Texts file built_in crd rules = (crd ≡ definition_text) × (rules ≡ rules_text)
 Texts file (from_files c r) crd rules = (file c ≡ Some crd) × (file r ≡ Some rules)
+Texts file example crd rules = Reads crd 100 definition_document × Reads rules 100 rules_document

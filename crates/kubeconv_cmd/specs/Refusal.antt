@@ -8,7 +8,7 @@ use Rattle.crd_loading.specs.Told.{RefusesIn}
 use Rattle.crd_loading.specs.View.{LoadedView}
 use Rattle.crd_loading.specs.declared.loading.Which.{Which}
 use Rattle.crd_loading.specs.declared.loading.Which.TheVariants.{Crd, Rules}
-use Rattle.kubeconv_cmd.specs.Lines.{Named, built_in, from_files}
+use Rattle.kubeconv_cmd.specs.Lines.{Named, built_in, from_files, example}
 
 -- ---- one file
 
@@ -60,17 +60,20 @@ abbrev pub file_of : Which → List ℕ → List ℕ → List ℕ
 file_of Crd c r = c
 file_of Rules c r = r
 
--- Something of these texts is refused: the name of the file as it stands in the line, and why. What is built in never is.
+-- Something of these texts is refused: the name of the file as it stands in the line, and why. What is built in never is, nor is
+-- the example.
 abbrev pub RefusesNamed : Named → List ℕ → List ℕ → List ℕ → List ℕ → Type 0
 RefusesNamed built_in crd rules name why = ⊥
+RefusesNamed example crd rules name why = ⊥
 RefusesNamed (from_files c r) crd rules name why = (which : Which) × (name ≡ file_of which c r) × IsFirstRefused crd rules which why
 
 -- something of the texts is refused
 abbrev pub RefusesSome : Named → List ℕ → List ℕ → Type 0
 RefusesSome named crd rules = (name : List ℕ) × (why : List ℕ) × RefusesNamed named crd rules name why
 
--- The texts are served: the files aren't too long, and load. What is built in always is.
+-- The texts are served: the files aren't too long, and load. What is built in always is, and so is the example.
 abbrev pub IsServed : Named → List ℕ → List ℕ → Type 0
 IsServed built_in crd rules = Unit {0}
+IsServed example crd rules = Unit {0}
 IsServed (from_files c r) crd rules =
     (length crd ≤ MOST_FILE_BYTES) × (length rules ≤ MOST_FILE_BYTES) × (l : LoadedView) × Loads crd rules l

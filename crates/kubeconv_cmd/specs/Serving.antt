@@ -26,7 +26,8 @@ use Rattle.shared_api.specs.Steps.{IsToPrepare}
 use Rattle.kubeconv_cmd.specs.declared.pipe.PipeEnd.{PipeEnd}
 use Rattle.kubeconv_cmd.specs.declared.pipe.PipeEnd.TheVariants.{Closed, Torn, Refused, Spent, ReadFault, WriteFault}
 use Rattle.kubeconv_cmd.specs.Status.{status_of, pipe_status}
-use Rattle.kubeconv_cmd.specs.Lines.{Task, Line, pipe, task}
+use Rattle.drill_steps.specs.Drilling.{Tells, drilled}
+use Rattle.kubeconv_cmd.specs.Lines.{Task, Line, pipe, task, drill}
 use Rattle.kubeconv_cmd.specs.Tasks.{AnswersTexts, RefusesTexts, Wrote}
 use Rattle.kubeconv_cmd.specs.declared.status.TheConstants.{DONE, BAD_INPUT, REFUSED, READ_FAILED, NO_MEMORY}
 
@@ -152,8 +153,20 @@ pub data RanTask (crd rules : List ℕ) (t : Task) (input : List ℕ) (before wr
   answered : status ≡ DONE → Wrote (AnswersTexts crd rules t input) before written → RanTask crd rules t input before written status
   refused : (why : List ℕ) → status ≡ BAD_INPUT → RefusesTexts crd rules t input why → written ≡ before → RanTask crd rules t input before written status
 
+-- the text tells of a drill of so many steps, drawn from the first number on, of the definition and the rules that two texts are
+pub record DrillsTexts (crd rules : List ℕ) (start count : ℕ) (text : List ℕ) : Type 0 where
+  pub loaded : LoadedView
+  pub loads : Loads crd rules loaded
+  pub tells : Tells (drilled (served_meaning loaded)) start count text
+
+-- A line of a drill wrote that text.
+pub record RanDrill (crd rules : List ℕ) (start count : ℕ) (before written : Option (List ℕ)) (status : ℕ) : Type 0 where
+  pub done : status ≡ DONE
+  pub wrote : Wrote (DrillsTexts crd rules start count) before written
+
 -- What a line with the definition of these texts does with an input, where nothing fails: what is written behind what was, and
 -- the status.
 abbrev pub Ran : Line → List ℕ → List ℕ → Start → List ℕ → Option (List ℕ) → Option (List ℕ) → ℕ → Type 0
 Ran (pipe named turns) crd rules start input before written status = ServesTexts crd rules turns start input before written status
 Ran (task c r t) crd rules start input before written status = RanTask crd rules t input before written status
+Ran (drill x n) crd rules start input before written status = RanDrill crd rules x n before written status

@@ -11,8 +11,11 @@ ghost use Rattle.hub_rules.specs.declared.rules.TheConstants.{MAX_OBJECTS as mos
 ghost use Rattle.rule_reading.specs.declared.rules.TheConstants.{MAX_RULES as most_rules};
 ghost use Rattle.kept_entries.specs.declared.reading.TheConstants.{KEPT_LEVELS as most_kept_levels};
 ghost use Rattle.crd_meaning.specs.declared.limits.TheConstants.{MAX_MEASURE as most_measure};
+ghost use Rattle.http_routes.specs.declared.query.TheConstants.{MOST_LIMIT_DIGITS as most_limit_digits};
+ghost use Rattle.review_batch.specs.declared.levels.TheConstants.{REVIEW_LEVELS as most_review_levels, ANSWER_ROOM as most_answer_bytes};
 
 use crate::input::MOST_INPUT_BYTES;
+use crate::numbers::MOST_STEPS;
 use crate::status::{
     BAD_INPUT, BAD_WORDS, CUT, DONE, NO_MEMORY, READ_FAILED, REFUSED, TOO_MANY, WRITE_FAILED,
 };
@@ -31,7 +34,7 @@ pub fn statuses()
     ensures too_many { TOO_MANY ≡ 10 }
 {}
 
-/// The bounds on definitions, schemas, rules, objects and their texts: numbers of things, bytes and levels.
+/// The bounds on definitions, schemas, rules, objects and their texts, lists and reviews: numbers of things, bytes, digits and levels.
 pub fn bounds()
     ensures versions { (least_versions ≡ 2) × (most_versions ≡ 8) }
     ensures kind { most_kind_bytes ≡ 63 }
@@ -42,5 +45,8 @@ pub fn bounds()
     ensures labels { most_label_bytes ≡ 63 }
     ensures documents { MOST_INPUT_BYTES ≡ 4_194_304 }
     ensures turns { MOST_TURNS ≡ 1_000 }
+    ensures steps { MOST_STEPS ≡ 100_000 }
+    ensures lists { most_limit_digits ≡ 18 }
+    ensures reviews { (most_review_levels ≡ 67) × (most_answer_bytes ≡ 67_108_864) }
     ensures finalizers { (most_finalizers ≡ 64) × (most_finalizer_bytes ≡ 317) }
 {}

@@ -2,15 +2,17 @@
 //!
 //! The crate's one contract is that of `run`: of `pipe` what was written is what a one-thread server of the definition answers to
 //! the requests that the input spells, with so many turns of a worker after each, and the status is that of the input's end; of `convert` and `review` it is the one line that
-//! the definition makes of the input, or the error line says why there is none; or a file is refused, and the error line says
+//! the definition makes of the input, or the error line says why there is none; of `drill` it is what a drill of the shared example tells; or a file is refused, and the error line says
 //! where and why. It knows nothing of how definitions are loaded, of how requests are read from bytes, of what they are
-//! answered, of how documents are converted and reviews answered, nor of where files and streams come from.
+//! answered, of how documents are converted and reviews answered, of what a drill does, nor of where files and streams come from.
 #![tactic(auto)]
 
 pub mod laws;
 
 // The words, and the definition that they name.
+mod drill_words;
 mod loading;
+mod numbers;
 mod stop;
 mod turns;
 mod words;
@@ -25,11 +27,15 @@ mod input;
 mod task_line;
 mod tasks;
 
+// The work of `drill`.
+mod drill_line;
+
 // The statuses, and the top call.
 mod status;
 mod top;
 
 pub use input::MOST_INPUT_BYTES;
+pub use numbers::MOST_STEPS;
 pub use status::{
     BAD_INPUT, BAD_WORDS, CUT, DONE, NO_MEMORY, READ_FAILED, REFUSED, TOO_MANY, WRITE_FAILED, ended,
 };

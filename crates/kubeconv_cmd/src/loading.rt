@@ -5,6 +5,8 @@ ghost use Rattle.crd_loading.specs.Load.{Loads, RefusesDefinition, RefusesRules}
 ghost use Rattle.crd_loading.specs.View.{LoadedView};
 ghost use Rattle.crd_loading.specs.Set.{set_of};
 ghost use Rattle.crd_versions.specs.Set.{definition_of};
+ghost use Rattle.kj_value.specs.Reading.{Reads};
+ghost use Rattle.crontab_example.specs.Documents.{definition_document, rules_document};
 ghost use Rattle.built_in.specs.Texts.{definition_text, rules_text};
 ghost use Rattle.kubeconv_cmd.specs.Lines.{Texts};
 ghost use Rattle.kubeconv_cmd.specs.Refusal.{IsText, IsUnfit, IsFirstRefused, IsServed, DontLoad, RefusesNamed, file_of};
@@ -16,7 +18,7 @@ use crate::words::Named;
 use built_in::accepted;
 use crd_versions::{LoadFault, VersionSet, Which, load};
 use edge_io::{FileFault, Files};
-use kj_value::{NoMemory, Txt};
+use kj_value::{NoMemory, Txt, one_reading};
 use std::alloc::Global;
 
 // The definition that is built in. Nothing of it is refused.
@@ -27,6 +29,36 @@ fn load_built_in(alloc: Global) -> Result<VersionSet, NoMemory>
     accepted();
     let definition = built_in::definition();
     let rules = built_in::rules();
+    match load(alloc, definition.as_bytes(), rules.as_bytes()) {
+        Ok(versions) => Ok(versions),
+        Err(LoadFault::NoMemory) => Err(NoMemory),
+        Err(
+            LoadFault::Refused {
+                file: Which::Crd,
+                path: _,
+                word: _,
+            },
+        ) => unreachable!(),
+        Err(
+            LoadFault::Refused {
+                file: Which::Rules,
+                path: _,
+                word: _,
+            },
+        ) => unreachable!(),
+    }
+}
+
+/// The definition of the shared example, of which nothing is refused, as any two texts that read as its documents load it.
+pub(crate) fn load_example(alloc: Global) -> Result<VersionSet, NoMemory>
+    ensures { (crd rules : List ℕ) → Reads crd 100 definition_document → Reads rules 100 rules_document
+        → IfOk result (λ s. (l : LoadedView) × Loads crd rules l × (definition_of s ≡ set_of l)) }
+{
+    // Asked for what their clauses say: nothing of texts that read so is refused, and a text reads as one value.
+    crontab_example::accepted();
+    one_reading();
+    let definition = crontab_example::definition();
+    let rules = crontab_example::rules();
     match load(alloc, definition.as_bytes(), rules.as_bytes()) {
         Ok(versions) => Ok(versions),
         Err(LoadFault::NoMemory) => Err(NoMemory),

@@ -252,8 +252,8 @@ fn send_line<K: Sink>(output: &mut K, text: &[u8]) -> Result<(), Failed>
     send(output, b"\n")
 }
 
-// Writes that line, and flushes.
-fn write_line<K: Sink>(output: &mut K, text: &str) -> Result<(), Failed>
+/// Writes that line, and flushes.
+pub(crate) fn write_line<K: Sink>(output: &mut K, text: &str) -> Result<(), Failed>
     ensures sent { Sends (K.written output.old) (K.written output.new) (ended_line text.now) result }
     ensures flushed { OnOk result (K.flushed output.new ≡ K.written output.new) }
     ensures cause { HasCause (K.faults output.old) (K.faults output.new) result }

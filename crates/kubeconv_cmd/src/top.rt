@@ -6,13 +6,14 @@ ghost use Rattle.http_wire.specs.Head.{Request};
 ghost use Rattle.http_wire.specs.Stream.{End, Asks};
 ghost use Rattle.http_wire.specs.declared.limits.TheConstants.{MOST_REQUESTS};
 ghost use Rattle.kubeconv_cmd.specs.declared.pipe.PipeEnd.TheVariants.{ReadFault as ReadFaulted, WriteFault as WriteFaulted};
-ghost use Rattle.kubeconv_cmd.specs.Lines.{Named, Task as TaskView, Line, pipe, task as task_line, IsLine, Texts, named_in};
+ghost use Rattle.kubeconv_cmd.specs.Lines.{Named, Task as TaskView, Line, pipe, task as task_line, drill as drill_line, IsLine, Texts, named_in};
 ghost use Rattle.kubeconv_cmd.specs.Tasks.{AnswersTexts, Wrote, Broke, RefusesTexts};
-ghost use Rattle.kubeconv_cmd.specs.Serving.{Ran, Converses, Held, IsUnheld};
+ghost use Rattle.kubeconv_cmd.specs.Serving.{DrillsTexts, Ran, Converses, Held, IsUnheld};
 ghost use Rattle.kubeconv_cmd.specs.Refusal.{RefusesNamed, RefusesSome, IsServed};
 ghost use Rattle.kubeconv_cmd.specs.Status.{status_of, error_line, line_saying, refusal_line};
 ghost use Rattle.kubeconv_cmd.specs.Given.{line_of};
 
+use crate::drill_line::run_drill;
 use crate::pipe_line::run_pipe;
 use crate::status::{
     BAD_INPUT, BAD_WORDS, DONE, NO_MEMORY, READ_FAILED, REFUSED, WRITE_FAILED, ended,
@@ -69,6 +70,14 @@ fn run_command<R: Wait, F: Files, S: Source, K: Sink, E: Sink, C: Clock>(
     ensures bad_input { (c r : List ℕ) (t : TaskView) → line_of command.entry ≡ task_line c r t → result ≡ BAD_INPUT
         → (why : List ℕ) × ((crd rules b : List ℕ) → Texts (F.file files.old) (named_in (task_line c r t)) crd rules → S.left input.old ≡ Some b → RefusesTexts crd rules t b why)
         × (¬ (Rose (E.faults errors.old) (E.faults errors.new)) → E.written errors.new ≡ append_known (E.written errors.old) (line_saying why)) }
+    ensures drilled { (start count : ℕ) (crd rules : List ℕ) → line_of command.entry ≡ (drill_line start count) → Texts (F.file files.old) (named_in (drill_line start count)) crd rules → result ≡ DONE
+        → Wrote (DrillsTexts crd rules start count) (K.written output.old) (K.written output.new) }
+    ensures drill_whole { (start count : ℕ) → line_of command.entry ≡ (drill_line start count) → result ≡ DONE → K.flushed output.new ≡ K.written output.new }
+    ensures drill_broke { (start count : ℕ) (crd rules : List ℕ) → line_of command.entry ≡ (drill_line start count) → Texts (F.file files.old) (named_in (drill_line start count)) crd rules → result ≡ WRITE_FAILED
+        → Broke (DrillsTexts crd rules start count) (K.written output.old) (K.written output.new) }
+    ensures drill_silent { (start count : ℕ) → line_of command.entry ≡ (drill_line start count) → result ≢ DONE → result ≢ WRITE_FAILED → output.new ≡ output.old }
+    ensures drill_ends { (start count : ℕ) → line_of command.entry ≡ (drill_line start count)
+        → ((result ≡ DONE) ⊎ ((result ≡ WRITE_FAILED) ⊎ (result ≡ NO_MEMORY))) × (files.new ≡ files.old) × (input.new ≡ input.old) }
     ensures no_task { (named : Named) (turns : ℕ) → line_of command.entry ≡ pipe named turns → result ≢ BAD_INPUT }
     ensures read_fault { result ≡ READ_FAILED → Rose (F.faults files.old) (F.faults files.new) ⊎ Rose (S.faults input.old) (S.faults input.new) }
     ensures write_fault { result ≡ WRITE_FAILED → Rose (K.faults output.old) (K.faults output.new) }
@@ -89,11 +98,12 @@ fn run_command<R: Wait, F: Files, S: Source, K: Sink, E: Sink, C: Clock>(
         Command::Task { crd, rules, task } => {
             run_task(alloc, crd, rules, task, files, input, output, errors)
         }
+        Command::Drill { start, count } => run_drill(rt, alloc, start, count, output, errors),
     }
 }
 
 /// Does what the words say, and answers the status of the program. The words are a command and its options in any order, each
-/// given once, as `--x v` or as `--x=v`. A value isn't empty and doesn't begin with `-`.
+/// given once, as `--x v` or as `--x=v`, or `drill` and its two numbers. A value isn't empty and doesn't begin with `-`.
 ///
 /// - `pipe`, or `pipe --crd FILE --rules FILE`, either with `--turns N`: the requests of `input` are answered on `output`, by the
 ///   definition that is built in or by that of the two files, from a server that begins with no objects and has the number `boot`.
@@ -103,13 +113,16 @@ fn run_command<R: Wait, F: Files, S: Source, K: Sink, E: Sink, C: Clock>(
 ///   version, with the end of a line.
 /// - `review --crd FILE --rules FILE`: `input` is a review of a request, and what is written is the text of its response, with the
 ///   end of a line.
+/// - `drill START COUNT`, START below 2^63 and COUNT up to 100,000, each spelled as N is: on a server of the definition of the shared
+///   example, to which nothing has happened, COUNT steps are taken that a generator draws from the state START on, then turns of a
+///   worker until it has nothing to do; what is written is nine lines that count what the replies were. It reads no file and no input.
 ///
 /// The definition's file is read first, then that of the rules, and then both are loaded; nothing of the input is read before that.
 /// The input of `convert` and `review` has at most 4,194,304 bytes. Whether there is a version of the name is asked before it is read.
 ///
 /// | status | comes where |
 /// |---|---|
-/// | 0 | of `pipe` the input was read to its end between two requests, or an answered request asked for closing; of the others the line was written |
+/// | 0 | of `pipe` the input was read to its end between two requests, or an answered request asked for closing; of the others what is written was written |
 /// | 2 | exactly where the words are no such line; nothing is read or written then but the error line |
 /// | 3 | a file is longer than 4,194,304 bytes, isn't UTF-8, or something of it is refused |
 /// | 4 | the input of `convert` or `review` is too long or refused, or no version has the name; nothing is written then but the error line |
@@ -188,6 +201,16 @@ pub fn run<
     ensures bad_input { (c r : List ℕ) (t : TaskView) → IsLine words.now (task_line c r t) → result ≡ BAD_INPUT
         → (why : List ℕ) × ((crd rules b : List ℕ) → Texts (F.file files.old) (named_in (task_line c r t)) crd rules → S.left input.old ≡ Some b → RefusesTexts crd rules t b why)
         × (¬ (Rose (E.faults errors.old) (E.faults errors.new)) → E.written errors.new ≡ append_known (E.written errors.old) (line_saying why)) }
+    // Whatever the outside did, at 0 a drill wrote the whole text that is told of it and handed it on, at 6 a front of it, and else
+    // nothing; and it touches no file and no input.
+    ensures drilled { (start count : ℕ) (crd rules : List ℕ) → IsLine words.now (drill_line start count) → Texts (F.file files.old) (named_in (drill_line start count)) crd rules → result ≡ DONE
+        → Wrote (DrillsTexts crd rules start count) (K.written output.old) (K.written output.new) }
+    ensures drill_whole { (start count : ℕ) → IsLine words.now (drill_line start count) → result ≡ DONE → K.flushed output.new ≡ K.written output.new }
+    ensures drill_broke { (start count : ℕ) (crd rules : List ℕ) → IsLine words.now (drill_line start count) → Texts (F.file files.old) (named_in (drill_line start count)) crd rules → result ≡ WRITE_FAILED
+        → Broke (DrillsTexts crd rules start count) (K.written output.old) (K.written output.new) }
+    ensures drill_silent { (start count : ℕ) → IsLine words.now (drill_line start count) → result ≢ DONE → result ≢ WRITE_FAILED → output.new ≡ output.old }
+    ensures drill_ends { (start count : ℕ) → IsLine words.now (drill_line start count)
+        → ((result ≡ DONE) ⊎ ((result ≡ WRITE_FAILED) ⊎ (result ≡ NO_MEMORY))) × (files.new ≡ files.old) × (input.new ≡ input.old) }
     ensures no_task { (named : Named) (turns : ℕ) → IsLine words.now (pipe named turns) → result ≢ BAD_INPUT }
     ensures read_fault { result ≡ READ_FAILED → Rose (F.faults files.old) (F.faults files.new) ⊎ Rose (S.faults input.old) (S.faults input.new) }
     ensures write_fault { result ≡ WRITE_FAILED → Rose (K.faults output.old) (K.faults output.new) }

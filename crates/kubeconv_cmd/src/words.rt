@@ -1,9 +1,10 @@
 //! The words of the command line.
 ghost use Rattle.std.specs.Prelude.{◌≡◌, ◌≢◌, ◌≤◌, ◌<◌, ◌↔◌, ◌++◌, ◌∷◌, [], ℕ, List, None, IfSome, IsTrue, MatchOption, codes, map, length};
 ghost use Rattle.kj_value.specs.Texts.{bytes_of};
-ghost use Rattle.kubeconv_cmd.specs.Lines.{Line, Flag as FlagView, IsLine, IsValue, SpellsTurns, flag_text, value_at, with_value};
+ghost use Rattle.kubeconv_cmd.specs.Lines.{Line, Flag as FlagView, HasOptions, IsLine, IsValue, SpellsTurns, flag_text, value_at, with_value};
 ghost use Rattle.kubeconv_cmd.specs.Given.{line_of, flag_in, values_in, TakesFirst, GivesOne, IsCommand};
 
+use crate::drill_words::drill_of;
 use crate::turns::turns_of;
 use kj_value::{TextList, Txt};
 
@@ -37,6 +38,11 @@ pub(crate) enum Command<'a> {
         crd: &'a str,
         rules: &'a str,
         task: Task<'a>,
+    },
+    /// To take so many steps of a drill, drawn from the state of the first number on.
+    Drill {
+        start: u64,
+        count: u64,
     },
 }
 
@@ -359,6 +365,35 @@ fn command_named<'a>(word: &str, given: Given<'a>) -> Option<Command<'a>>
     }
 }
 
+// The line of a command with the options that the words behind it are.
+fn optioned<'a>(word: &str, options: &'a [Txt]) -> Option<Command<'a>>
+    ensures is { IfSome result (λ c. HasOptions (word.now ∷ map bytes_of options.now) (line_of c)) }
+    ensures only { (line : Line) → HasOptions (word.now ∷ map bytes_of options.now) line → MatchOption result ⊥ (λ c. line ≡ line_of c) }
+{
+    match give(options, NOTHING) {
+        Some(given) => command_named(word, given),
+        None => None,
+    }
+}
+
+fn is_drill(word: &str) -> bool
+    ensures { IsTrue result ↔ (word.now ≡ codes "drill") }
+{
+    word == "drill"
+}
+
+// The line of a command with the words behind it.
+fn line_with<'a>(word: &str, rest: &'a [Txt]) -> Option<Command<'a>>
+    ensures is { IfSome result (λ c. IsLine (word.now ∷ map bytes_of rest.now) (line_of c)) }
+    ensures only { (line : Line) → IsLine (word.now ∷ map bytes_of rest.now) line → MatchOption result ⊥ (λ c. line ≡ line_of c) }
+{
+    if is_drill(word) {
+        drill_of(rest)
+    } else {
+        optioned(word, rest)
+    }
+}
+
 /// What the words ask for, or `None` exactly where they are no line of the program. It takes no memory.
 pub(crate) fn command_of(words: &Words) -> Option<Command<'_>>
     ensures is { IfSome result (λ c. IsLine words.now (line_of c)) }
@@ -366,9 +401,6 @@ pub(crate) fn command_of(words: &Words) -> Option<Command<'_>>
 {
     match words.as_slice() {
         [] => None,
-        [first, rest @ ..] => match give(rest, NOTHING) {
-            Some(given) => command_named(first.as_str(), given),
-            None => None,
-        },
+        [first, rest @ ..] => line_with(first.as_str(), rest),
     }
 }

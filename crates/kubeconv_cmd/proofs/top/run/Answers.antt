@@ -1,5 +1,5 @@
 use Rattle.std.proofs.Common.{sym}
-use Rattle.kubeconv_cmd.specs.Lines.{pipe, task}
+use Rattle.kubeconv_cmd.specs.Lines.{pipe, task, drill}
 use Rattle.kubeconv_cmd.proofs.top.run.Goals as goal
 
 pub returns-in-Some-clause-talk : goal.returns-in-Some-clause-talk
@@ -43,3 +43,21 @@ returns-in-None-clause-exact g c = λ named turns k r b requests end is texts le
 
 pub returns-in-None-clause-refused : goal.returns-in-None-clause-refused
 returns-in-None-clause-refused g c = λ line k r name why is texts nf bad. absurd (c.in-None.ensures.only line is)
+
+pub returns-in-Some-clause-drilled : goal.returns-in-Some-clause-drilled
+returns-in-Some-clause-drilled g c = λ start count k r is texts e. c.run_command.ensures.drilled start count k r (sym (c.in-Some.ensures.only (drill start count) is)) texts e
+
+pub returns-in-Some-clause-drill_whole : goal.returns-in-Some-clause-drill_whole
+returns-in-Some-clause-drill_whole g c = λ start count is e. c.run_command.ensures.drill_whole start count (sym (c.in-Some.ensures.only (drill start count) is)) e
+
+pub returns-in-Some-clause-drill_broke : goal.returns-in-Some-clause-drill_broke
+returns-in-Some-clause-drill_broke g c = λ start count k r is texts e. c.run_command.ensures.drill_broke start count k r (sym (c.in-Some.ensures.only (drill start count) is)) texts e
+
+pub returns-in-Some-clause-drill_silent : goal.returns-in-Some-clause-drill_silent
+returns-in-Some-clause-drill_silent g c = λ start count is d w. c.run_command.ensures.drill_silent start count (sym (c.in-Some.ensures.only (drill start count) is)) d w
+
+pub returns-in-Some-clause-drill_ends : goal.returns-in-Some-clause-drill_ends
+returns-in-Some-clause-drill_ends g c = λ start count is. c.run_command.ensures.drill_ends start count (sym (c.in-Some.ensures.only (drill start count) is))
+
+pub returns-in-None-clause-drill_ends : goal.returns-in-None-clause-drill_ends
+returns-in-None-clause-drill_ends g c = λ start count is. absurd (c.in-None.ensures.only (drill start count) is)

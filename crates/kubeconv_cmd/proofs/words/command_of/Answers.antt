@@ -1,13 +1,16 @@
-use Rattle.std.proofs.Common.{◌∙◌, ◌-◌, take, map, drop, length, arith, sym}
-use Rattle.kj_value.specs.Texts.{bytes_of}
-use Rattle.kubeconv_cmd.specs.Given.{values_in}
-use Rattle.kubeconv_cmd.specs.Lines.{no_values}
-use Rattle.kubeconv_cmd.proofs.LineWords.{first_word, line_found, one_end}
+use Rattle.std.proofs.Common.{◌∙◌, sym, arith}
+use Rattle.kubeconv_cmd.proofs.LineWords.{first_word, line_is, line_only, no_line}
 use Rattle.kubeconv_cmd.proofs.words.command_of.Goals as goal
 
-pub returns-in-Some-clause-only : goal.returns-in-Some-clause-only
-returns-in-Some-clause-only c = λ line l.
+pub returns-in-empty-clause-only : goal.returns-in-empty-clause-only
+returns-in-empty-clause-only c = λ line l. no_line c.as_slice.result.now c.args.words.now line c.as_slice.ensures c.in-empty.len_below l
+
+pub returns-in-len1-up-clause-is : goal.returns-in-len1-up-clause-is
+returns-in-len1-up-clause-is c =
     let all = first_word c.as_slice.result.now c.first-item.result c.as_str.result.now (omega (arith, c.in-len1-up.len_at_least)) c.first-item.is c.as_str.ensures in
-    line_found c.args.words.now c.as_str.result.now (map bytes_of (take (length c.as_slice.result.now - 1) (drop 1 c.as_slice.result.now))) (values_in c.in-Some.given) c.command_named.result line
-    (sym c.as_slice.ensures ∙ all) (λ after g. one_end (map bytes_of (take (length c.as_slice.result.now - 1) (drop 1 c.as_slice.result.now))) no_values (values_in c.in-Some.given) after c.in-Some.ensures g)
-    c.command_named.ensures l
+    line_is c.line_with.result _ _ (sym c.as_slice.ensures ∙ all) c.line_with.ensures.is
+
+pub returns-in-len1-up-clause-only : goal.returns-in-len1-up-clause-only
+returns-in-len1-up-clause-only c =
+    let all = first_word c.as_slice.result.now c.first-item.result c.as_str.result.now (omega (arith, c.in-len1-up.len_at_least)) c.first-item.is c.as_str.ensures in
+    line_only c.line_with.result _ _ (sym c.as_slice.ensures ∙ all) c.line_with.ensures.only

@@ -3,7 +3,7 @@ use Rattle.std.specs.Cmp.Lexicographic.{other_text}
 use Rattle.std.proofs.lemmas.Fmt.{parse-decimal}
 use Rattle.std.specs.Prelude.{decimal}
 use Rattle.api_calls.proofs.Tokens.{negated}
-use Rattle.kubeconv_cmd.proofs.turns.number_of.Goals as goal
+use Rattle.kubeconv_cmd.proofs.numbers.number_of.Goals as goal
 
 pub returns-in_default : goal.returns-in_default
 returns-in_default c =
