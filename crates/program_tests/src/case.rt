@@ -30,12 +30,29 @@ pub(crate) struct Outside {
     pub(crate) spoils_rules: bool,
 }
 
+/// With what a case is run again.
+#[derive(Drop)]
+pub(crate) struct Again {
+    pub(crate) pieces: String,
+    pub(crate) faults: bool,
+}
+
+/// Lines that stand once for each number from the first on and below the end; none are gathered where there is no such number.
+#[derive(Drop)]
+pub(crate) struct Block {
+    pub(crate) first: usize,
+    pub(crate) end: usize,
+    pub(crate) lines: Vec<String>,
+}
+
 /// A case.
 #[derive(Drop)]
 pub(crate) struct Case {
     pub(crate) documents: Documents,
     pub(crate) asked: Asked,
     pub(crate) outside: Outside,
+    pub(crate) again: Again,
+    pub(crate) block: Block,
     pub(crate) times: usize,
 }
 
@@ -49,6 +66,27 @@ impl Outside {
             last: usize::MAX,
             spoils_crd: false,
             spoils_rules: false,
+        }
+    }
+
+    /// The same, with reads of so many bytes.
+    pub(crate) fn in_pieces(self, piece: usize) -> Outside {
+        Outside { piece, ..self }
+    }
+
+    /// The same, where the read with this number fails.
+    pub(crate) fn unread_at(self, failing_read: u64) -> Outside {
+        Outside {
+            failing_read,
+            ..self
+        }
+    }
+
+    /// The same, where the write with this number fails.
+    pub(crate) fn unwritten_at(self, failing_write: u64) -> Outside {
+        Outside {
+            failing_write,
+            ..self
         }
     }
 }
@@ -71,6 +109,27 @@ fn nothing_asked(alloc: Global) -> Asked {
     }
 }
 
+impl Again {
+    /// It isn't run again.
+    pub(crate) fn new(alloc: Global) -> Again {
+        Again {
+            pieces: String::new(alloc),
+            faults: false,
+        }
+    }
+}
+
+impl Block {
+    /// No lines are gathered.
+    pub(crate) fn new(alloc: Global) -> Block {
+        Block {
+            first: 0,
+            end: 0,
+            lines: Vec::new(alloc),
+        }
+    }
+}
+
 impl Case {
     /// Nothing said.
     pub(crate) fn new(alloc: Global) -> Case {
@@ -78,6 +137,8 @@ impl Case {
             documents: no_documents(alloc),
             asked: nothing_asked(alloc),
             outside: Outside::new(),
+            again: Again::new(alloc),
+            block: Block::new(alloc),
             times: 1,
         }
     }

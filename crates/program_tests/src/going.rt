@@ -42,54 +42,55 @@ fn files_of(alloc: Global, case: &Case) -> Option<MemFiles> {
     Some(MemFiles::new(files, Vec::new(alloc)))
 }
 
-fn source_of(alloc: Global, case: &Case) -> Option<MemSource> {
-    let piece = case.outside.piece;
+fn source_of(alloc: Global, case: &Case, outside: Outside) -> Option<MemSource> {
+    let piece = outside.piece;
     if piece == 0 {
         return None;
     }
     let bytes = bytes_of(alloc, case.asked.input.as_str(), false)?;
-    let failing = vec![in alloc; case.outside.failing_read].ok()?;
+    let failing = vec![in alloc; outside.failing_read].ok()?;
     Some(MemSource::new(bytes, piece, failing))
 }
 
-// The end of the output, behind how much comes before it.
-fn add_output(alloc: Global, all: &mut String, output: &[u8], last: usize) -> Option<()> {
-    let before = output.len().saturating_sub(last);
-    if before > 0 {
-        let line = format!(in alloc; "({before} bytes)\n").ok()?;
-        all.push_str(line.as_str()).ok()?;
-    }
-    let text = str::from_utf8(output.get(before..)?).ok()?;
-    if !text.is_empty() {
-        all.push_str(text).ok()?;
-        all.push_str("\n").ok()?;
-    }
-    Some(())
+/// What a run came to.
+#[derive(Drop)]
+pub(crate) struct Outcome {
+    pub(crate) output: Vec<u8>,
+    pub(crate) errors: Vec<u8>,
+    pub(crate) status: u8,
+    pub(crate) calls: u64,
 }
 
-// What a run came to.
-fn told(
+// What stands in the sinks behind a run.
+fn outcome_of(
     alloc: Global,
-    output: &[u8],
-    errors: &[u8],
-    last: usize,
+    output: &MemSink,
+    errors: &MemSink,
     status: u8,
     calls: u64,
-) -> Option<String> {
-    let mut all = String::new(alloc);
-    add_output(alloc, &mut all, output, last)?;
-    all.push_str(str::from_utf8(errors).ok()?).ok()?;
-    let line = format!(in alloc; "= {status}, {calls} files read\n").ok()?;
-    all.push_str(line.as_str()).ok()?;
-    Some(all)
+) -> Option<Outcome> {
+    let output = output.bytes().to_vec(alloc).ok()?;
+    let errors = errors.bytes().to_vec(alloc).ok()?;
+    Some(Outcome {
+        output,
+        errors,
+        status,
+        calls,
+    })
 }
 
-fn run_case<R: Threads + Wait + Sync>(rt: &R, alloc: Global, case: &Case) -> Option<String> {
+/// Runs the program over a case, where the outside behaves so.
+pub(crate) fn run_case<R: Threads + Wait + Sync>(
+    rt: &R,
+    alloc: Global,
+    case: &Case,
+    outside: Outside,
+) -> Option<Outcome> {
     let words = words_of(alloc, case.asked.words.as_str())?;
     let mut files = files_of(alloc, case)?;
-    let mut source = source_of(alloc, case)?;
+    let mut source = source_of(alloc, case, outside)?;
     let mut ears = MemEars::new(alloc, Vec::new(alloc), Vec::new(alloc)).ok()?;
-    let failing = vec![in alloc; case.outside.failing_write].ok()?;
+    let failing = vec![in alloc; outside.failing_write].ok()?;
     let mut output = MemSink::new(alloc, 4_000_000, failing).ok()?;
     let mut errors = MemSink::new(alloc, 1_000, Vec::new(alloc)).ok()?;
     let clock = FixedClock::new(Stamp {
@@ -107,32 +108,5 @@ fn run_case<R: Threads + Wait + Sync>(rt: &R, alloc: Global, case: &Case) -> Opt
         &clock,
         0,
     );
-    told(
-        alloc,
-        output.bytes(),
-        errors.bytes(),
-        case.outside.last,
-        status,
-        files.calls(),
-    )
-}
-
-// What a case said of itself alone is forgotten.
-fn clear(alloc: Global, case: &mut Case) -> Option<()> {
-    case.documents.crd = String::from_str(alloc, case.documents.base.as_str()).ok()?;
-    case.asked.body.clear();
-    case.asked.input.clear();
-    case.outside = Outside::new();
-    Some(())
-}
-
-/// Runs the program over a case, and answers what it came to.
-pub(crate) fn go<R: Threads + Wait + Sync>(
-    rt: &R,
-    alloc: Global,
-    case: &mut Case,
-) -> Option<String> {
-    let text = run_case(rt, alloc, case)?;
-    clear(alloc, case)?;
-    Some(text)
+    outcome_of(alloc, &output, &errors, status, files.calls())
 }

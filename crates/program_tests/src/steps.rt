@@ -1,7 +1,8 @@
 //! What each line of a case says.
-use crate::case::{Asked, Case, Documents, Outside};
-use crate::going::go;
+use crate::case::{Again, Asked, Block, Case, Documents, Outside};
+use crate::telling::go;
 use std::alloc::Global;
+use std::mem;
 use std::sync::Wait;
 use std::thread::Threads;
 
@@ -82,10 +83,19 @@ fn of_outside(outside: &mut Outside, word: u8, text: &str) -> Option<()> {
     Some(())
 }
 
+fn of_again(alloc: Global, again: &mut Again, word: u8, text: &str) -> Option<()> {
+    match word {
+        b'a' => again.pieces = String::from_str(alloc, text).ok()?,
+        _ => again.faults = true,
+    }
+    Some(())
+}
+
 fn of_case(alloc: Global, case: &mut Case, word: u8, text: &str) -> Option<()> {
     match word {
         b'd' | b'r' | b'-' | b'+' => of_documents(alloc, &mut case.documents, word, text),
         b'p' | b'b' | b'i' | b'h' => of_requests(alloc, &mut case.asked, word, text),
+        b'a' | b'e' => of_again(alloc, &mut case.again, word, text),
         _ => of_outside(&mut case.outside, word, text),
     }
 }
@@ -112,8 +122,8 @@ fn of_times(alloc: Global, case: &mut Case, word: u8, text: &str) -> Option<()> 
     }
 }
 
-/// Takes a line, and answers what is to be printed; there is no answer where it is no line, or memory is wanted.
-pub(crate) fn take<R: Threads + Wait + Sync>(
+// Takes a line, and answers what is to be printed; there is no answer where it is no line, or memory is wanted.
+fn take_line<R: Threads + Wait + Sync>(
     rt: &R,
     alloc: Global,
     case: &mut Case,
@@ -136,4 +146,48 @@ pub(crate) fn take<R: Threads + Wait + Sync>(
             Some(String::new(alloc))
         }
     }
+}
+
+// Takes the lines of a block once for each of its numbers, with the number in place of each `@`.
+fn take_block<R: Threads + Wait + Sync>(
+    rt: &R,
+    alloc: Global,
+    case: &mut Case,
+    block: Block,
+) -> Option<String> {
+    let mut all = String::new(alloc);
+    for number in block.first..block.end {
+        let number = format!(in alloc; "{number}").ok()?;
+        for line in &block.lines {
+            let line = line.as_str().replace(alloc, "@", number.as_str()).ok()?;
+            let text = take_line(rt, alloc, case, line.as_str())?;
+            all.push_str(text.as_str()).ok()?;
+        }
+    }
+    Some(all)
+}
+
+/// Takes a line, and answers what is to be printed; there is no answer where it is no line, or memory is wanted.
+pub(crate) fn take<R: Threads + Wait + Sync>(
+    rt: &R,
+    alloc: Global,
+    case: &mut Case,
+    line: &str,
+) -> Option<String> {
+    if line == "@" {
+        let block = mem::replace(&mut case.block, Block::new(alloc));
+        return take_block(rt, alloc, case, block);
+    }
+    if line.starts_with("@ ") {
+        let (first, end) = behind(line).split_once(' ')?;
+        case.block.first = first.parse::<usize>().ok()?;
+        case.block.end = end.parse::<usize>().ok()?;
+        return Some(String::new(alloc));
+    }
+    if case.block.first < case.block.end {
+        let line = String::from_str(alloc, line).ok()?;
+        case.block.lines.push(line).ok()?;
+        return Some(String::new(alloc));
+    }
+    take_line(rt, alloc, case, line)
 }
