@@ -13,11 +13,18 @@ pub const NAMESPACE_BYTES: usize = 63;
 /// The most bytes of a name: a subdomain name of RFC 1123.
 pub const NAME_BYTES: usize = 253;
 
-/// The namespace and the name of an object, each within its bound in bytes.
+// What a key holds.
 #[derive(Drop)]
-pub struct Key {
+struct Parts {
     ns: Txt,
     name: Txt,
+}
+
+/// The namespace and the name of an object, each within its bound in bytes. It is as wide as a pointer, so that lists of things
+/// with keys move little.
+#[derive(Drop)]
+pub struct Key {
+    parts: Box<Parts>,
 }
 
 impl Model for Key {
@@ -27,9 +34,9 @@ impl Model for Key {
 
     ghost Value = { KeyView };
 
-    ghost view = { λ k. record { ns = k.ns.bytes; name = k.name.bytes } };
+    ghost view = { λ k. record { ns = k.parts.value.ns.bytes; name = k.parts.value.name.bytes } };
 
-    ghost invariant = { λ k. (length k.ns.bytes ≤ NAMESPACE_BYTES) × (length k.name.bytes ≤ NAME_BYTES) };
+    ghost invariant = { λ k. (length k.parts.value.ns.bytes ≤ NAMESPACE_BYTES) × (length k.parts.value.name.bytes ≤ NAME_BYTES) };
 }
 
 impl Key {
@@ -44,7 +51,8 @@ impl Key {
     {
         let ns = Txt::of(alloc, ns)?;
         let name = Txt::of(alloc, name)?;
-        Ok(Key { ns, name })
+        let parts = Box::new(alloc, Parts { ns, name })?;
+        Ok(Key { parts })
     }
 
     /// The namespace.
@@ -52,7 +60,7 @@ impl Key {
         ensures value { result.now ≡ self.now.ns }
         ensures fits { length self.now.ns ≤ NAMESPACE_BYTES }
     {
-        self.ns.as_str()
+        self.parts.ns.as_str()
     }
 
     /// The name in the namespace.
@@ -60,7 +68,7 @@ impl Key {
         ensures value { result.now ≡ self.now.name }
         ensures fits { length self.now.name ≤ NAME_BYTES }
     {
-        self.name.as_str()
+        self.parts.name.as_str()
     }
 
     /// How the key stands to another: by namespace, then by name, each by bytes. It takes no memory.
@@ -74,9 +82,9 @@ impl Key {
     pub fn compare_with(&self, ns: &str, name: &str) -> Ordering
         ensures { result ≡ key_cmp self.now (record { ns = ns.now; name = name.now }) }
     {
-        match self.ns.as_str().cmp(ns) {
+        match self.parts.ns.as_str().cmp(ns) {
             Ordering::Less => Ordering::Less,
-            Ordering::Equal => self.name.as_str().cmp(name),
+            Ordering::Equal => self.parts.name.as_str().cmp(name),
             Ordering::Greater => Ordering::Greater,
         }
     }
