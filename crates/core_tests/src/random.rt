@@ -130,30 +130,21 @@ fn takes_turn<V: Versions>(
 
 // ---- what holds after each turn
 
-// All of a core that is seen from outside.
-#[derive(Drop)]
+// The numbers of a core that are seen from outside.
+#[derive(Clone, Copy)]
 struct Look {
     storage: u8,
-    stored: StoredList,
     revision: u64,
     claims: u64,
-    page: Page,
-    migrations: MigrationItems,
 }
 
-fn looked<V: Versions>(alloc: Global, core: &Core<V>) -> Option<Look> {
-    let (flags, stored, revision) = core.settings();
-    let Ok(page) = core.page(alloc, 0, None, None, 0) else {
-        return None;
-    };
-    Some(Look {
+fn looked<V: Versions>(core: &Core<V>) -> Look {
+    let (flags, _stored, revision) = core.settings();
+    Look {
         storage: flags.storage,
-        stored,
         revision,
         claims: core.last_claim(),
-        page,
-        migrations: core.migrations(alloc).ok()?,
-    })
+    }
 }
 
 // Whether a version is in a stored list.
@@ -163,11 +154,8 @@ fn is_stored(stored: &StoredList, v: u8) -> bool {
 }
 
 // An object stands at a version of the stored list. It was written at its creation or later, and no later than now.
-fn object_fits(seen: &Seen, now: &Look) -> bool {
-    is_stored(&now.stored, seen.at)
-        && seen.rv <= now.revision
-        && 1 < seen.born
-        && seen.born <= seen.rv
+fn object_fits(seen: &Seen, stored: &StoredList, now: u64) -> bool {
+    is_stored(stored, seen.at) && seen.rv <= now && 1 < seen.born && seen.born <= seen.rv
 }
 
 // Keys rise.
@@ -185,13 +173,30 @@ fn objects_of(items: &[Seen], rv: u64) -> usize {
     items.iter().filter(|seen| seen.rv == rv).count()
 }
 
-fn objects_fit(now: &Look) -> bool {
-    let items = now.page.items.as_slice();
-    now.page.rv == now.revision
-        && now.page.remaining == 0
+fn page_fits(page: &Page, stored: &StoredList, now: u64) -> bool {
+    let items = page.items.as_slice();
+    page.rv == now
+        && page.remaining == 0
         && items.len() <= 12
         && keys_rise(items)
-        && items.iter().all(|seen| object_fits(seen, now) && objects_of(items, seen.rv) == 1)
+        && items.iter().all(|seen| object_fits(seen, stored, now)
+            && objects_of(items, seen.rv) == 1)
+}
+
+// Where a turn marks a migration, every object stands at its target.
+fn objects_moved(page: &Page, storage: u8) -> bool {
+    page.items.as_slice().iter().all(|seen| seen.at == storage)
+}
+
+// What holds of the objects after each turn, and of a turn that marks a migration.
+fn objects_fit<V: Versions>(alloc: Global, core: &Core<V>, is_marked: bool) -> bool {
+    let (flags, stored, revision) = core.settings();
+    match core.page(alloc, 0, None, None, 0) {
+        Ok(page) => page_fits(&page, &stored, revision)
+            && is_stored(&stored, flags.storage)
+            && (!is_marked || objects_moved(&page, flags.storage)),
+        Err(_) => false,
+    }
 }
 
 fn stand_so(items: &MigrationItems, condition: Condition) -> usize {
@@ -203,70 +208,70 @@ fn stand_so(items: &MigrationItems, condition: Condition) -> usize {
 }
 
 // At most one migration runs, to the storage version.
-fn migrations_fit(now: &Look) -> bool {
-    stand_so(&now.migrations, Condition::Running) <= 1
-        && now.migrations.as_slice().iter().all(|item| item.condition() != Condition::Running
-            || item.target() == now.storage)
+fn are_few(items: &MigrationItems, storage: u8) -> bool {
+    stand_so(items, Condition::Running) <= 1
+        && items.as_slice().iter().all(|item| item.condition() != Condition::Running
+            || item.target() == storage)
 }
 
-// The storage version is in the stored list. The revision and the last claim rise by at most one in a turn.
-fn numbers_fit(was: &Look, now: &Look) -> bool {
-    is_stored(&now.stored, now.storage)
-        && now.revision >= was.revision
+fn migrations_fit<V: Versions>(alloc: Global, core: &Core<V>, storage: u8) -> bool {
+    match core.migrations(alloc) {
+        Ok(items) => are_few(&items, storage),
+        Err(_) => false,
+    }
+}
+
+// The revision and the last claim rise by at most one in a turn.
+fn numbers_fit(was: Look, now: Look) -> bool {
+    now.revision >= was.revision
         && now.revision - was.revision <= 1
         && now.claims >= was.claims
         && now.claims - was.claims <= 1
 }
 
-// Where a turn marks a migration, every object stands at its target.
-fn objects_moved(now: &Look) -> bool {
-    now.page
-        .items
-        .as_slice()
-        .iter()
-        .all(|seen| seen.at == now.storage)
-}
-
-fn step<V: Versions>(
-    alloc: Global,
-    core: &mut Core<V>,
-    team: &mut Team,
-    was: &Look,
-    n: u64,
-) -> Option<Look> {
+// One turn. Answers whether what holds after each does.
+fn step<V: Versions>(alloc: Global, core: &mut Core<V>, team: &mut Team, n: u64) -> Option<bool> {
+    let was = looked(core);
     let answer = takes_turn(alloc, core, team, &drawn(n), was.storage)?;
-    let now = looked(alloc, core)?;
-    if !numbers_fit(was, &now) || !objects_fit(&now) || !migrations_fit(&now) {
-        return None;
-    }
-    if answer.as_str().starts_with("Finished") && !objects_moved(&now) {
-        return None;
-    }
-    Some(now)
+    let now = looked(core);
+    let is_marked = answer.as_str().starts_with("Finished");
+    Some(
+        numbers_fit(was, now)
+            && objects_fit(alloc, core, is_marked)
+            && migrations_fit(alloc, core, now.storage),
+    )
 }
 
-fn two_thousand<V: Versions>(alloc: Global, core: &mut Core<V>) -> Option<Look> {
+fn two_thousand<V: Versions>(alloc: Global, core: &mut Core<V>) -> bool {
     let mut team = Team::new();
-    let mut now = looked(alloc, core)?;
     let mut n = 20_261_127u64;
     for _ in 0..2_000u32 {
         n = n
             .wrapping_mul(6_364_136_223_846_793_005)
             .wrapping_add(1_442_695_040_888_963_407);
-        now = step(alloc, core, &mut team, &now, n)?;
+        if step(alloc, core, &mut team, n) != Some(true) {
+            return false;
+        }
     }
-    Some(now)
+    true
+}
+
+// Not all turns were refused, and migrations ended in both ways.
+fn ended_well<V: Versions>(alloc: Global, core: &Core<V>) -> bool {
+    match core.migrations(alloc) {
+        Ok(items) => looked(core).revision > 500
+            && stand_so(&items, Condition::Succeeded) > 5
+            && stand_so(&items, Condition::Failed) > 5,
+        Err(_) => false,
+    }
 }
 
 /// That two thousand turns held what holds after each; and that they weren't all refused, and migrations ended in both ways.
 pub fn random_turns(alloc: Global) -> Option<String> {
     let mut core = opened(alloc, TwoNames::new(alloc).ok()?, TIGHT)?;
-    let end = two_thousand(alloc, &mut core)?;
-    if end.revision <= 500
-        || stand_so(&end.migrations, Condition::Succeeded) <= 5
-        || stand_so(&end.migrations, Condition::Failed) <= 5
-    {
-        return None;
+    if two_thousand(alloc, &mut core) && ended_well(alloc, &core) {
+        String::from_str(alloc, "all held\n").ok()
+    } else {
+        None
     }
-    String::from_str(alloc, "all held\n").ok()
 }

@@ -59,6 +59,18 @@ pub fn answered<V: Versions>(
         "delete" => told(alloc, &delete(alloc, core, order)?),
         "mark" => told(alloc, &mark(alloc, core, order)?),
         "release" => told(alloc, &release(alloc, core, order)?),
+        _ => changed(alloc, core, team, order),
+    }
+}
+
+// What an order answers that is of no object alone.
+fn changed<V: Versions>(
+    alloc: Global,
+    core: &mut Core<V>,
+    team: &mut Team,
+    order: &Order<'_>,
+) -> Option<String> {
+    match order.word {
         "store" => set_text(alloc, store(core, order.at)?),
         "keep" => trim_text(alloc, keep(core, order.at)?),
         "start" => start_text(alloc, start(alloc, core, order.name)?),

@@ -1,9 +1,10 @@
 //! Scripts over a store of few chunks: a full one, one that is written over and over, and a floor that passes.
 ghost use Rattle.std.specs.Prelude.{◌≡◌, ◌+◌, ◌<◌, ◌≤◌, ◌^◌, IfSome};
 
-use crate::order::{Order, bare, order_of};
+use crate::order::{Order, order_of};
+use crate::turns::key_of;
 use kj_value::Txt;
-use kube_meta::{Key, Limits};
+use kube_meta::Limits;
 use record_store::{NewRecord, PutEnd, Store, StorePage};
 use std::alloc::Global;
 
@@ -71,19 +72,13 @@ fn answered(alloc: Global, store: &mut Store, now: u64, order: &Order<'_>) -> Op
         "create" => end_text(alloc, &put(alloc, store, None, now, order)?),
         "put" => end_text(alloc, &put(alloc, store, Some(order.number), now, order)?),
         "touch" => end_text(alloc, &touch(alloc, store, now, order)?),
+        "remove" => removed(alloc, store, now, order.name),
         _ => looked(alloc, store, order),
     }
 }
 
 fn end_text(alloc: Global, end: &PutEnd) -> Option<String> {
     format!(in alloc; "{end:?}").ok()
-}
-
-fn key_of(alloc: Global, name: &str) -> Option<Key> {
-    if name.len() > 253 {
-        return None;
-    }
-    Key::of(alloc, "ns", name).ok()
 }
 
 fn put(
@@ -159,7 +154,7 @@ fn page(alloc: Global, store: &Store, order: &Order<'_>) -> Option<String> {
         return None;
     }
     if order.name.is_empty() {
-        let page = store.page_at(alloc, Some("ns"), None, order.number, order.weight);
+        let page = store.page_at(alloc, Some("default"), None, order.number, order.weight);
         return page_text(alloc, &page.ok()?);
     }
     let key = key_of(alloc, order.name)?;
@@ -170,11 +165,29 @@ fn page(alloc: Global, store: &Store, order: &Order<'_>) -> Option<String> {
 fn page_text(alloc: Global, page: &StorePage) -> Option<String> {
     let remaining = page.remaining;
     let mut out = format!(in alloc; "before {remaining}:").ok()?;
+    add_items(&mut out, page)?;
+    Some(out)
+}
+
+fn add_items(out: &mut String, page: &StorePage) -> Option<()> {
     for item in page.items.as_slice() {
         out.push_str(" ").ok()?;
         out.push_str(item.text.as_str()).ok()?;
     }
-    Some(out)
+    Some(())
+}
+
+// Removes the record of a name.
+fn removed(alloc: Global, store: &mut Store, now: u64, name: &str) -> Option<String>
+    requires { store.old.last < now }
+    ensures { store.new.last ≤ now }
+{
+    let key = key_of(alloc, name)?;
+    let word = match store.remove_if(&key, now) {
+        Some(_) => "Done",
+        None => "Gone",
+    };
+    String::from_str(alloc, word).ok()
 }
 
 // A thousand times a record is created, written over and removed.
@@ -193,17 +206,19 @@ fn round(alloc: Global, store: &mut Store, now: u64) -> Option<()>
     requires few { now < 2 ^ 32 }
     ensures { store.new.last ≤ now + 3 }
 {
-    let mut order = bare("create");
-    order.name = "a";
-    order.weight = 2;
-    order.text = "once";
-    if put(alloc, store, None, now + 1, &order)? != PutEnd::Done {
-        return None;
+    done(alloc, store, now + 1, "create a +2 once")?;
+    done(alloc, store, now + 2, "touch a twice")?;
+    done(alloc, store, now + 3, "remove a")
+}
+
+fn done(alloc: Global, store: &mut Store, now: u64, line: &str) -> Option<()>
+    requires { store.old.last < now }
+    ensures { store.new.last ≤ now }
+{
+    let answer = answered(alloc, store, now, &order_of(line)?)?;
+    if answer.as_str() == "Done" {
+        Some(())
+    } else {
+        None
     }
-    order.text = "twice";
-    if touch(alloc, store, now + 2, &order)? != PutEnd::Done {
-        return None;
-    }
-    store.remove_if(&key_of(alloc, "a")?, now + 3)?;
-    Some(())
 }

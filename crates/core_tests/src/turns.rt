@@ -1,6 +1,6 @@
 //! Turns of clients and of whoever changes the settings. They know of `Versions` alone, so that what the definition means
 //! stays outside their proofs, and they tell their callers nothing.
-ghost use Rattle.std.specs.Prelude.{◌≡◌, ◌^◌, ◌≤◌, IfSome, IsSome, option_map};
+ghost use Rattle.std.specs.Prelude.{◌≡◌, ◌^◌, ◌≤◌, Some, IfSome, IsSome, option_map};
 ghost use Rattle.record_store.specs.ByKey.{find};
 ghost use Rattle.record_store.specs.View.{item_key};
 ghost use Rattle.api_core.specs.Prepared.{IsSized};
@@ -110,16 +110,43 @@ pub fn mark<V: Versions>(
     core: &mut Core<V>,
     order: &Order<'_>,
 ) -> Option<DeleteEnd> {
-    let key = key_of(alloc, order.name)?;
-    let Some(weight) = weight_of(alloc, core, &key)? else {
-        return Some(DeleteEnd::NotFound);
-    };
-    let stamped = prepared(alloc, again(alloc, &key)?, order.at, "stamped", weight)?;
     young(core)?;
-    Some(core.commit_delete(order.asked, &key, order.number, Some(stamped)))
+    let key = key_of(alloc, order.name)?;
+    mark_under(alloc, core, &key, order)
 }
 
-fn again(alloc: Global, key: &Key) -> Option<Key>
+// The same of the object of a key.
+fn mark_under<V: Versions>(
+    alloc: Global,
+    core: &mut Core<V>,
+    key: &Key,
+    order: &Order<'_>,
+) -> Option<DeleteEnd>
+    requires { core.old.view.revision ≤ 2 ^ 61 }
+{
+    match weight_of(alloc, core, key)? {
+        Some(weight) => marked(alloc, core, key, order, weight),
+        None => Some(DeleteEnd::NotFound),
+    }
+}
+
+// The same of an object of this weight.
+fn marked<V: Versions>(
+    alloc: Global,
+    core: &mut Core<V>,
+    key: &Key,
+    order: &Order<'_>,
+    weight: u64,
+) -> Option<DeleteEnd>
+    requires few { core.old.view.revision ≤ 2 ^ 61 }
+    requires weight { Some weight ≡ option_map (λ x. x.weight) (find item_key key.now core.old.view.store.items) }
+{
+    let stamped = prepared(alloc, again(alloc, key)?, order.at, "stamped", weight)?;
+    Some(core.commit_delete(order.asked, key, order.number, Some(stamped)))
+}
+
+/// The same key once more.
+pub fn again(alloc: Global, key: &Key) -> Option<Key>
     ensures { IfSome result (λ k. k ≡ key.now) }
 {
     match Key::of(alloc, key.ns(), key.name()) {

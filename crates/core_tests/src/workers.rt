@@ -1,5 +1,5 @@
 //! The turns of workers.
-ghost use Rattle.std.specs.Prelude.{◌≡◌, ◌^◌, ◌<◌, None, Some, IfSome, IsSome, IsTrue};
+ghost use Rattle.std.specs.Prelude.{◌≡◌, ◌^◌, ◌<◌, None, Some, IfSome, IsSome, IsTrue, option_map};
 ghost use Rattle.kube_meta.specs.Plan.{running};
 ghost use Rattle.migrate_core.specs.Moves.{work_of};
 ghost use Rattle.record_store.specs.ByKey.{find};
@@ -8,7 +8,7 @@ ghost use Rattle.api_core.specs.Prepared.{IsSized, seen_item};
 ghost use Rattle.api_core.specs.Ready.{IfPrepare, IsNext};
 
 use crate::order::Order;
-use crate::turns::{value, young};
+use crate::turns::{again, value, young};
 use api_calls::Versions;
 use api_core::{Core, Prepared, Seen, TurnEnd};
 use kube_meta::Key;
@@ -40,18 +40,29 @@ fn touch<V: Versions>(
     alloc: Global,
     core: &mut Core<V>,
     w: &mut Worker,
-    key: Key,
+    key: &Key,
     rv: u64,
     at: u8,
 ) -> Option<TurnEnd>
-    requires { IsNext (work_of w.old.claim core.old.view.migrations) key
-        core.old.view.store.items (find item_key key core.old.view.store.items) }
+    requires { IsNext (work_of w.old.claim core.old.view.migrations) key.now
+        core.old.view.store.items (find item_key key.now core.old.view.store.items) }
 {
     young(core)?;
     few_claims(core)?;
-    let seen = standing(alloc, core, &key)?;
-    let moved = moved(key, at, seen)?;
+    let moved = moved_under(alloc, core, key, at)?;
     Some(core.migration_turn(w, Some((rv, moved))))
+}
+
+// What stands under a key, prepared for a version.
+fn moved_under<V: Versions>(alloc: Global, core: &Core<V>, key: &Key, at: u8) -> Option<Prepared>
+    ensures sized { IfSome result IsSized }
+    ensures key { IfSome result (λ p. p.key ≡ key.now) }
+    ensures weight { IfSome result (λ p. Some p.weight ≡ option_map (λ x. x.weight) (find item_key key.now core.now.view.store.items)) }
+{
+    match standing(alloc, core, key) {
+        Some(seen) => moved(again(alloc, key)?, at, seen),
+        None => None,
+    }
 }
 
 // What stands under a key.
@@ -81,13 +92,13 @@ fn moved(key: Key, at: u8, seen: Seen) -> Option<Prepared>
     })
 }
 
-// Whether nothing stands under a key.
-fn is_gone<V: Versions>(alloc: Global, core: &Core<V>, key: &Key) -> Option<bool>
-    ensures { IfSome result (λ b. IsTrue b → find item_key key.now core.now.view.store.items ≡ None) }
+// Whether nothing stands under a key, as far as there is memory to look.
+fn is_gone<V: Versions>(alloc: Global, core: &Core<V>, key: &Key) -> bool
+    ensures { IsTrue result → find item_key key.now core.now.view.store.items ≡ None }
 {
     match core.peek(alloc, key) {
-        Ok(peeked) => Some(peeked.found.is_none()),
-        Err(_) => None,
+        Ok(peeked) => peeked.found.is_none(),
+        Err(_) => false,
     }
 }
 
@@ -102,7 +113,7 @@ pub fn work<V: Versions>(
     match ask(core, w)? {
         TurnEnd::Prepare { key, rv } => {
             let key = key.key(alloc).ok()?;
-            touch(alloc, core, w, key, rv, at)
+            touch(alloc, core, w, &key, rv, at)
         }
         end => Some(end),
     }
@@ -118,10 +129,11 @@ pub fn miss_gone<V: Versions>(
     young(core)?;
     few_claims(core)?;
     let old = value(alloc, order)?;
-    if !is_gone(alloc, core, &old.key)? {
-        return None;
+    if is_gone(alloc, core, &old.key) {
+        Some(core.migration_turn(w, Some((order.number, old))))
+    } else {
+        None
     }
-    Some(core.migration_turn(w, Some((order.number, old))))
 }
 
 // The target of the only migration.
@@ -147,11 +159,16 @@ pub fn miss_written<V: Versions>(
     let rv = order.number;
     let target = target_of(alloc, core)?;
     let old = value(alloc, order)?;
-    let seen = standing(alloc, core, &old.key)?;
-    if seen.rv == rv || seen.at != target {
-        return None;
+    match standing(alloc, core, &old.key) {
+        Some(seen) => {
+            if seen.rv == rv || seen.at != target {
+                None
+            } else {
+                Some(core.migration_turn(w, Some((rv, old))))
+            }
+        }
+        None => None,
     }
-    Some(core.migration_turn(w, Some((rv, old))))
 }
 
 /// The worker's claim is given back. Answers whether it was held.

@@ -20,6 +20,3 @@ pub use ends::{Advance, StartEnd, Worker};
 pub use item::{MigrationItem, MigrationItems};
 pub use migrations::Migrations;
 pub use records::{Records, Row};
-
-#[cfg(test)]
-mod tests;

@@ -3,7 +3,7 @@ use Rattle.migrate_core.specs.declared.ends.Advance.TheVariants.{Prepare}
 use Rattle.migrate_core.specs.View.{MigrationsView}
 use Rattle.migrate_core.specs.Moves.{IsInWork, work_of, advance_end}
 use Rattle.migrate_core.specs.MoveLaws.{prepared-in_work, after_advance-prepared}
-use Rattle.migrate_core.proofs.tests.step.Goals as goal
+use Rattle.core_tests.proofs.plans.passed.Goals as goal
 
 pub pass_key-requires : goal.pass_key-requires
 pass_key-requires c =

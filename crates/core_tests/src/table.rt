@@ -4,16 +4,16 @@ ghost use Rattle.std.specs.Option.{option_copied};
 ghost use Rattle.kube_meta.specs.Page.{bound_after};
 ghost use Rattle.kube_meta.specs.Plan.{passed};
 
-use crate::{Records, Row};
 use kj_value::NoMemory;
 use kube_meta::{Key, KeySpot};
+use migrate_core::{Records, Row};
 use std::alloc::Global;
 use std::cmp::Ordering;
 use std::marker::Model;
 
 /// Records by rising key.
 #[derive(Drop)]
-pub(super) struct Table {
+pub(crate) struct Table {
     rows: Vec<Row>,
 }
 
@@ -68,8 +68,8 @@ impl Table {
     }
 }
 
-/// The key of a place, by two digits.
-pub(super) fn key_of(alloc: Global, place: u8) -> Result<KeySpot, NoMemory> {
+// The key of a place, by two digits.
+fn key_of(alloc: Global, place: u8) -> Result<KeySpot, NoMemory> {
     let name = [b'k', b'0' + place / 10, b'0' + place % 10];
     let Ok(name) = str::from_utf8(&name) else {
         return Err(NoMemory);
@@ -79,7 +79,7 @@ pub(super) fn key_of(alloc: Global, place: u8) -> Result<KeySpot, NoMemory> {
 }
 
 /// So many records, of which the first ones stand at version 1 and the others at version 0. Their numbers are 2 and on.
-pub(super) fn table_of(alloc: Global, count: u8, moved: u8) -> Result<Table, NoMemory> {
+pub(crate) fn table_of(alloc: Global, count: u8, moved: u8) -> Result<Table, NoMemory> {
     let mut table = Table {
         rows: Vec::new(alloc),
     };
