@@ -1,5 +1,5 @@
 //! The versions of the shared definition.
-ghost use Rattle.std.specs.Prelude.{◌≡◌, IfSome};
+ghost use Rattle.std.specs.Prelude.{◌≡◌, [], IfSome};
 ghost use Rattle.keep_laws.specs.FittedBody.{HasRoom};
 
 use crontab_example::{definition, rules};
@@ -8,7 +8,7 @@ use hub_fit::fit;
 use hub_rules::Rules;
 use keep_laws::fitted_laws::room_of_rules;
 use kj_value::{JVal, MAX_JSON_LEVELS, Txt, read};
-use rule_reading::read_rules;
+use rule_reading::{RuleSet, read_rules};
 use schema_reading::read_schema;
 use spoke_keep::{Spoke, Spokes};
 use std::alloc::Global;
@@ -18,15 +18,45 @@ use struct_schema::Schema;
 /// definition isn't read or its rules don't fit, or for want of memory.
 pub(crate) fn shared_versions(alloc: Global) -> Option<Spokes> {
     let doc = read(alloc, definition().as_bytes(), MAX_JSON_LEVELS).ok()?;
-    let hub = schema(alloc, &doc, 0)?;
-    let spoke = schema(alloc, &doc, 1)?;
-    let set = read_rules(
-        alloc,
-        &read(alloc, rules().as_bytes(), MAX_JSON_LEVELS).ok()?,
-    )
-    .ok()?;
-    let fitted = fitted(alloc, set.spokes.get("v1beta1")?, &spoke, &hub)?;
-    one_spoke(alloc, set.hub, Txt::of(alloc, "v1beta1").ok()?, fitted)
+    of_document(alloc, &doc)
+}
+
+fn of_document(alloc: Global, doc: &JVal) -> Option<Spokes> {
+    let set = rule_set(alloc)?;
+    of_rules(alloc, doc, &set)
+}
+
+fn rule_set(alloc: Global) -> Option<RuleSet> {
+    let doc = read(alloc, rules().as_bytes(), MAX_JSON_LEVELS).ok()?;
+    read_rules(alloc, &doc).ok()
+}
+
+fn of_rules(alloc: Global, doc: &JVal, set: &RuleSet) -> Option<Spokes> {
+    let mut all = no_spokes(alloc, set.hub.as_str())?;
+    fill(alloc, &mut all, doc, set)?;
+    Some(all)
+}
+
+// The definition of a hub alone.
+fn no_spokes(alloc: Global, hub: &str) -> Option<Spokes>
+    ensures { IfSome result (λ all. all.items ≡ []) }
+{
+    let group = Txt::of(alloc, "example.com").ok()?;
+    match Txt::of(alloc, hub) {
+        Ok(hub) => Some(Spokes::new(alloc, group, hub)),
+        Err(_) => None,
+    }
+}
+
+// Adds the one spoke.
+fn fill(alloc: Global, all: &mut Spokes, doc: &JVal, set: &RuleSet) -> Option<()>
+    requires { all.old.items ≡ [] }
+{
+    let fitted = of_schemas(alloc, doc, set.spokes.get("v1beta1")?)?;
+    match Txt::of(alloc, "v1beta1") {
+        Ok(name) => add(alloc, all, name, fitted),
+        Err(_) => None,
+    }
 }
 
 // The schema of a version of the definition, counted from 0.
@@ -60,7 +90,23 @@ fn item(v: &JVal, i: usize) -> Option<&JVal> {
     }
 }
 
-// The rules, fitted to both schemas from the root on.
+// The rules, fitted to the schemas of both versions from the root on.
+fn of_schemas(alloc: Global, doc: &JVal, rules: &Rules) -> Option<Fitted>
+    ensures root { IfSome result (λ f. f.depth ≡ 0) }
+    ensures room { IfSome result (λ f. HasRoom f) }
+{
+    let hub = schema(alloc, doc, 0)?;
+    of_spoke(alloc, doc, rules, &hub)
+}
+
+fn of_spoke(alloc: Global, doc: &JVal, rules: &Rules, hub: &Schema) -> Option<Fitted>
+    ensures root { IfSome result (λ f. f.depth ≡ 0) }
+    ensures room { IfSome result (λ f. HasRoom f) }
+{
+    let spoke = schema(alloc, doc, 1)?;
+    fitted(alloc, rules, &spoke, hub)
+}
+
 fn fitted(alloc: Global, rules: &Rules, spoke: &Schema, hub: &Schema) -> Option<Fitted>
     ensures root { IfSome result (λ f. f.depth ≡ 0) }
     ensures room { IfSome result (λ f. HasRoom f) }
@@ -73,17 +119,17 @@ fn fitted(alloc: Global, rules: &Rules, spoke: &Schema, hub: &Schema) -> Option<
     }
 }
 
-// The definition of a hub and one spoke.
-fn one_spoke(alloc: Global, hub: Txt, name: Txt, fitted: Fitted) -> Option<Spokes>
+// Adds a spoke to a definition that has none.
+fn add(alloc: Global, all: &mut Spokes, name: Txt, fitted: Fitted) -> Option<()>
+    requires none { all.old.items ≡ [] }
     requires root { fitted.depth ≡ 0 }
     requires room { HasRoom fitted }
 {
-    if name.as_str() == hub.as_str() {
+    if name.as_str() == all.hub().as_str() {
         return None;
     }
-    let group = Txt::of(alloc, "example.com").ok()?;
-    let spoke = Spoke::new(alloc, name, fitted).ok()?;
-    let mut all = Spokes::new(alloc, group, hub);
-    all.add(spoke).ok()?;
-    Some(all)
+    match Spoke::new(alloc, name, fitted) {
+        Ok(spoke) => all.add(spoke).ok(),
+        Err(_) => None,
+    }
 }

@@ -1,0 +1,74 @@
+//! What becomes of an object.
+ghost use Rattle.std.specs.Prelude.{IfSome};
+ghost use Rattle.kube_meta.specs.View.{object_of};
+ghost use Rattle.keep_laws.specs.WholeHub.{IsWholeHub};
+
+use crate::object::object_at;
+use keep_laws::object_laws::settling;
+use kj_value::{MAX_JSON_LEVELS, Txt, depth, write};
+use kube_meta::{Object, write_object};
+use spoke_keep::{KeepFault, Spokes, from_hub, settle, to_hub};
+use std::alloc::Global;
+
+// The text of an object.
+fn written(alloc: Global, o: &Object) -> Option<Txt> {
+    let doc = write_object(alloc, o).ok()?;
+    if depth(&doc) > MAX_JSON_LEVELS {
+        return None;
+    }
+    write(alloc, &doc).ok()
+}
+
+// The text of the object, or the annotation that can't be read.
+fn told(alloc: Global, answer: Result<Object, KeepFault>) -> Option<Txt> {
+    match answer {
+        Ok(o) => written(alloc, &o),
+        Err(KeepFault::BadKept { annotation }) => unread(alloc, annotation.as_str()),
+        Err(KeepFault::NoMemory) => None,
+    }
+}
+
+fn unread(alloc: Global, key: &str) -> Option<Txt> {
+    match format!(in alloc; "BadKept {key}") {
+        Ok(text) => Some(Txt::of_string(text)),
+        Err(_) => None,
+    }
+}
+
+/// The object of v1 that an object of v1beta1 becomes.
+pub(crate) fn over(alloc: Global, all: &Spokes, text: &str) -> Option<Txt> {
+    let x = object_at(alloc, all, "CronTab", Some(0), text)?;
+    told(alloc, to_hub(alloc, all, 0, &x))
+}
+
+// An object of v1 without what has no place in it.
+fn whole(alloc: Global, all: &Spokes, text: &str) -> Option<Object>
+    ensures { IfSome result (λ h. IsWholeHub all.now (object_of h)) }
+{
+    settling();
+    let _ = all.items();
+    let x = object_at(alloc, all, "CronTab", None, text)?;
+    let _ = x.body.len();
+    match settle(alloc, all, None, x) {
+        Ok(h) => Some(h),
+        Err(_) => None,
+    }
+}
+
+/// The object of v1beta1 that an object of v1 becomes.
+pub(crate) fn back(alloc: Global, all: &Spokes, text: &str) -> Option<Txt> {
+    if all.items().len() == 0 {
+        return None;
+    }
+    let h = whole(alloc, all, text)?;
+    match from_hub(alloc, all, 0, &h) {
+        Ok(x) => written(alloc, &x),
+        Err(_) => None,
+    }
+}
+
+/// What settling leaves of an object.
+pub(crate) fn left(alloc: Global, all: &Spokes, v: Option<u8>, text: &str) -> Option<Txt> {
+    let x = object_at(alloc, all, "CronTab", v, text)?;
+    told(alloc, settle(alloc, all, v, x))
+}
