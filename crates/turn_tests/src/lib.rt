@@ -11,8 +11,6 @@ mod counter;
 pub mod generic;
 mod shared;
 mod tally;
-#[cfg(test)]
-mod tests;
 mod ticks;
 
 pub use cell::Cell;

@@ -1,10 +1,11 @@
-use crate::generic::{SharedApi, Versions, both_add};
-use crate::{SharedCounter, Tally, by_eight, two_threads};
+//! Passes that meet, calls at their places, threads, and what is dropped.
 use std::alloc::Global;
 use std::sync::Arc;
 use std::sync::atomic::{AtomicU64, Ordering};
 use std::test::Fail;
 use turn_cell::{Standing, Turn};
+use turn_tests::generic::{SharedApi, Versions, both_add};
+use turn_tests::{SharedCounter, Tally, by_eight, two_threads};
 
 /// Two passes each add one item, and the second pass is met into the first. The next turn of the first has both.
 #[test]
