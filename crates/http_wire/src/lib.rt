@@ -17,8 +17,6 @@ mod receiving;
 mod requesting;
 mod response;
 mod response_head;
-#[cfg(test)]
-mod tests;
 
 pub use inbox::Inbox;
 pub use limits::{

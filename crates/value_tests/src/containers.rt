@@ -56,11 +56,19 @@ fn replaced(items: &mut JItems) -> bool {
 
 fn items(alloc: Global, out: &mut String) -> Option<()> {
     let mut items = JItems::with_room(alloc, 1).ok()?;
-    fill(&mut items)?;
-    add_items(alloc, &items, out)?;
-    add_is(out, replaced(&mut items))?;
-    add(out, written(alloc, &JVal::List(items))?.as_str())?;
+    fill_and_replace(alloc, &mut items, out)?;
+    add_value(alloc, out, &JVal::List(items))?;
     add_number(alloc, out, depth(&JVal::List(JItems::new(alloc))) as u64)
+}
+
+fn fill_and_replace(alloc: Global, items: &mut JItems, out: &mut String) -> Option<()> {
+    fill(items)?;
+    add_items(alloc, items, out)?;
+    add_is(out, replaced(items))
+}
+
+fn add_value(alloc: Global, out: &mut String, v: &JVal) -> Option<()> {
+    add(out, written(alloc, v)?.as_str())
 }
 
 fn put(alloc: Global, fields: &mut JFields, name: &str, n: i64) -> Option<()> {
@@ -79,10 +87,14 @@ fn set_all(alloc: Global, fields: &mut JFields, text: &str) -> Option<()> {
 
 fn fields(alloc: Global, text: &str, out: &mut String) -> Option<()> {
     let mut fields = JFields::new(alloc);
-    set_all(alloc, &mut fields, text)?;
-    add_number(alloc, out, fields.len() as u64)?;
-    add(out, written(alloc, &JVal::Obj(fields))?.as_str())?;
+    set_and_count(alloc, &mut fields, text, out)?;
+    add_value(alloc, out, &JVal::Obj(fields))?;
     add_number(alloc, out, depth(&JVal::Obj(JFields::new(alloc))) as u64)
+}
+
+fn set_and_count(alloc: Global, fields: &mut JFields, text: &str, out: &mut String) -> Option<()> {
+    set_all(alloc, fields, text)?;
+    add_number(alloc, out, fields.len() as u64)
 }
 
 fn add_fields(fields: &JFields, out: &mut String) -> Option<()> {

@@ -1,4 +1,4 @@
-//! Cases of JSON values, of files, clocks, streams and links, and of the cache of forms.
+//! Cases of JSON values, of files, clocks, streams and links, of HTTP's messages, and of the cache of forms.
 //!
 //! Each line of standard input is a case: its first byte tells what is done with the text behind the second, and the answer is
 //! printed on a line; one that begins with `#` is printed as it stands. The answers that are wanted stand in `stdout`. Where a
@@ -16,6 +16,8 @@
 //! | `a`, `A`, `b`, `B` | a source and a sink in memory, and those that never fail |
 //! | `p`, `P`, `D` | files in memory, those that never fail, and a file of the system |
 //! | `e`, `k` | a connection, and exchanges of a link |
+//! | `q`, `z` | the requests, or the response, that are read in pieces of each of some sizes, where a call fails or none |
+//! | `o`, `n`, `O` | messages that are written: to a sink with so much room, to a narrow one, and where each call fails in turn |
 //! | `2` | what is kept and found in a cache of two forms |
 #![tactic(auto)]
 
@@ -25,6 +27,7 @@ mod outside;
 mod streams;
 mod told;
 mod values;
+mod wire;
 
 use std::alloc::Global;
 use std::{io, rt};
@@ -48,6 +51,7 @@ fn outside_answer(alloc: Global, word: u8, text: &str, out: &mut String) -> Opti
         b'e' => outside::ears(alloc, text, out),
         b'k' => outside::link(alloc, out),
         b'2' => forms::of_two(alloc, text, out),
+        b'q' | b'z' | b'n' | b'o' | b'O' => wire::answer(alloc, word, text, out),
         _ => streams::answer(alloc, word, text, out),
     }
 }

@@ -98,8 +98,11 @@ fn opened(alloc: Global) -> Option<MemFiles> {
 
 /// A look at each path of files in memory.
 pub(crate) fn files(alloc: Global, text: &str, out: &mut String) -> Option<()> {
-    let mut files = opened(alloc)?;
-    look_at_all(alloc, &mut files, text, out)?;
+    looked_at(alloc, &mut opened(alloc)?, text, out)
+}
+
+fn looked_at(alloc: Global, files: &mut MemFiles, text: &str, out: &mut String) -> Option<()> {
+    look_at_all(alloc, files, text, out)?;
     add_is(out, files.bytes("a").is_some())?;
     add_number(alloc, out, files.calls())?;
     add_number(alloc, out, files.faults())
@@ -165,8 +168,11 @@ fn hear(alloc: Global, ears: &mut MemEars, out: &mut String) -> Option<()> {
 
 /// A connection with this input, where the second call fails.
 pub(crate) fn ears(alloc: Global, text: &str, out: &mut String) -> Option<()> {
-    let mut ears = ears_of(alloc, text)?;
-    hear(alloc, &mut ears, out)?;
+    heard(alloc, &mut ears_of(alloc, text)?, out)
+}
+
+fn heard(alloc: Global, ears: &mut MemEars, out: &mut String) -> Option<()> {
+    hear(alloc, ears, out)?;
     add_number(alloc, out, ears.handed_out() as u64)?;
     add_number(alloc, out, ears.calls())?;
     add_number(alloc, out, ears.faults())
@@ -203,11 +209,14 @@ fn add_exchanges(link: &MemLink, out: &mut String) -> Option<()> {
 
 /// Four exchanges, and what they were.
 pub(crate) fn link(alloc: Global, out: &mut String) -> Option<()> {
-    let mut link = link_of(alloc)?;
+    exchanged(alloc, &mut link_of(alloc)?, out)
+}
+
+fn exchanged(alloc: Global, link: &mut MemLink, out: &mut String) -> Option<()> {
     for _ in 0..4 {
-        one_exchange(alloc, &mut link, out)?;
+        one_exchange(alloc, link, out)?;
     }
-    add_exchanges(&link, out)?;
+    add_exchanges(link, out)?;
     add_number(alloc, out, link.calls())?;
     add_number(alloc, out, link.faults())
 }

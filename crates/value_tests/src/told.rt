@@ -1,4 +1,6 @@
 //! What is told of a case: words with a space before each.
+use crate::values::written;
+use kj_value::{JVal, Txt};
 use std::alloc::Global;
 
 /// Adds a word.
@@ -20,4 +22,10 @@ pub(crate) fn add_bytes(out: &mut String, bytes: &[u8]) -> Option<()> {
 /// Adds whether it is so.
 pub(crate) fn add_is(out: &mut String, is_so: bool) -> Option<()> {
     add(out, if is_so { "yes" } else { "no" })
+}
+
+/// Adds bytes that are a text, as a JSON text.
+pub(crate) fn add_text(alloc: Global, out: &mut String, bytes: &[u8]) -> Option<()> {
+    let text = Txt::of_bytes(bytes.to_vec(alloc).ok()?)?;
+    add(out, written(alloc, &JVal::Text(text))?.as_str())
 }

@@ -17,8 +17,8 @@ fn meant(byte: u8, is_control: bool) -> u8 {
     }
 }
 
-// The bytes of a text, where `|J`, say, is the end of a line.
-fn bytes_of(alloc: Global, text: &str) -> Option<Vec<u8>> {
+/// The bytes of a text, where `|J`, say, is the end of a line.
+pub(crate) fn bytes_of(alloc: Global, text: &str) -> Option<Vec<u8>> {
     let mut bytes = Vec::new(alloc);
     add_bytes_of(&mut bytes, text)?;
     Some(bytes)
