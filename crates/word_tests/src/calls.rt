@@ -1,10 +1,10 @@
 //! Refusals, tokens, uids and the order of versions.
-use crate::words::{list, order_word, text_at};
+use crate::words::{line, list, order_word, text_at};
 use api_calls::{
     BORN_END, Cause, Refusal, Subject, Token, TokenFault, Why, code_of, no_memory_text, priority,
     read_token, status_text, uid_of, write_token,
 };
-use kj_value::{Rule, Txt};
+use kj_value::{JItems, Rule, Txt};
 use kube_meta::{Key, Room, RoomKind};
 use std::alloc::Global;
 
@@ -12,7 +12,7 @@ use std::alloc::Global;
 pub fn answer(alloc: Global, section: &str, case: &str) -> Option<Txt> {
     match section {
         "# refusals" => told(alloc, &plain(case)?),
-        "# refusals of a name" => of_a_name(alloc, case),
+        "# refusals of a name" => of_a_name(alloc, &list(alloc, case)?),
         "# the fixed text" => Txt::of(alloc, no_memory_text()).ok(),
         "# numbers in tokens" => token(alloc, case),
         _ => other(alloc, section, case),
@@ -22,9 +22,9 @@ pub fn answer(alloc: Global, section: &str, case: &str) -> Option<Txt> {
 fn other(alloc: Global, section: &str, case: &str) -> Option<Txt> {
     match section {
         "# tokens" => of_token(alloc, case),
-        "# uids" => uid(alloc, case),
+        "# uids" => uid(alloc, &list(alloc, case)?),
         "# versions in any order" => preferred(alloc, case),
-        "# two versions" => ranked(alloc, case),
+        "# two versions" => ranked(alloc, &list(alloc, case)?),
         _ => None,
     }
 }
@@ -33,7 +33,7 @@ fn other(alloc: Global, section: &str, case: &str) -> Option<Txt> {
 fn told(alloc: Global, refusal: &Refusal) -> Option<Txt> {
     let code = code_of(refusal);
     let text = status_text(alloc, refusal, "crontabs", "example.com").ok()?;
-    Some(Txt::of_string(format!(in alloc; "{code} {}", text.as_str()).ok()?))
+    line(format!(in alloc; "{code} {}", text.as_str()))
 }
 
 fn plain(word: &str) -> Option<Refusal> {
@@ -60,10 +60,9 @@ fn of_the_server(word: &str) -> Option<Refusal> {
     }
 }
 
-fn of_a_name(alloc: Global, case: &str) -> Option<Txt> {
-    let texts = list(alloc, case)?;
-    let word = text_at(&texts, 0)?;
-    let name = Txt::of(alloc, text_at(&texts, 1)?).ok()?;
+fn of_a_name(alloc: Global, texts: &JItems) -> Option<Txt> {
+    let word = text_at(texts, 0)?;
+    let name = Txt::of(alloc, text_at(texts, 1)?).ok()?;
     told(alloc, &named(alloc, word, name)?)
 }
 
@@ -83,10 +82,13 @@ fn of_a_word(alloc: Global, word: &str, name: Txt) -> Option<Refusal> {
             why: Why::BadQuery { parameter: name },
         }),
         "MigrationRunning" => Some(Refusal::MigrationRunning { name }),
-        "StillStored" => Some(Refusal::StillStored {
-            version: name,
-            key: Some(Key::of(alloc, "default", "a").ok()?),
-        }),
+        "StillStored" => match Key::of(alloc, "default", "a") {
+            Ok(key) => Some(Refusal::StillStored {
+                version: name,
+                key: Some(key),
+            }),
+            Err(_) => None,
+        },
         "StorageVersion" => Some(Refusal::StillStored {
             version: name,
             key: None,
@@ -96,16 +98,26 @@ fn of_a_word(alloc: Global, word: &str, name: Txt) -> Option<Refusal> {
 }
 
 fn invalid(alloc: Global, name: Txt) -> Option<Refusal> {
-    Some(Refusal::Invalid {
-        subject: Subject {
-            kind_group: Txt::of(alloc, "CronTab.example.com").ok()?,
-            name,
-        },
-        cause: Cause {
-            field: Txt::of(alloc, "metadata.resourceVersion").ok()?,
+    let subject = subject(alloc, name)?;
+    let cause = cause(alloc)?;
+    Some(Refusal::Invalid { subject, cause })
+}
+
+fn subject(alloc: Global, name: Txt) -> Option<Subject> {
+    match Txt::of(alloc, "CronTab.example.com") {
+        Ok(kind_group) => Some(Subject { kind_group, name }),
+        Err(_) => None,
+    }
+}
+
+fn cause(alloc: Global) -> Option<Cause> {
+    match Txt::of(alloc, "metadata.resourceVersion") {
+        Ok(field) => Some(Cause {
+            field,
             rule: Rule::Required,
-        },
-    })
+        }),
+        Err(_) => None,
+    }
 }
 
 // The token of a number, in `default` and of the name `b`.
@@ -117,52 +129,59 @@ fn token(alloc: Global, number: &str) -> Option<Txt> {
 
 fn of_token(alloc: Global, text: &str) -> Option<Txt> {
     match read_token(alloc, text) {
-        Ok(token) => Some(Txt::of_string(format!(in alloc;
+        Ok(token) => line(format!(in alloc;
             "{} {} {}",
             token.rv,
             token.key.ns(),
             token.key.name()
-        ).ok()?)),
+        )),
         Err(TokenFault::BadToken) => Txt::of(alloc, "bad").ok(),
         Err(TokenFault::NoMemory) => None,
     }
 }
 
 // The uid of a boot number and the number of an entry.
-fn uid(alloc: Global, case: &str) -> Option<Txt> {
-    let texts = list(alloc, case)?;
-    let boot = text_at(&texts, 0)?.parse::<u64>().ok()?;
-    let born = text_at(&texts, 1)?.parse::<u64>().ok()?;
+fn uid(alloc: Global, texts: &JItems) -> Option<Txt> {
+    let boot = text_at(texts, 0)?.parse::<u64>().ok()?;
+    let born = text_at(texts, 1)?.parse::<u64>().ok()?;
     if born >= BORN_END {
         return None;
     }
     uid_of(alloc, boot, born).ok()
 }
 
-fn ranked(alloc: Global, case: &str) -> Option<Txt> {
-    let texts = list(alloc, case)?;
-    let order = priority(text_at(&texts, 0)?, text_at(&texts, 1)?);
+fn ranked(alloc: Global, texts: &JItems) -> Option<Txt> {
+    let order = priority(text_at(texts, 0)?, text_at(texts, 1)?);
     Txt::of(alloc, order_word(order)).ok()
 }
 
 // Names with spaces between, sorted by priority.
 fn preferred(alloc: Global, case: &str) -> Option<Txt> {
     let mut names = Vec::new(alloc);
+    sort_names(alloc, &mut names, case)?;
+    joined(alloc, names.as_slice())
+}
+
+fn sort_names<'a>(alloc: Global, names: &mut Vec<&'a str>, case: &'a str) -> Option<()> {
     for name in case.split(' ') {
         names.push(name).ok()?;
     }
     names
         .as_mut_slice()
         .sort_by(alloc, |a, b| priority(a, b))
-        .ok()?;
-    joined(alloc, names.as_slice())
+        .ok()
 }
 
 fn joined(alloc: Global, names: &[&str]) -> Option<Txt> {
     let mut out = String::new(alloc);
+    add_names(&mut out, names)?;
+    Some(Txt::of_string(out))
+}
+
+fn add_names(out: &mut String, names: &[&str]) -> Option<()> {
     for name in names {
         out.push_str(name).ok()?;
         out.push_str(" ").ok()?;
     }
-    Some(Txt::of_string(out))
+    Some(())
 }

@@ -4,9 +4,10 @@ ghost use Rattle.std.specs.Prelude.{◌≡◌, ◌<◌, IsTrue, IfOk, IfSome};
 ghost use Rattle.kube_meta.specs.View.{ObjectView, object_of};
 ghost use Rattle.api_calls.specs.Meaning.{stored_text};
 
-use crate::words::{list, text_at};
+use crate::objects::same_as;
+use crate::words::{line, list, text_at};
 use api_calls::{AdmitFault, Incoming, NoTool, Versions};
-use kj_value::{Txt, write};
+use kj_value::{JItems, Txt, write};
 use kube_meta::{Object, namespace_ok, write_object};
 use std::alloc::Global;
 use versions_fixture::TwoNames;
@@ -14,11 +15,15 @@ use versions_fixture::TwoNames;
 /// The answer to a case of a section.
 pub fn answer(alloc: Global, section: &str, case: &str) -> Option<Txt> {
     let versions = TwoNames::new(alloc).ok()?;
+    of_two(alloc, &versions, section, case)
+}
+
+fn of_two(alloc: Global, versions: &TwoNames, section: &str, case: &str) -> Option<Txt> {
     match section {
-        "# requests at v1" => created(alloc, &versions, &mut NoTool, 0, case.as_bytes()),
-        "# requests at v1beta1" => created(alloc, &versions, &mut NoTool, 1, case.as_bytes()),
-        "# requests of settings" => shown(alloc, &versions, case),
-        "# requests of a version" => found(alloc, &versions, case),
+        "# requests at v1" => created(alloc, versions, &mut NoTool, 0, case.as_bytes()),
+        "# requests at v1beta1" => created(alloc, versions, &mut NoTool, 1, case.as_bytes()),
+        "# requests of settings" => shown(alloc, versions, &list(alloc, case)?),
+        "# requests of a version" => found(alloc, versions, case),
         _ => None,
     }
 }
@@ -87,9 +92,23 @@ fn entered<V: Versions>(
     if versions.count() < 2 {
         return None;
     }
-    let first = round(alloc, versions, tool, 0, hub)?;
-    let second = round(alloc, versions, tool, 1, hub)?;
-    Some(Txt::of_string(format!(in alloc; "{weight} {} {}", first.as_str(), second.as_str()).ok()?))
+    let mut out = format!(in alloc; "{weight}").ok()?;
+    add_rounds(alloc, versions, tool, hub, &mut out)?;
+    Some(Txt::of_string(out))
+}
+
+fn add_rounds<V: Versions>(
+    alloc: Global,
+    versions: &V,
+    tool: &mut V::Tool,
+    hub: &Object,
+    out: &mut String,
+) -> Option<()>
+    requires two { 1 < (V.meaning versions.now).count }
+    requires whole { (V.meaning versions.now).whole (object_of hub.now) }
+{
+    add_round(alloc, versions, tool, 0, hub, out)?;
+    add_round(alloc, versions, tool, 1, hub, out)
 }
 
 // The text of the form at a version.
@@ -116,6 +135,23 @@ fn form_text<V: Versions>(
     }
 }
 
+// Adds the text of the form at a version.
+fn add_round<V: Versions>(
+    alloc: Global,
+    versions: &V,
+    tool: &mut V::Tool,
+    v: u8,
+    hub: &Object,
+    out: &mut String,
+) -> Option<()>
+    requires known { v < (V.meaning versions.now).count }
+    requires whole { (V.meaning versions.now).whole (object_of hub.now) }
+{
+    let text = round(alloc, versions, tool, v, hub)?;
+    out.push_str(" ").ok()?;
+    out.push_str(text.as_str()).ok()
+}
+
 // The text of the form at a version, where it is also that of the form of what is read back from it.
 fn round<V: Versions>(
     alloc: Global,
@@ -128,25 +164,18 @@ fn round<V: Versions>(
     requires whole { (V.meaning versions.now).whole (object_of hub.now) }
 {
     let text = form_text(alloc, versions, tool, v, hub)?;
-    let back = versions
-        .hub_of(alloc, tool, v, text.as_str().as_bytes())
-        .ok()?;
-    let again = form_text(alloc, versions, tool, v, &back)?;
-    if again.as_str() != text.as_str() {
-        return None;
+    match versions.hub_of(alloc, tool, v, text.as_str().as_bytes()) {
+        Ok(back) => same_as(text, &form_text(alloc, versions, tool, v, &back)?),
+        Err(_) => None,
     }
-    Some(text)
 }
 
 // The flags and the stored versions that two bodies give, as the definition's text shows them.
-fn shown<V: Versions>(alloc: Global, versions: &V, case: &str) -> Option<Txt> {
-    let texts = list(alloc, case)?;
-    let flags = versions
-        .read_flags(alloc, text_at(&texts, 0)?.as_bytes())
-        .ok()?;
-    let stored = versions
-        .read_keep(alloc, text_at(&texts, 1)?.as_bytes())
-        .ok()?;
+fn shown<V: Versions>(alloc: Global, versions: &V, texts: &JItems) -> Option<Txt> {
+    let flags = text_at(texts, 0)?;
+    let stored = text_at(texts, 1)?;
+    let flags = versions.read_flags(alloc, flags.as_bytes()).ok()?;
+    let stored = versions.read_keep(alloc, stored.as_bytes()).ok()?;
     let mut out = Txt::with_room(alloc, versions.show_room()).ok()?;
     versions.show(&flags, &stored, &mut out);
     Some(out)
@@ -158,5 +187,5 @@ fn found<V: Versions>(alloc: Global, versions: &V, name: &str) -> Option<Txt> {
         return Txt::of(alloc, "none").ok();
     };
     let there = versions.name(v);
-    Some(Txt::of_string(format!(in alloc; "{v} {}", there.as_str()).ok()?))
+    line(format!(in alloc; "{v} {}", there.as_str()))
 }

@@ -3,7 +3,7 @@ ghost use Rattle.std.specs.Prelude.{◌≡◌, IfOk, IfSome, option_map};
 ghost use Rattle.kube_meta.specs.View.{object_of, stamp_bytes};
 ghost use Rattle.object_reading.specs.Written.{IsMoment, IsWritable};
 
-use crate::words::{list, text_at};
+use crate::words::{line, list, text_at};
 use crd_admission::measure_within;
 use kj_value::{JItems, JVal, MAX_JSON_LEVELS, NoMemory, Stamp, Txt, depth, read, write};
 use kube_meta::{Object, write_object};
@@ -38,10 +38,7 @@ fn why(alloc: Global, fault: &ObjectFault) -> Option<Txt> {
         ObjectFault::NotObject => Txt::of(alloc, "NotObject").ok(),
         ObjectFault::BadVersion => Txt::of(alloc, "BadVersion").ok(),
         ObjectFault::WrongKind => Txt::of(alloc, "WrongKind").ok(),
-        ObjectFault::BadMeta { field } => Some(Txt::of_string(format!(in alloc;
-            "metadata.{}",
-            field.as_str()
-        ).ok()?)),
+        ObjectFault::BadMeta { field } => line(format!(in alloc; "metadata.{}", field.as_str())),
         ObjectFault::BadName => Txt::of(alloc, "BadName").ok(),
         ObjectFault::NoMemory => None,
     }
@@ -104,20 +101,51 @@ fn again(alloc: Global, o: &Object) -> Result<Object, NoMemory>
 fn text_again(alloc: Global, o: &Object) -> Option<Txt>
     requires { IsWritable (object_of o.now) }
 {
-    text(alloc, &again(alloc, o).ok()?)
+    match again(alloc, o) {
+        Ok(p) => text(alloc, &p),
+        Err(_) => None,
+    }
+}
+
+// The text of an object, where it is also that of what is read back from it.
+fn same_text(alloc: Global, o: &Object) -> Option<Txt>
+    requires { IsWritable (object_of o.now) }
+{
+    let first = text(alloc, o)?;
+    same_as(first, &text_again(alloc, o)?)
+}
+
+/// The first of two texts, where they are the same.
+pub fn same_as(first: Txt, second: &Txt) -> Option<Txt> {
+    if first.as_str() == second.as_str() {
+        Some(first)
+    } else {
+        None
+    }
 }
 
 // The text of an object with stamps, this number and a uid, where it is also that of what is read back from it.
 fn numbered(alloc: Global, texts: &JItems) -> Option<Txt> {
-    let mut o = submitted(alloc, text_at(texts, 1)?)?;
-    let number = Txt::of(alloc, text_at(texts, 0)?).ok()?;
-    set_stamps(&mut o, 2);
-    set_number(&mut o, number, Txt::of(alloc, "u").ok()?);
-    let text = text(alloc, &o)?;
-    if text_again(alloc, &o)?.as_str() != text.as_str() {
-        return None;
-    }
-    Some(text)
+    let case = text_at(texts, 1)?;
+    let number = text_at(texts, 0)?;
+    with_number(alloc, &mut submitted(alloc, case)?, number)
+}
+
+fn with_number(alloc: Global, o: &mut Object, number: &str) -> Option<Txt>
+    requires { IsWritable (object_of o.old) }
+{
+    set_stamps(o, 2);
+    number_and_uid(alloc, o, number)?;
+    same_text(alloc, o)
+}
+
+fn number_and_uid(alloc: Global, o: &mut Object, number: &str) -> Option<()>
+    requires { IsWritable (object_of o.old) }
+    ensures { IsWritable (object_of o.new) }
+{
+    let number = Txt::of(alloc, number).ok()?;
+    set_number(o, number, Txt::of(alloc, "u").ok()?);
+    Some(())
 }
 
 // How many bytes an object measures; there is an answer for each limit from there on, and for none below.
@@ -134,33 +162,51 @@ fn measure(o: &Object) -> Option<u64> {
 
 // The measure and the text of an object whose name is empty, and whose body has a kind.
 fn unnamed(alloc: Global, case: &str) -> Option<Txt> {
-    let mut o = submitted(alloc, case)?;
+    without_name(alloc, &mut submitted(alloc, case)?)
+}
+
+fn without_name(alloc: Global, o: &mut Object) -> Option<Txt> {
     o.meta.name = Txt::of(alloc, "").ok()?;
-    set_kind(alloc, &mut o)?;
-    let bytes = measure(&o)?;
-    let text = text(alloc, &o)?;
-    Some(Txt::of_string(format!(in alloc; "{bytes} {}", text.as_str()).ok()?))
+    set_kind(alloc, o)?;
+    measure_and_text(alloc, o)
+}
+
+fn measure_and_text(alloc: Global, o: &Object) -> Option<Txt> {
+    let bytes = measure(o)?;
+    let text = text(alloc, o)?;
+    line(format!(in alloc; "{bytes} {}", text.as_str()))
 }
 
 // What an object measures with number and uid, as it is, and with stamps; and how long its text is at most.
 fn measured(alloc: Global, case: &str) -> Option<Txt> {
-    let other = with_a_number(alloc, case)?;
-    let (plain, wide, bytes) = with_stamps(alloc, case)?;
-    Some(Txt::of_string(format!(in alloc; "{other} {plain} {wide} {bytes}").ok()?))
+    let other = numbered_measure(alloc, case)?;
+    let (plain, wide, bytes) = stamped_measures(alloc, case)?;
+    line(format!(in alloc; "{other} {plain} {wide} {bytes}"))
 }
 
-fn with_a_number(alloc: Global, case: &str) -> Option<u64> {
-    let mut o = submitted(alloc, case)?;
+fn numbered_measure(alloc: Global, case: &str) -> Option<u64> {
+    with_a_number(alloc, &mut submitted(alloc, case)?)
+}
+
+fn stamped_measures(alloc: Global, case: &str) -> Option<(u64, u64, usize)> {
+    with_stamps(alloc, &mut submitted(alloc, case)?)
+}
+
+fn with_a_number(alloc: Global, o: &mut Object) -> Option<u64>
+    requires { IsWritable (object_of o.old) }
+{
     o.meta.generation = 1;
-    set_number(&mut o, Txt::of(alloc, "7").ok()?, Txt::of(alloc, "u").ok()?);
-    set_kind(alloc, &mut o)?;
-    measure(&o)
+    number_and_uid(alloc, o, "7")?;
+    set_kind(alloc, o)?;
+    measure(o)
 }
 
-fn with_stamps(alloc: Global, case: &str) -> Option<(u64, u64, usize)> {
-    let mut o = submitted(alloc, case)?;
-    let plain = measure(&o)?;
-    set_stamps(&mut o, i64::MAX);
-    let wide = measure(&o)?;
-    Some((plain, wide, text(alloc, &o)?.len()))
+fn with_stamps(alloc: Global, o: &mut Object) -> Option<(u64, u64, usize)>
+    requires { IsWritable (object_of o.old) }
+{
+    let plain = measure(o)?;
+    set_stamps(o, i64::MAX);
+    let wide = measure(o)?;
+    let bytes = text(alloc, o)?.len();
+    Some((plain, wide, bytes))
 }

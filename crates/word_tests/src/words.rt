@@ -2,7 +2,7 @@
 use kj_value::{JItems, Txt, read};
 use kube_meta::{Key, KeySpot, NAME_BYTES, NAMESPACE_BYTES, NameSpot, name_ok, namespace_ok};
 use object_reading::{annotation_key_ok, finalizer_ok, label_key_ok, label_value_ok};
-use std::alloc::Global;
+use std::alloc::{AllocError, Global};
 use std::cmp::Ordering;
 
 /// The answer to a case of a section.
@@ -64,9 +64,13 @@ fn key_of(alloc: Global, ns: &str, name: &str) -> Option<Key> {
 
 // A key, and how it stands to another: as keys, as a key and two texts, and as places.
 fn keys(alloc: Global, texts: &JItems) -> Option<Txt> {
-    let first = key_of(alloc, text_at(texts, 0)?, text_at(texts, 1)?)?;
     let second = key_of(alloc, text_at(texts, 2)?, text_at(texts, 3)?)?;
-    compared(alloc, &first, &second)
+    beside(alloc, texts, &second)
+}
+
+fn beside(alloc: Global, texts: &JItems, second: &Key) -> Option<Txt> {
+    let first = key_of(alloc, text_at(texts, 0)?, text_at(texts, 1)?)?;
+    compared(alloc, &first, second)
 }
 
 fn compared(alloc: Global, first: &Key, second: &Key) -> Option<Txt> {
@@ -74,12 +78,19 @@ fn compared(alloc: Global, first: &Key, second: &Key) -> Option<Txt> {
     let by_texts = order_word(first.compare_with(second.ns(), second.name()));
     let by_place = order_word(first.spot().compare(&second.spot()));
     let again = again(alloc, &first.spot())?;
-    Some(Txt::of_string(format!(in alloc;
+    line(format!(in alloc;
         "{} {} {by_key} {by_texts} {by_place}",
         again.ns(),
         again.name()
-    )
-    .ok()?))
+    ))
+}
+
+/// A line that was made.
+pub fn line(made: Result<String, AllocError>) -> Option<Txt> {
+    match made {
+        Ok(text) => Some(Txt::of_string(text)),
+        Err(_) => None,
+    }
 }
 
 fn again(alloc: Global, spot: &KeySpot) -> Option<Key> {
@@ -99,5 +110,5 @@ fn places(alloc: Global, texts: &JItems) -> Option<Txt> {
     let second = place(text_at(texts, 1)?)?;
     let order = order_word(first.compare(&second));
     let name = first.again().name(alloc).ok()?;
-    Some(Txt::of_string(format!(in alloc; "{} {order}", name.as_str()).ok()?))
+    line(format!(in alloc; "{} {order}", name.as_str()))
 }
