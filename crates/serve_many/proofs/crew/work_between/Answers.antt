@@ -1,0 +1,7 @@
+use Rattle.shared_api.specs.Base.{server_of}
+use Rattle.serve_many.proofs.Working.{worked_none, worked_more}
+use Rattle.serve_many.proofs.crew.work_between.Goals as goal
+
+pub returns-clause-worked : goal.returns-clause-worked
+returns-clause-worked g c =
+    worked_more c.args.pass.now.view c.args.pass.now.view c.work.new.pass.view (server_of g.V.Versions.meaning c.args.api.now.base) _ _ _ _ _ _ _ (worked_none c.args.pass.now.view) c.work.ensures.works

@@ -1,0 +1,24 @@
+use Rattle.std.proofs.Common.{rules, ◌∙◌}
+use Rattle.serve_many.proofs.running.reap.Goals as goal
+
+pub loop-at-preserved-then-not-reap_at : goal.loop-at-preserved-then-not-reap_at
+loop-at-preserved-then-not-reap_at g c = record {
+  of = c.reap_at.ensures.of;
+  links = c.reap_at.ensures.links;
+  room = search rules;
+  capacity = c.reap_at.ensures.capacity ∙ c.loop-at.invariant.capacity;
+  faults = c.reap_at.ensures.faults ∙ c.loop-at.invariant.faults;
+  origins = c.reap_at.ensures.origins ∙ c.loop-at.invariant.origins;
+  going = λ n v0 h0 g0 crew count handed start. c.reap_at.ensures.going n v0 h0 g0 crew count handed (c.loop-at.invariant.going n v0 h0 g0 crew count handed start);
+}
+
+pub loop-at-preserved : goal.loop-at-preserved
+loop-at-preserved g c = record {
+  of = c.reap_at.ensures.of;
+  links = c.reap_at.ensures.links;
+  room = search rules;
+  capacity = c.reap_at.ensures.capacity ∙ c.loop-at.invariant.capacity;
+  faults = c.reap_at.ensures.faults ∙ c.loop-at.invariant.faults;
+  origins = c.reap_at.ensures.origins ∙ c.loop-at.invariant.origins;
+  going = λ n v0 h0 g0 crew count handed start. c.reap_at.ensures.going n v0 h0 g0 crew count handed (c.loop-at.invariant.going n v0 h0 g0 crew count handed start);
+}

@@ -1,0 +1,4 @@
+pub mod Lists
+pub mod Spans
+pub mod Alone
+pub mod Going

@@ -1,0 +1,51 @@
+-- All connections that were handed out were served and given back.
+use Rattle.std.specs.Prelude.{ℕ, ◌≡◌, ◌≤◌, ◌*◌, ◌^◌, ◌⊎◌, List, [], ◌∷◌, ◌++◌, length, map, Option, Some}
+use mathlib.Core.List.{IsPrefix}
+use Rattle.api_calls.specs.Item.{Logged}
+use Rattle.edge_io.specs.Connections.{Origin, Ending}
+use Rattle.turn_cell.specs.Views.{IsAlone, numbers_of}
+use Rattle.turn_cell.specs.declared.view.Share.{Share}
+use Rattle.turn_cell.specs.declared.view.View.{View}
+use Rattle.serve_spans.specs.Spans.{Service, Span, AllServed, AreApart, AreLate, AreOf}
+use Rattle.serve_spans.specs.Owners.{At, Within, IsWork}
+
+abbrev pub Among : {X : Type 0} → X → List X → Type 0
+Among x [] = ⊥
+Among x (y ∷ ys) = (x ≡ y) ⊎ Among x ys
+
+abbrev pub origins_of : List Ending → List (Option Origin)
+origins_of es = map (λ e. e.origin) es
+
+-- a list of origins, where it is told, goes on by these, which are told then
+abbrev pub HandsOutAll : Option (List Origin) → List (Option Origin) → Option (List Origin) → Type 0
+HandsOutAll before origins now = (xs : List Origin) → before ≡ Some xs → (os : List Origin) × (origins ≡ map (λ o. Some o) os) × (now ≡ Some (xs ++ os))
+
+-- a list of endings, where it is told, goes on by these
+abbrev pub AddsAll : Option (List Ending) → List Ending → Option (List Ending) → Type 0
+AddsAll before endings now = (xs : List Ending) → before ≡ Some xs → now ≡ Some (xs ++ endings)
+
+-- two shares are the same part of the whole
+abbrev pub IsSamePart : Share → Share → Type 0
+IsSamePart a b = a.top * 2 ^ b.halves ≡ b.top * 2 ^ a.halves
+
+-- So many connections were handed out, and all were given back. The pass was v0, whose number is n, and is v.
+pub record ServedAll {B : Type 0} (Serves : Service) (v0 v : View B) (count : ℕ) (h0 handed : Option (List Origin)) (g0 given : Option (List Ending)) : Type 0 where
+  pub origins : List (Option Origin)
+  pub endings : List Ending
+  pub spans : List Span
+  pub handed_out : HandsOutAll h0 origins handed
+  pub given_back : AddsAll g0 endings given
+  pub counted : (length origins ≡ count) × (length endings ≡ count)
+  -- each that was handed out was given back
+  pub each : (o : Option Origin) → Among o origins → Among o (origins_of endings)
+  -- the pass goes on, and has its part of the whole again
+  pub same : (v.number ≡ v0.number) × (v.base ≡ v0.base) × IsPrefix v0.seen v.seen
+  pub share : IsSamePart v.share v0.share
+  -- each was served in a span of the list, after what had been seen; and no two share an item
+  pub served : AllServed Serves v.seen endings spans
+  pub late : AreLate (length v0.seen) spans
+  pub apart : AreApart spans
+  -- it was served by this pass, or by one that was met into it
+  pub met : AreOf (numbers_of v) spans
+  -- where the pass was alone it is alone again, and all that is new stands in a span of its pass or is a worker's
+  pub alone : IsAlone v0 → IsAlone v × ((i : ℕ) (x : Logged) → At v.seen i x → length v0.seen ≤ i → Within spans i x ⊎ IsWork x.item)

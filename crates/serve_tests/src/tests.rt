@@ -1,0 +1,216 @@
+ghost use Rattle.std.specs.Prelude.{◌≤◌};
+
+use crate::peers::{Peer, Peers};
+use api_calls::{NoTool, NoTools, Tools};
+use edge_io::{FixedClock, MemConnection, MemEars, MemSink, MemSource};
+use kj_value::{NoMemory, Stamp};
+use kube_meta::Limits;
+use serve_many::{MOST_RUNNING, ServeEnd, serve_all};
+use shared_api::SharedApi;
+use std::alloc::Global;
+use std::sync::atomic::AtomicBool;
+use std::sync::{Arc, Wait};
+use std::test::*;
+use std::thread::Threads;
+use std::time::Clock;
+use versions_fixture::TwoNames;
+
+const ROOM: Limits = Limits {
+    objects: 64,
+    chunks: 64,
+    window_records: 64,
+    window_chunks: 64,
+    migrations: 4,
+};
+
+const STAMP: Stamp = Stamp {
+    text: *b"2024-01-02T03:04:05Z",
+};
+
+const ASKED: &[u8] = b"GET /raw/default/x HTTP/1.1\r\n\r\n";
+
+const ANSWERED: &[u8] =
+    b"HTTP/1.1 404 Not Found\r\nContent-Type: application/json\r\nContent-Length: 211\r\n\r\n{\"apiVersion\":\"v1\",\"code\":404,\"details\":{\"group\":\"example.com\",\"kind\":\"crontabs\",\"name\":\"x\"},\"kind\":\"Status\",\"message\":\"crontabs.example.com \\\"x\\\" not found\",\"metadata\":{},\"reason\":\"NotFound\",\"status\":\"Failure\"}";
+
+// A create, a storage version, the start of a migration, and from the byte BEHIND on a get of the migration.
+const MIGRATES: &[u8] =
+    b"POST /apis/example.com/v1beta1/namespaces/default/crontabs HTTP/1.1\r\nContent-Length: 99\r\n\r\n{\"apiVersion\":\"example.com/v1beta1\",\"kind\":\"CronTab\",\"metadata\":{\"name\":\"a\"},\"address\":\"localhost\"}PUT /apis/apiextensions.k8s.io/v1/customresourcedefinitions/crontabs.example.com HTTP/1.1\r\nContent-Length: 25\r\n\r\n{\"spec\":{\"storage\":\"v1\"}}POST /apis/storagemigration.k8s.io/v1alpha1/storageversionmigrations HTTP/1.1\r\nContent-Length: 172\r\n\r\n{\"apiVersion\":\"storagemigration.k8s.io/v1alpha1\",\"kind\":\"StorageVersionMigration\",\"metadata\":{\"name\":\"m\"},\"spec\":{\"resource\":{\"group\":\"example.com\",\"resource\":\"crontabs\"}}}GET /apis/storagemigration.k8s.io/v1alpha1/storageversionmigrations/m HTTP/1.1\r\n\r\n";
+
+const BEHIND: usize = 602;
+
+const GETS: &[u8] = b"GET /apis/example.com/v1/namespaces/default/crontabs/a HTTP/1.1\r\n\r\n";
+
+// The object once the migration wrote it.
+const SHOWN: &[u8] =
+    b"HTTP/1.1 200 OK\r\nContent-Type: application/json\r\nContent-Length: 238\r\n\r\n{\"apiVersion\":\"example.com/v1\",\"host\":\"localhost\",\"kind\":\"CronTab\",\"metadata\":{\"creationTimestamp\":\"2024-01-02T03:04:05Z\",\"generation\":1,\"name\":\"a\",\"namespace\":\"default\",\"resourceVersion\":\"5\",\"uid\":\"00000000-0000-8000-8000-000000000002\"}}";
+
+// Three connections in memory that each ask once, of which the ears' call of this number fails, and each read or write of this number.
+fn three(
+    alloc: Global,
+    failing: u64,
+    failing_read: u64,
+    failing_write: u64,
+) -> Result<MemEars, Fail> {
+    let mut connections = Vec::new(alloc);
+    for _ in 0..3 {
+        let source = MemSource::new(ASKED.to_vec(alloc)?, 1_000, vec![in alloc; failing_read]?);
+        let sink = MemSink::new(alloc, 10_000, vec![in alloc; failing_write]?)?;
+        connections.push(MemConnection::new(alloc, source, sink)?)?;
+    }
+    Ok(MemEars::new(alloc, connections, vec![in alloc; failing]?)?)
+}
+
+// Each of three connections is handed out or not, and fails in the middle or not: all that were handed out are given back.
+#[test]
+fn three_connections_and_two_workers(rt: HostRuntime) -> Result<(), Fail> {
+    let alloc = rt.alloc();
+    let none = u64::MAX;
+    let cases = [
+        (none, none, none, Some(3), ServeEnd::Done, 3),
+        (none, none, none, Some(4), ServeEnd::EarsFault, 3),
+        (none, none, none, None, ServeEnd::EarsFault, 3),
+        (1, none, none, Some(3), ServeEnd::EarsFault, 1),
+        (none, 0, none, Some(3), ServeEnd::Done, 3),
+        (none, none, 0, Some(3), ServeEnd::Done, 3),
+        (none, none, 1, Some(3), ServeEnd::Done, 3),
+    ];
+    for (failing, failing_read, failing_write, connections, end, handed_out) in cases {
+        let (api, mut pass) = SharedApi::open(alloc, TwoNames::new(alloc)?, NoTool, ROOM, 0)?;
+        let clock = FixedClock::new(STAMP);
+        let mut ears = three(alloc, failing, failing_read, failing_write)?;
+        let ended = serve_all(
+            &rt,
+            alloc,
+            &api,
+            &mut pass,
+            &mut NoTools,
+            &mut ears,
+            &clock,
+            2,
+            connections,
+        );
+        assert_eq!(&rt; ended, end);
+        assert_eq!(&rt; ears.handed_out(), handed_out);
+        let written = ears.last_written().ok_or("given back")?;
+        assert!(&rt; ANSWERED.starts_with(written));
+        let is_whole = failing_read == none && failing_write == none;
+        assert_eq!(&rt; written == ANSWERED, is_whole);
+    }
+    Ok(())
+}
+
+// Tools, of which so many can be made.
+#[derive(Drop)]
+struct Kit {
+    left: u64,
+}
+
+impl Tools<NoTool> for Kit {
+    fn make(&mut self, _alloc: Global) -> Result<NoTool, NoMemory> {
+        if self.left == 0 {
+            return Err(NoMemory);
+        }
+        self.left -= 1;
+        Ok(NoTool)
+    }
+}
+
+// Serves these peers, whose answers are wanted so, with so many workers and so many tools. Answers how it ended, and how many were given
+// back: all, those that were answered as wanted, and those whose answers are a front of that.
+fn served<R: Threads + Wait + Clock + Sync>(
+    rt: &R,
+    alloc: Global,
+    waiting: Vec<Peer>,
+    wanted: &'static [u8],
+    workers: u64,
+    tools: u64,
+) -> Result<(ServeEnd, u64, u64, u64), Fail>
+    requires { workers ≤ 15 }
+{
+    let connections = waiting.len() as u64;
+    let (api, mut pass) = SharedApi::open(alloc, TwoNames::new(alloc)?, NoTool, ROOM, 0)?;
+    let clock = FixedClock::new(STAMP);
+    let mut ears = Peers::new(waiting, wanted);
+    let end = serve_all(
+        rt,
+        alloc,
+        &api,
+        &mut pass,
+        &mut Kit { left: tools },
+        &mut ears,
+        &clock,
+        workers,
+        Some(connections),
+    );
+    Ok((end, ears.back, ears.whole, ears.fronts))
+}
+
+// Two connections wait, each with a thread of its own, until a third was told that the migration succeeded which it started and a worker
+// beside it carried out.
+#[test]
+fn three_connections_and_a_worker_beside_each_other(rt: HostRuntime) -> Result<(), Fail> {
+    let alloc = rt.alloc();
+    let word = Arc::new(alloc, AtomicBool::new(false))?;
+    let mut third = Peer::new(alloc, &word, MIGRATES, 0)?;
+    third.again = BEHIND;
+    third.times = 9_000;
+    third.until = b"Succeeded";
+    let mut second = Peer::new(alloc, &word, GETS, 1_000)?;
+    second.waits = true;
+    let mut first = Peer::new(alloc, &word, GETS, 1_000)?;
+    first.waits = true;
+    let peers = vec![in alloc; third, second, first]?;
+    let counted = served(&rt, alloc, peers, SHOWN, 1, u64::MAX)?;
+    assert_eq!(&rt; counted, (ServeEnd::Done, 3, 2, 3));
+    Ok(())
+}
+
+// As many connections as have a thread at once wait for one that comes behind them, which the accepting thread serves, as there is no
+// thread left for it.
+#[test]
+fn one_more_connection_than_threads(rt: HostRuntime) -> Result<(), Fail> {
+    let alloc = rt.alloc();
+    let word = Arc::new(alloc, AtomicBool::new(false))?;
+    let last = Peer::new(alloc, &word, ASKED, 1_000)?;
+    let mut speaker = Peer::new(alloc, &word, ASKED, 1_000)?;
+    speaker.until = b"NotFound";
+    let mut peers = vec![in alloc; last, speaker]?;
+    for _ in 0..MOST_RUNNING {
+        let mut peer = Peer::new(alloc, &word, ASKED, 1_000)?;
+        peer.waits = true;
+        peers.push(peer)?;
+    }
+    let counted = served(&rt, alloc, peers, ANSWERED, 0, u64::MAX)?;
+    assert_eq!(&rt; counted, (ServeEnd::Done, 66, 66, 66));
+    Ok(())
+}
+
+// A connection whose reads fail and one whose writes do are given back, and the others are answered.
+#[test]
+fn connections_that_fail_in_the_middle(rt: HostRuntime) -> Result<(), Fail> {
+    let alloc = rt.alloc();
+    let word = Arc::new(alloc, AtomicBool::new(false))?;
+    let mut unread = Peer::new(alloc, &word, ASKED, 1_000)?;
+    unread.read_fails = 0;
+    let mut unwritten = Peer::new(alloc, &word, ASKED, 1_000)?;
+    unwritten.write_fails = 1;
+    let first = Peer::new(alloc, &word, ASKED, 1_000)?;
+    let last = Peer::new(alloc, &word, ASKED, 1_000)?;
+    let peers = vec![in alloc; last, unwritten, unread, first]?;
+    let counted = served(&rt, alloc, peers, ANSWERED, 1, u64::MAX)?;
+    assert_eq!(&rt; counted, (ServeEnd::Done, 4, 2, 4));
+    Ok(())
+}
+
+// Where no pass of their own can be made, the accepting thread serves each connection, and takes the worker's turns after it.
+#[test]
+fn no_pass_but_the_first(rt: HostRuntime) -> Result<(), Fail> {
+    let alloc = rt.alloc();
+    let word = Arc::new(alloc, AtomicBool::new(false))?;
+    let first = Peer::new(alloc, &word, MIGRATES, 0)?;
+    let second = Peer::new(alloc, &word, GETS, 1_000)?;
+    let peers = vec![in alloc; second, first]?;
+    let counted = served(&rt, alloc, peers, SHOWN, 1, 0)?;
+    assert_eq!(&rt; counted, (ServeEnd::Done, 2, 1, 2));
+    Ok(())
+}

@@ -1,0 +1,180 @@
+//! Where connections come from.
+ghost use Rattle.std.specs.Prelude.{◌≡◌, ℕ, None, IfOk};
+
+use crate::Place;
+use crate::parts::{IDLE_SECONDS, TcpClosed, TcpSink, TcpSource, close};
+use edge_io::{Ears, Failed};
+use kj_value::{NoMemory, Txt};
+use std::alloc::Global;
+use std::io;
+use std::io::{Read, Write};
+use std::net::{Net, OpenListener, OpenStream, SocketAddr, TcpListener};
+use std::time::Duration;
+
+// What listens, and the address with the port that was taken.
+#[derive(Drop)]
+struct Listening<L: Drop> {
+    listener: L,
+    address: SocketAddr,
+}
+
+/// Waits for connections over TCP. Each is made so that small pieces aren't held back, and that a read or a write that waits
+/// for a minute fails.
+#[derive(Drop)]
+pub struct TcpEars<'a, R: Net> {
+    net: &'a R,
+    alloc: Global,
+    listening: Option<Listening<R::Listener>>,
+    faults: u64,
+}
+
+impl<'a, R: Net + Sync> TcpEars<'a, R>
+where
+    R::Listener: Send,
+    R::Stream: Send,
+{
+    /// Ears that don't listen yet, and that haven't failed.
+    pub fn new(net: &'a R, alloc: Global) -> TcpEars<'a, R>
+        ensures { ⟦<TcpEars<'a, R> as Ears>⟧.faults result ≡ 0 }
+    {
+        TcpEars {
+            net,
+            alloc,
+            listening: None,
+            faults: 0,
+        }
+    }
+}
+
+// What listens at a place: an IP address or a host's name, and a port.
+fn bound<R: Net>(net: &R, place: &str) -> io::Result<Listening<R::Listener>> {
+    let listener = TcpListener::bind(net, place)?;
+    let address = listener.local_addr()?;
+    Ok(Listening { listener, address })
+}
+
+// A connection that is set up; an error where the peer is gone, or where there is no memory or no handle for it.
+fn set_up<S: OpenStream + Read + Write + Drop>(
+    alloc: Global,
+    stream: S,
+) -> io::Result<(TcpSource<S>, TcpSink<S>)>
+    ensures { IfOk result (λ c. (c.0.faults ≡ 0) × (c.1.faults ≡ 0)) }
+{
+    let wait = Duration::from_secs(IDLE_SECONDS);
+    stream.set_nodelay(true)?;
+    stream.set_read_timeout(Some(wait))?;
+    stream.set_write_timeout(Some(wait))?;
+    let out = TcpSink::new(alloc, stream.try_clone()?)?;
+    Ok((TcpSource::new(stream), out))
+}
+
+// An error of a peer or of the way to it before its connection was had, which is no fault of the ears.
+fn is_of_peer(fault: &io::Error) -> bool {
+    matches!(
+        fault.kind(),
+        io::ErrorKind::ConnectionAborted
+            | io::ErrorKind::ConnectionReset
+            | io::ErrorKind::HostUnreachable
+            | io::ErrorKind::NetworkUnreachable
+            | io::ErrorKind::NetworkDown
+            | io::ErrorKind::TimedOut
+            | io::ErrorKind::Interrupted
+    )
+}
+
+// The next connection. One that can't be set up, as its peer is gone, is closed and passed over.
+fn next_of<L: OpenListener>(
+    alloc: Global,
+    listener: &L,
+) -> io::Result<(TcpSource<L::Stream>, TcpSink<L::Stream>)>
+where
+    L::Stream: OpenStream + Read + Write + Drop,
+    ensures { IfOk result (λ c. (c.0.faults ≡ 0) × (c.1.faults ≡ 0)) }
+{
+    for _turn in 0..u64::MAX {
+        match listener.accept() {
+            Ok((stream, _)) => {
+                if let Ok(parts) = set_up(alloc, stream) {
+                    return Ok(parts);
+                }
+            }
+            Err(fault) => {
+                if !is_of_peer(&fault) {
+                    return Err(fault);
+                }
+            }
+        }
+    }
+    Err(io::Error::from(io::ErrorKind::Other))
+}
+
+impl<'a, R: Net + Sync> Ears for TcpEars<'a, R>
+where
+    R::Listener: Send,
+    R::Stream: Send,
+{
+    type In = TcpSource<R::Stream>;
+
+    type Out = TcpSink<R::Stream>;
+
+    type Ended = TcpClosed;
+
+    ghost use Rattle.std.specs.Prelude.{None};
+
+    ghost origins = { λ e. None };
+
+    ghost returned = { λ e. None };
+
+    ghost faults = { λ e. e.faults };
+
+    ghost ending = { λ c. record { origin = None; read_faults = c.read_faults; write_faults = c.write_faults; written = None } };
+
+    fn listen(&mut self, place: &str) -> Result<(), Failed> {
+        match bound(self.net, place) {
+            Ok(listening) => {
+                self.listening = Some(listening);
+                Ok(())
+            }
+            Err(_) => {
+                self.faults = self.faults.saturating_add(1);
+                Err(Failed)
+            }
+        }
+    }
+
+    fn next(&mut self) -> Result<(TcpSource<R::Stream>, TcpSink<R::Stream>), Failed> {
+        let Some(listening) = &self.listening else {
+            self.faults = self.faults.saturating_add(1);
+            return Err(Failed);
+        };
+        match next_of(self.alloc, &listening.listener) {
+            Ok(parts) => Ok(parts),
+            Err(_) => {
+                self.faults = self.faults.saturating_add(1);
+                Err(Failed)
+            }
+        }
+    }
+
+    fn shut(input: TcpSource<R::Stream>, output: TcpSink<R::Stream>) -> TcpClosed {
+        close(input, output)
+    }
+
+    fn back(&mut self, _ended: TcpClosed) {}
+
+    ghost numbers_differ = { λ s. tt };
+}
+
+impl<'a, R: Net> Place for TcpEars<'a, R> {
+    ghost place = { λ e. None };
+
+    fn place(&self, alloc: Global) -> Result<Txt, NoMemory> {
+        match &self.listening {
+            Some(listening) => {
+                let text = format!(in alloc; "{}", listening.address)?;
+                Ok(Txt::of_string(text))
+            }
+            None => Ok(Txt::of_string(String::new(alloc))),
+        }
+    }
+}

@@ -1,0 +1,57 @@
+//! The beginning of a job.
+ghost use Rattle.std.specs.Prelude.{◌≡◌, IfErr, IfOk};
+
+use crate::flags::{shut, two_flags};
+use crate::running::{JobDone, Runner, Running};
+use std::alloc::Global;
+use std::marker::PhantomData;
+use std::snapshot::Snapshot;
+use std::sync::Wait;
+use std::sync::atomic::{AtomicBool, Ordering};
+use std::thread::{Scope, Threads};
+
+/// Does the job in a thread of the scope, whose handle promises what comes of this job. Where no thread or no memory can
+/// be had, it shuts the gate, if there is one, does the job here, and answers what came of it as the `Err`.
+pub fn begin<
+    's,
+    E,
+    J: Drop + Send + 's,
+    D: Drop + Send + 's,
+    W: Runner<J, D> + Sync + 's,
+    R: Threads + Wait + Sync + 's,
+>(
+    rt: &'s R,
+    alloc: Global,
+    scope: &'s Scope<'s, E>,
+    runner: &'s W,
+    job: J,
+    gate: Option<&AtomicBool>,
+) -> Result<Running<W, J, D>, D>
+    requires ready { W.ready runner.now job }
+    ensures begun { IfOk result (λ h. h.handle.promise.job.value ≡ job) }
+    ensures done { IfErr result (λ r. W.done job r) }
+{
+    let Ok((over, theirs)) = two_flags(alloc, false) else {
+        shut(gate);
+        return Err(runner.run(rt, job));
+    };
+    let promise = JobDone {
+        job: Snapshot::of(&job),
+        by: PhantomData,
+    };
+    let work = move || -> D
+        requires { W.ready runner.now job }
+        ensures { W.done job result }
+    {
+        let done = runner.run(rt, job);
+        theirs.store(true, Ordering::SeqCst);
+        done
+    };
+    match scope.spawn_with(promise, work) {
+        Ok(handle) => Ok(Running { handle, over }),
+        Err(refused) => {
+            shut(gate);
+            Err((refused.value)())
+        }
+    }
+}
