@@ -1,13 +1,14 @@
 //! Answers the requests of standard input on standard output.
 #![tactic(auto)]
 
-use edge_io::{DiskFiles, MemEars, RealClock, StdSink, StdSource};
+use edge_io::{DiskFiles, RealClock, StdSink, StdSource};
 use kj_value::Txt;
 use kubeconv_cmd::{BAD_WORDS, NO_MEMORY, Words, ended, run};
 use std::io::{BufReader, BufWriter};
 use std::process::ExitCode;
 use std::time::Clock;
 use std::{env, io};
+use tcp_ears::TcpEars;
 
 // The status where the command line can't be had: there is no memory for it, or a word isn't UTF-8.
 fn status_of(fault: io::Error) -> u8 {
@@ -51,13 +52,11 @@ fn main(rt: HostRuntime) -> ExitCode {
     let Ok(writer) = BufWriter::new(alloc, rt.stdout()) else {
         return ExitCode::from(ended(&mut errors, NO_MEMORY));
     };
-    let Ok(mut ears) = MemEars::new(alloc, Vec::new(alloc), Vec::new(alloc)) else {
-        return ExitCode::from(ended(&mut errors, NO_MEMORY));
-    };
     let boot = boot_number(&rt);
     let mut files = DiskFiles::new(&rt);
     let mut input = StdSource::new(reader);
     let mut output = StdSink::new(writer);
+    let mut ears = TcpEars::new(&rt, alloc);
     let clock = RealClock::new(&rt);
     ExitCode::from(run(
         &rt,

@@ -7,3 +7,5 @@ pub mod Ending
 pub mod TaskEnding
 pub mod TaskLemmas
 pub mod DrillEnding
+pub mod ServeEnding
+pub mod Crossing

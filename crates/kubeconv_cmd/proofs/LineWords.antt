@@ -1,6 +1,6 @@
 -- What words are as options, and which line they are.
 use Rattle.std.proofs.Common.{◌≡◌, ◌≢◌, ◌∙◌, ℕ, ◌<◌, ◌≤◌, List, [], ◌∷◌, ◌++◌, suc, ◌-◌, length, map, take, drop, get_or, refl, ap, sym, subst, arith, inl, inr, Option, Some, None}
-use Rattle.std.specs.Prelude.{codes, decimal, IfSome, MatchOption, ◌^◌}
+use Rattle.std.specs.Prelude.{codes, decimal, IfSome, MatchOption, ◌^◌, ◌==◌, if◌then◌else◌}
 use Rattle.std.proofs.Math.Seq.{take-length}
 use Rattle.std.proofs.lemmas.List.{append_cancel_left}
 use Rattle.std.proofs.lemmas.Fmt.{decimal_injective}
@@ -11,34 +11,58 @@ use Rattle.kubeconv_cmd.specs.declared.words.Given.{Given}
 use Rattle.kubeconv_cmd.specs.declared.words.Command.{Command}
 use Rattle.kubeconv_cmd.specs.declared.numbers.TheConstants.{MOST_STEPS}
 use Rattle.kubeconv_cmd.specs.Given.{line_of, values_in, TakesFirst, GivesOne, IsCommand}
-use Rattle.kubeconv_cmd.specs.Lines.{built_in, from_files, example, convert, review, Line, pipe, task, drill, Flag, crd_flag, rules_flag, to_flag, turns_flag, flag_text, IsValue, Begins, apart, joined, Values, no_values, value_at, with_value, Gives, no_more, one_more, command_word, SpellsTurns, HasValues, HasOptions, HasNumbers, IsLine}
+use Rattle.kubeconv_cmd.specs.Lines.{built_in, from_files, example, convert, review, Line, Service, pipe, task, drill, serve, Flag, crd_flag, rules_flag, to_flag, turns_flag, listen_flag, workers_flag, connections_flag, flag_text, IsValue, IsUnserved, Begins, apart, joined, Values, no_values, value_at, with_value, Gives, no_more, one_more, command_word, SpellsTurns, SpellsWorkers, SpellsConnections, HasValues, HasOptions, HasNumbers, IsLine}
 
 -- ---- one option
 
+-- the third and the fourth byte of an option's name tell which it is
+named_by : ℕ → ℕ → Flag
+named_by third fourth =
+    if third == 99 then (if fourth == 114 then crd_flag else connections_flag) else (
+    if third == 114 then rules_flag else (
+    if third == 116 then (if fourth == 111 then to_flag else turns_flag) else (
+    if third == 108 then listen_flag else workers_flag)))
+
+named : List ℕ → Flag
+named s = named_by (get_or s 2 0) (get_or s 3 0)
+
+names : (f : Flag) (x : List ℕ) → named (flag_text f ++ x) ≡ f
+unfolding named named_by
+names crd_flag x = refl
+names rules_flag x = refl
+names to_flag x = refl
+names turns_flag x = refl
+names listen_flag x = refl
+names workers_flag x = refl
+names connections_flag x = refl
+
 -- no option's name is the front of another one's
 pub same_flag : (f g : Flag) (x y : List ℕ) → flag_text f ++ x ≡ flag_text g ++ y → (f ≡ g) × (x ≡ y)
-same_flag crd_flag crd_flag x y e = (refl, append_cancel_left (codes "--crd") x y e)
-same_flag rules_flag rules_flag x y e = (refl, append_cancel_left (codes "--rules") x y e)
-same_flag to_flag to_flag x y e = (refl, append_cancel_left (codes "--to") x y e)
-same_flag crd_flag rules_flag x y e = let third : 99 ≡ 114 = ap (λ (s : List ℕ). get_or s 2 0) e in absurd (omega (arith, third))
-same_flag crd_flag to_flag x y e = let third : 99 ≡ 116 = ap (λ (s : List ℕ). get_or s 2 0) e in absurd (omega (arith, third))
-same_flag rules_flag crd_flag x y e = let third : 114 ≡ 99 = ap (λ (s : List ℕ). get_or s 2 0) e in absurd (omega (arith, third))
-same_flag rules_flag to_flag x y e = let third : 114 ≡ 116 = ap (λ (s : List ℕ). get_or s 2 0) e in absurd (omega (arith, third))
-same_flag turns_flag turns_flag x y e = (refl, append_cancel_left (codes "--turns") x y e)
-same_flag crd_flag turns_flag x y e = let third : 99 ≡ 116 = ap (λ (s : List ℕ). get_or s 2 0) e in absurd (omega (arith, third))
-same_flag rules_flag turns_flag x y e = let third : 114 ≡ 116 = ap (λ (s : List ℕ). get_or s 2 0) e in absurd (omega (arith, third))
-same_flag to_flag turns_flag x y e = let fourth : 111 ≡ 117 = ap (λ (s : List ℕ). get_or s 3 0) e in absurd (omega (arith, fourth))
-same_flag turns_flag crd_flag x y e = let third : 116 ≡ 99 = ap (λ (s : List ℕ). get_or s 2 0) e in absurd (omega (arith, third))
-same_flag turns_flag rules_flag x y e = let third : 116 ≡ 114 = ap (λ (s : List ℕ). get_or s 2 0) e in absurd (omega (arith, third))
-same_flag turns_flag to_flag x y e = let fourth : 117 ≡ 111 = ap (λ (s : List ℕ). get_or s 3 0) e in absurd (omega (arith, fourth))
-same_flag to_flag crd_flag x y e = let third : 116 ≡ 99 = ap (λ (s : List ℕ). get_or s 2 0) e in absurd (omega (arith, third))
-same_flag to_flag rules_flag x y e = let third : 116 ≡ 114 = ap (λ (s : List ℕ). get_or s 2 0) e in absurd (omega (arith, third))
+same_flag f g x y e =
+    let same : f ≡ g = sym (names f x) ∙ ap named e ∙ names g y in
+    (same, append_cancel_left (flag_text f) x y (e ∙ ap (λ (h : Flag). flag_text h ++ y) (sym same)))
 
 flag_alone : (f : Flag) → flag_text f ≡ flag_text f ++ []
 flag_alone crd_flag = refl
 flag_alone rules_flag = refl
 flag_alone to_flag = refl
 flag_alone turns_flag = refl
+flag_alone listen_flag = refl
+flag_alone workers_flag = refl
+flag_alone connections_flag = refl
+
+-- a word that begins with no name of these three groups begins with none
+pub no_name : (w : List ℕ) → ((end : List ℕ) → w ≢ flag_text turns_flag ++ end)
+    → ((end : List ℕ) → w ≢ flag_text crd_flag ++ end) → ((end : List ℕ) → w ≢ flag_text rules_flag ++ end) → ((end : List ℕ) → w ≢ flag_text to_flag ++ end)
+    → ((end : List ℕ) → w ≢ flag_text listen_flag ++ end) → ((end : List ℕ) → w ≢ flag_text workers_flag ++ end) → ((end : List ℕ) → w ≢ flag_text connections_flag ++ end)
+    → (f : Flag) (end : List ℕ) → w ≢ flag_text f ++ end
+no_name w turns crd rules to listen workers connections crd_flag = crd
+no_name w turns crd rules to listen workers connections rules_flag = rules
+no_name w turns crd rules to listen workers connections to_flag = to
+no_name w turns crd rules to listen workers connections turns_flag = turns
+no_name w turns crd rules to listen workers connections listen_flag = listen
+no_name w turns crd rules to listen workers connections workers_flag = workers
+no_name w turns crd rules to listen workers connections connections_flag = connections
 
 -- the first word begins with the option's name
 pub front : (w : List ℕ) (ws : List (List ℕ)) (f : Flag) (v : List ℕ) (r : List (List ℕ)) → Begins (w ∷ ws) f v r
@@ -115,6 +139,29 @@ one_number : (given : Option (List ℕ)) (m n : ℕ) → SpellsTurns given m →
 one_number None m n one other = one ∙ sym other
 one_number (Some text) m n one other = decimal_injective m n (omega (arith, one.1)) (omega (arith, other.1)) (sym one.0 ∙ other.0)
 
+-- a text spells one number of workers
+one_workers : (given : Option (List ℕ)) (m n : ℕ) → SpellsWorkers given m → SpellsWorkers given n → m ≡ n
+one_workers None m n one other = one ∙ sym other
+one_workers (Some text) m n one other = decimal_injective m n (omega (arith, one.1)) (omega (arith, other.1)) (sym one.0 ∙ other.0)
+
+-- and one number of connections, or none
+pub one_connections : (given : Option (List ℕ)) (c d : Option ℕ) → SpellsConnections given c → SpellsConnections given d → c ≡ d
+one_connections None c d one other = one ∙ sym other
+one_connections (Some text) c d one other =
+    let same : one.0 ≡ other.0 = decimal_injective one.0 other.0 (omega (arith, one.4)) (omega (arith, other.4)) (sym one.2 ∙ other.2) in
+    one.1 ∙ ap (λ (n : ℕ). Some n) same ∙ sym other.1
+
+one_service : (s t : Service) → Some s.crd ≡ Some t.crd → Some s.rules ≡ Some t.rules → Some s.place ≡ Some t.place → s.workers ≡ t.workers → s.connections ≡ t.connections → s ≡ t
+one_service s t crd rules place workers connections =
+    let c : s.crd ≡ t.crd = cc in
+    let r : s.rules ≡ t.rules = cc in
+    let p : s.place ≡ t.place = cc in
+    ap (λ (x : List ℕ). record s { crd = x }) c
+    ∙ ap (λ (x : List ℕ). record { crd = t.crd; rules = x; place = s.place; workers = s.workers; connections = s.connections }) r
+    ∙ ap (λ (x : List ℕ). record { crd = t.crd; rules = t.rules; place = x; workers = s.workers; connections = s.connections }) p
+    ∙ ap (λ (n : ℕ). record { crd = t.crd; rules = t.rules; place = t.place; workers = n; connections = s.connections }) workers
+    ∙ ap (λ (o : Option ℕ). record t { connections = o }) connections
+
 pub one_line : (a b : Line) (v : Values) → command_word a ≡ command_word b → HasValues a v → HasValues b v → a ≡ b
 one_line (pipe built_in m) (pipe built_in n) v e one other = ap (λ (k : ℕ). pipe built_in k) (one_number v.turns m n one.3 other.3)
 one_line (pipe built_in m) (pipe (from_files d s) n) v e one other = let crd_is : None ≡ Some d = sym one.0 ∙ other.0 in cc
@@ -122,6 +169,7 @@ one_line (pipe built_in m) (task d s (convert w)) v e one other = let first : 11
 one_line (pipe built_in m) (task d s review) v e one other = let first : 112 ≡ 114 = ap (λ (s : List ℕ). get_or s 0 0) e in absurd (omega (arith, first))
 one_line (pipe built_in m) (pipe example n) v e one other = absurd other
 one_line (pipe built_in m) (drill a b) v e one other = absurd other
+one_line (pipe built_in m) (serve s) v e one other = let listen : None ≡ Some s.place = sym one.4.0 ∙ other.4 in cc
 one_line (pipe example m) b v e one other = absurd one
 one_line (drill x n) b v e one other = absurd one
 one_line (pipe (from_files c r) m) (pipe built_in n) v e one other = let crd_is : Some c ≡ None = sym one.0 ∙ other.0 in cc
@@ -134,6 +182,7 @@ one_line (pipe (from_files c r) m) (task d s (convert w)) v e one other = let fi
 one_line (pipe (from_files c r) m) (task d s review) v e one other = let first : 112 ≡ 114 = ap (λ (s : List ℕ). get_or s 0 0) e in absurd (omega (arith, first))
 one_line (pipe (from_files c r) m) (pipe example n) v e one other = absurd other
 one_line (pipe (from_files c r) m) (drill a b) v e one other = absurd other
+one_line (pipe (from_files c r) m) (serve s) v e one other = let listen : None ≡ Some s.place = sym one.4.0 ∙ other.4 in cc
 one_line (task c r (convert v2)) (pipe built_in n) v e one other = let first : 99 ≡ 112 = ap (λ (s : List ℕ). get_or s 0 0) e in absurd (omega (arith, first))
 one_line (task c r (convert v2)) (pipe (from_files d s) n) v e one other = let first : 99 ≡ 112 = ap (λ (s : List ℕ). get_or s 0 0) e in absurd (omega (arith, first))
 one_line (task c r (convert v2)) (task d s (convert w)) v e one other =
@@ -144,6 +193,7 @@ one_line (task c r (convert v2)) (task d s (convert w)) v e one other =
 one_line (task c r (convert v2)) (task d s review) v e one other = let first : 99 ≡ 114 = ap (λ (s : List ℕ). get_or s 0 0) e in absurd (omega (arith, first))
 one_line (task c r (convert v2)) (pipe example n) v e one other = absurd other
 one_line (task c r (convert v2)) (drill a b) v e one other = absurd other
+one_line (task c r (convert v2)) (serve s) v e one other = let listen : None ≡ Some s.place = sym one.4.0 ∙ other.4 in cc
 one_line (task c r review) (pipe built_in n) v e one other = let first : 114 ≡ 112 = ap (λ (s : List ℕ). get_or s 0 0) e in absurd (omega (arith, first))
 one_line (task c r review) (pipe (from_files d s) n) v e one other = let first : 114 ≡ 112 = ap (λ (s : List ℕ). get_or s 0 0) e in absurd (omega (arith, first))
 one_line (task c r review) (task d s (convert w)) v e one other = let first : 114 ≡ 99 = ap (λ (s : List ℕ). get_or s 0 0) e in absurd (omega (arith, first))
@@ -153,6 +203,26 @@ one_line (task c r review) (task d s review) v e one other =
     cc
 one_line (task c r review) (pipe example n) v e one other = absurd other
 one_line (task c r review) (drill a b) v e one other = absurd other
+one_line (task c r review) (serve s) v e one other = let listen : None ≡ Some s.place = sym one.4.0 ∙ other.4 in cc
+one_line (serve s) (pipe built_in n) v e one other = let listen : Some s.place ≡ None = sym one.4 ∙ other.4.0 in cc
+one_line (serve s) (pipe (from_files c r) n) v e one other = let listen : Some s.place ≡ None = sym one.4 ∙ other.4.0 in cc
+one_line (serve s) (pipe example n) v e one other = absurd other
+one_line (serve s) (task c r (convert w)) v e one other = let listen : Some s.place ≡ None = sym one.4 ∙ other.4.0 in cc
+one_line (serve s) (task c r review) v e one other = let listen : Some s.place ≡ None = sym one.4 ∙ other.4.0 in cc
+one_line (serve s) (drill a b) v e one other = absurd other
+one_line (serve s) (serve t) v e one other =
+    ap (λ (x : Service). serve x) (one_service s t (sym one.0 ∙ other.0) (sym one.1 ∙ other.1) (sym one.4 ∙ other.4)
+    (one_workers v.workers s.workers t.workers one.5 other.5) (one_connections v.connections s.connections t.connections one.6 other.6))
+
+-- a command that isn't `serve` has none of its options
+pub none_unserved : (w : List ℕ) (v : Values) → (w ≡ codes "serve" → ⊥) → (IsUnserved v → ⊥) → (line : Line) → w ≡ command_word line → HasValues line v → ⊥
+none_unserved w v other some (pipe built_in turns) e has = some has.4
+none_unserved w v other some (pipe (from_files c r) turns) e has = some has.4
+none_unserved w v other some (pipe example turns) e has = has
+none_unserved w v other some (task c r (convert to)) e has = some has.4
+none_unserved w v other some (task c r review) e has = some has.4
+none_unserved w v other some (drill start count) e has = has
+none_unserved w v other some (serve s) e has = other e
 
 -- ---- words in memory
 
@@ -233,6 +303,9 @@ no_drill rest (task c r review) l =
     let e : codes "drill" ≡ codes "review" = let same : codes "drill" ∷ rest ≡ codes "review" ∷ l.options = l.command in cc in
     let first : 100 ≡ 114 = ap (λ (s : List ℕ). get_or s 0 0) e in omega (arith, first)
 no_drill rest (drill start count) l = l.has
+no_drill rest (serve s) l =
+    let e : codes "drill" ≡ codes "serve" = let same : codes "drill" ∷ rest ≡ codes "serve" ∷ l.options = l.command in cc in
+    let first : 100 ≡ 115 = ap (λ (s : List ℕ). get_or s 0 0) e in omega (arith, first)
 
 -- and another command has no two numbers
 pub only_drill : (first : List ℕ) (rest : List (List ℕ)) (line : Line) → HasNumbers (first ∷ rest) line → first ≡ codes "drill"

@@ -10,7 +10,7 @@ use Rattle.kubeconv_cmd.specs.Ends.{why_text}
 use Rattle.kubeconv_cmd.specs.Halts.{OnHalt, OnFile, Unwritten, Past, task_status, task_line}
 use Rattle.kubeconv_cmd.specs.declared.halt.Halt.{Halt}
 use Rattle.kubeconv_cmd.specs.declared.halt.Halt.TheVariants.{ReadFailed, WriteFailed, File, Input, NoMemory}
-use Rattle.kubeconv_cmd.specs.declared.status.TheConstants.{DONE, BAD_WORDS, BAD_INPUT, READ_FAILED, REFUSED, WRITE_FAILED, NO_MEMORY}
+use Rattle.kubeconv_cmd.specs.declared.status.TheConstants.{DONE, BAD_WORDS, BAD_INPUT, READ_FAILED, REFUSED, WRITE_FAILED, NO_MEMORY, LISTEN_FAILED}
 use Rattle.kubeconv_cmd.proofs.Refusing.{not_both}
 
 -- ---- what is known of it. The counts of faults of files, input and output rose where `files`, `reads` and `writes` hold
@@ -88,6 +88,14 @@ never_words (Err WriteFailed) s is e = omega (arith, is, e)
 never_words (Err (File file why)) s is e = omega (arith, is, e)
 never_words (Err (Input why)) s is e = omega (arith, is, e)
 never_words (Err NoMemory) s is e = omega (arith, is, e)
+
+pub never_heard : (came : Result Unit Halt) (s : ℕ) → s ≡ task_status came → s ≡ LISTEN_FAILED → ⊥
+never_heard (Ok u) s is e = omega (arith, is, e)
+never_heard (Err ReadFailed) s is e = omega (arith, is, e)
+never_heard (Err WriteFailed) s is e = omega (arith, is, e)
+never_heard (Err (File file why)) s is e = omega (arith, is, e)
+never_heard (Err (Input why)) s is e = omega (arith, is, e)
+never_heard (Err NoMemory) s is e = omega (arith, is, e)
 
 -- an input that is refused has its line
 pub input_line : (told : List ℕ → List ℕ → List ℕ → Type 0) (bad : List ℕ → List ℕ → List ℕ → List ℕ → Type 0) (Q : Type 0) (written : List ℕ → Type 0)

@@ -5,13 +5,14 @@ use Rattle.kubeconv_cmd.specs.declared.words.Named.{Named as NamedCode}
 use Rattle.kubeconv_cmd.specs.declared.words.Named.TheVariants as named
 use Rattle.kubeconv_cmd.specs.declared.words.Task.{Task as TaskCode}
 use Rattle.kubeconv_cmd.specs.declared.words.Task.TheVariants as tasks
+use Rattle.kubeconv_cmd.specs.declared.service.Service.{Service as ServiceCode}
 use Rattle.kubeconv_cmd.specs.declared.words.Command.{Command}
 use Rattle.kubeconv_cmd.specs.declared.words.Command.TheVariants as commands
 use Rattle.kubeconv_cmd.specs.declared.words.Flag.{Flag as FlagCode}
 use Rattle.kubeconv_cmd.specs.declared.words.Flag.TheVariants as flags
 use Rattle.kubeconv_cmd.specs.declared.words.Taken.{Taken}
 use Rattle.kubeconv_cmd.specs.declared.words.Given.{Given}
-use Rattle.kubeconv_cmd.specs.Lines.{Named, built_in, from_files, Task, convert, review, Line, pipe, task, drill, Flag, crd_flag, rules_flag, to_flag, turns_flag, Begins, Values, Gives, command_word, HasValues}
+use Rattle.kubeconv_cmd.specs.Lines.{Named, built_in, from_files, Task, convert, review, Line, Service, pipe, task, drill, serve, Flag, crd_flag, rules_flag, to_flag, turns_flag, listen_flag, workers_flag, connections_flag, Begins, Values, Gives, command_word, HasValues}
 
 abbrev pub named_of : NamedCode → Named
 named_of named.BuiltIn = built_in
@@ -21,19 +22,26 @@ abbrev pub task_of : TaskCode → Task
 task_of (tasks.Convert to) = convert to.now
 task_of tasks.Review = review
 
+abbrev pub service_of : ServiceCode → Service
+service_of s = record { crd = s.crd.now; rules = s.rules.now; place = s.place.now; workers = s.workers; connections = s.connections }
+
 abbrev pub line_of : Command → Line
 line_of (commands.Pipe n turns) = pipe (named_of n) turns
 line_of (commands.Task crd rules t) = task crd.now rules.now (task_of t)
 line_of (commands.Drill start count) = drill start count
+line_of (commands.Serve s) = serve (service_of s)
 
 abbrev pub flag_in : FlagCode → Flag
 flag_in flags.Crd = crd_flag
 flag_in flags.Rules = rules_flag
 flag_in flags.To = to_flag
 flag_in flags.Turns = turns_flag
+flag_in flags.Listen = listen_flag
+flag_in flags.Workers = workers_flag
+flag_in flags.Connections = connections_flag
 
 abbrev pub values_in : Given → Values
-values_in g = record { crd = option_map (λ x. x.now) g.crd; rules = option_map (λ x. x.now) g.rules; to = option_map (λ x. x.now) g.to; turns = option_map (λ x. x.now) g.turns }
+values_in g = record { crd = option_map (λ x. x.now) g.crd; rules = option_map (λ x. x.now) g.rules; to = option_map (λ x. x.now) g.to; turns = option_map (λ x. x.now) g.turns; listen = option_map (λ x. x.now) g.listen; workers = option_map (λ x. x.now) g.workers; connections = option_map (λ x. x.now) g.connections }
 
 -- the option that the words begin with, and none where nothing is told
 abbrev pub TakesFirst : List (List ℕ) → Option Taken → Type 0

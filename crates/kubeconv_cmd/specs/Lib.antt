@@ -1,8 +1,11 @@
 pub mod Lines
 pub mod Tasks
+pub mod Listening
 pub mod Serving
+pub mod Beside
 pub mod Status
 pub mod Refusal
 pub mod Given
 pub mod Ends
 pub mod Halts
+pub mod Served

@@ -4,6 +4,7 @@ use Rattle.kj_value.specs.Reading.{Reads}
 use Rattle.crontab_example.specs.Documents.{definition_document, rules_document}
 use Rattle.kubeconv_cmd.specs.declared.turns.TheConstants.{MOST_TURNS}
 use Rattle.kubeconv_cmd.specs.declared.numbers.TheConstants.{MOST_STEPS}
+use Rattle.kubeconv_cmd.specs.declared.service.TheConstants.{USUAL_WORKERS, MOST_WORKERS, MOST_CONNECTIONS}
 use Rattle.built_in.specs.Texts.{definition_text, rules_text}
 
 -- the definition that a line names: the one that is built in, the one of a file, with the rules of conversion of another, or the
@@ -20,6 +21,15 @@ pub data Task : Type 0 where
   -- it is a review, which is answered
   review : Task
 
+-- whose connections are answered: by the definition of one file with the rules of another, at a place, with so many workers beside
+-- them, and so many of them where a number is given
+pub record Service : Type 0 where
+  pub crd : List ℕ
+  pub rules : List ℕ
+  pub place : List ℕ
+  pub workers : ℕ
+  pub connections : Option ℕ
+
 pub data Line : Type 0 where
   -- answers requests by a definition, and takes so many turns of a worker after each answer
   pipe : Named → ℕ → Line
@@ -27,12 +37,22 @@ pub data Line : Type 0 where
   task : List ℕ → List ℕ → Task → Line
   -- takes so many steps, which are drawn from the state of the first number on
   drill : ℕ → ℕ → Line
+  -- answers connections
+  serve : Service → Line
 
 -- the definition that a line names
 abbrev pub named_in : Line → Named
 named_in (pipe named turns) = named
 named_in (task crd rules t) = from_files crd rules
 named_in (drill start count) = example
+named_in (serve s) = from_files s.crd s.rules
+
+-- the line waits for no connections
+abbrev pub HearsNone : Line → Type 0
+HearsNone (pipe named turns) = Unit {0}
+HearsNone (task crd rules t) = Unit {0}
+HearsNone (drill start count) = Unit {0}
+HearsNone (serve s) = ⊥
 
 -- ---- options
 
@@ -41,12 +61,18 @@ pub data Flag : Type 0 where
   rules_flag : Flag
   to_flag : Flag
   turns_flag : Flag
+  listen_flag : Flag
+  workers_flag : Flag
+  connections_flag : Flag
 
 abbrev pub flag_text : Flag → List ℕ
 flag_text crd_flag = codes "--crd"
 flag_text rules_flag = codes "--rules"
 flag_text to_flag = codes "--to"
 flag_text turns_flag = codes "--turns"
+flag_text listen_flag = codes "--listen"
+flag_text workers_flag = codes "--workers"
+flag_text connections_flag = codes "--connections"
 
 -- the byte `-`
 abbrev pub dash : ℕ
@@ -68,21 +94,30 @@ pub record Values : Type 0 where
   pub rules : Option (List ℕ)
   pub to : Option (List ℕ)
   pub turns : Option (List ℕ)
+  pub listen : Option (List ℕ)
+  pub workers : Option (List ℕ)
+  pub connections : Option (List ℕ)
 
 abbrev pub no_values : Values
-no_values = record { crd = None; rules = None; to = None; turns = None }
+no_values = record { crd = None; rules = None; to = None; turns = None; listen = None; workers = None; connections = None }
 
 abbrev pub value_at : Flag → Values → Option (List ℕ)
 value_at crd_flag values = values.crd
 value_at rules_flag values = values.rules
 value_at to_flag values = values.to
 value_at turns_flag values = values.turns
+value_at listen_flag values = values.listen
+value_at workers_flag values = values.workers
+value_at connections_flag values = values.connections
 
 abbrev pub with_value : Flag → List ℕ → Values → Values
 with_value crd_flag value values = record values { crd = Some value }
 with_value rules_flag value values = record values { rules = Some value }
 with_value to_flag value values = record values { to = Some value }
 with_value turns_flag value values = record values { turns = Some value }
+with_value listen_flag value values = record values { listen = Some value }
+with_value workers_flag value values = record values { workers = Some value }
+with_value connections_flag value values = record values { connections = Some value }
 
 -- behind options of these values the words are options, each of which is given once, and all values are those in the end
 pub data Gives : List (List ℕ) → Values → Values → Type 0 where
@@ -98,20 +133,37 @@ command_word (pipe named turns) = codes "pipe"
 command_word (task crd rules (convert to)) = codes "convert"
 command_word (task crd rules review) = codes "review"
 command_word (drill start count) = codes "drill"
+command_word (serve s) = codes "serve"
 
 -- how many turns are spelled: in decimal digits without leading zeros, up to the most; none where nothing is given
 abbrev pub SpellsTurns : Option (List ℕ) → ℕ → Type 0
 SpellsTurns None turns = turns ≡ 0
 SpellsTurns (Some text) turns = (text ≡ decimal turns) × (turns ≤ MOST_TURNS)
 
+-- how many workers are spelled, up to the most; where nothing is given there are the usual ones
+abbrev pub SpellsWorkers : Option (List ℕ) → ℕ → Type 0
+SpellsWorkers None workers = workers ≡ USUAL_WORKERS
+SpellsWorkers (Some text) workers = (text ≡ decimal workers) × (workers ≤ MOST_WORKERS)
+
+-- how many connections are spelled, one at least and up to the most; no number where nothing is given
+abbrev pub SpellsConnections : Option (List ℕ) → Option ℕ → Type 0
+SpellsConnections None connections = connections ≡ None
+SpellsConnections (Some text) connections = (n : ℕ) × (connections ≡ Some n) × (text ≡ decimal n) × (0 < n) × (n ≤ MOST_CONNECTIONS)
+
+-- no option of `serve` alone is given
+abbrev pub IsUnserved : Values → Type 0
+IsUnserved v = (v.listen ≡ None) × (v.workers ≡ None) × (v.connections ≡ None)
+
 -- the options that a line has, in any order, are given with these values; a drill has none, and two numbers in their place
 abbrev pub HasValues : Line → Values → Type 0
-HasValues (pipe built_in turns) v = (v.crd ≡ None) × (v.rules ≡ None) × (v.to ≡ None) × SpellsTurns v.turns turns
-HasValues (pipe (from_files crd rules) turns) v = (v.crd ≡ Some crd) × (v.rules ≡ Some rules) × (v.to ≡ None) × SpellsTurns v.turns turns
+HasValues (pipe built_in turns) v = (v.crd ≡ None) × (v.rules ≡ None) × (v.to ≡ None) × SpellsTurns v.turns turns × IsUnserved v
+HasValues (pipe (from_files crd rules) turns) v = (v.crd ≡ Some crd) × (v.rules ≡ Some rules) × (v.to ≡ None) × SpellsTurns v.turns turns × IsUnserved v
 HasValues (pipe example turns) v = ⊥
-HasValues (task crd rules (convert to)) v = (v.crd ≡ Some crd) × (v.rules ≡ Some rules) × (v.to ≡ Some to) × (v.turns ≡ None)
-HasValues (task crd rules review) v = (v.crd ≡ Some crd) × (v.rules ≡ Some rules) × (v.to ≡ None) × (v.turns ≡ None)
+HasValues (task crd rules (convert to)) v = (v.crd ≡ Some crd) × (v.rules ≡ Some rules) × (v.to ≡ Some to) × (v.turns ≡ None) × IsUnserved v
+HasValues (task crd rules review) v = (v.crd ≡ Some crd) × (v.rules ≡ Some rules) × (v.to ≡ None) × (v.turns ≡ None) × IsUnserved v
 HasValues (drill start count) v = ⊥
+HasValues (serve s) v = (v.crd ≡ Some s.crd) × (v.rules ≡ Some s.rules) × (v.to ≡ None) × (v.turns ≡ None)
+    × (v.listen ≡ Some s.place) × SpellsWorkers v.workers s.workers × SpellsConnections v.connections s.connections
 
 -- the words are this line, a command with its options
 pub record HasOptions (words : List (List ℕ)) (line : Line) : Type 0 where

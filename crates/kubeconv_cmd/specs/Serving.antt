@@ -27,7 +27,8 @@ use Rattle.kubeconv_cmd.specs.declared.pipe.PipeEnd.{PipeEnd}
 use Rattle.kubeconv_cmd.specs.declared.pipe.PipeEnd.TheVariants.{Closed, Torn, Refused, Spent, ReadFault, WriteFault}
 use Rattle.kubeconv_cmd.specs.Status.{status_of, pipe_status}
 use Rattle.drill_steps.specs.Drilling.{Tells, drilled}
-use Rattle.kubeconv_cmd.specs.Lines.{Task, Line, pipe, task, drill}
+use Rattle.kubeconv_cmd.specs.Lines.{Task, Line, pipe, task, drill, serve}
+use Rattle.kubeconv_cmd.specs.Listening.{RanService}
 use Rattle.kubeconv_cmd.specs.Tasks.{AnswersTexts, RefusesTexts, Wrote}
 use Rattle.kubeconv_cmd.specs.declared.status.TheConstants.{DONE, BAD_INPUT, REFUSED, READ_FAILED, NO_MEMORY}
 
@@ -170,3 +171,4 @@ abbrev pub Ran : Line → List ℕ → List ℕ → Start → List ℕ → Optio
 Ran (pipe named turns) crd rules start input before written status = ServesTexts crd rules turns start input before written status
 Ran (task c r t) crd rules start input before written status = RanTask crd rules t input before written status
 Ran (drill x n) crd rules start input before written status = RanDrill crd rules x n before written status
+Ran (serve s) crd rules start input before written status = RanService before written status

@@ -3,7 +3,7 @@ use Rattle.std.specs.Prelude.{◌==◌, ◌++◌, ℕ, List, [], codes, if◌the
 use Rattle.http_wire.specs.Stream.{End, closed, closing, spent, torn, refused}
 use Rattle.kubeconv_cmd.specs.declared.pipe.PipeEnd.{PipeEnd}
 use Rattle.kubeconv_cmd.specs.declared.pipe.PipeEnd.TheVariants.{Closed, Torn, Refused, Spent, ReadFault, WriteFault}
-use Rattle.kubeconv_cmd.specs.declared.status.TheConstants.{DONE, BAD_WORDS, READ_FAILED, WRITE_FAILED, NO_MEMORY, CUT, TOO_MANY}
+use Rattle.kubeconv_cmd.specs.declared.status.TheConstants.{DONE, BAD_WORDS, READ_FAILED, WRITE_FAILED, NO_MEMORY, LISTEN_FAILED, CUT, TOO_MANY}
 
 -- the status of the end of an input
 abbrev pub status_of : End → ℕ
@@ -28,7 +28,8 @@ fault_text status =
     if status == BAD_WORDS then codes "bad command line" else (
     if status == READ_FAILED then codes "read failed" else (
     if status == NO_MEMORY then codes "out of memory" else (
-    if status == CUT then codes "request cut or refused" else codes "too many requests")))
+    if status == LISTEN_FAILED then codes "listening failed" else (
+    if status == CUT then codes "request cut or refused" else codes "too many requests"))))
 
 -- an error line that says this
 abbrev pub line_saying : List ℕ → List ℕ

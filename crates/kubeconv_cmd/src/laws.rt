@@ -16,8 +16,10 @@ ghost use Rattle.review_batch.specs.declared.levels.TheConstants.{REVIEW_LEVELS 
 
 use crate::input::MOST_INPUT_BYTES;
 use crate::numbers::MOST_STEPS;
+use crate::service::{MOST_CONNECTIONS, MOST_WORKERS, USUAL_WORKERS};
 use crate::status::{
-    BAD_INPUT, BAD_WORDS, CUT, DONE, NO_MEMORY, READ_FAILED, REFUSED, TOO_MANY, WRITE_FAILED,
+    BAD_INPUT, BAD_WORDS, CUT, DONE, LISTEN_FAILED, NO_MEMORY, READ_FAILED, REFUSED, TOO_MANY,
+    WRITE_FAILED,
 };
 use crate::turns::MOST_TURNS;
 
@@ -30,6 +32,7 @@ pub fn statuses()
     ensures read_failed { READ_FAILED ≡ 5 }
     ensures write_failed { WRITE_FAILED ≡ 6 }
     ensures no_memory { NO_MEMORY ≡ 7 }
+    ensures listen_failed { LISTEN_FAILED ≡ 8 }
     ensures cut { CUT ≡ 9 }
     ensures too_many { TOO_MANY ≡ 10 }
 {}
@@ -45,6 +48,7 @@ pub fn bounds()
     ensures labels { most_label_bytes ≡ 63 }
     ensures documents { MOST_INPUT_BYTES ≡ 4_194_304 }
     ensures turns { MOST_TURNS ≡ 1_000 }
+    ensures service { (USUAL_WORKERS ≡ 2) × (MOST_WORKERS ≡ 15) × (MOST_CONNECTIONS ≡ 1_000_000) }
     ensures steps { MOST_STEPS ≡ 100_000 }
     ensures lists { most_limit_digits ≡ 18 }
     ensures reviews { (most_review_levels ≡ 67) × (most_answer_bytes ≡ 67_108_864) }

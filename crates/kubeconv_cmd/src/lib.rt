@@ -13,6 +13,8 @@ pub mod laws;
 mod drill_words;
 mod loading;
 mod numbers;
+mod serve_words;
+mod service;
 mod stop;
 mod turns;
 mod words;
@@ -30,14 +32,19 @@ mod tasks;
 // The work of `drill`.
 mod drill_line;
 
+// The work of `serve`.
+mod serve_line;
+
 // The statuses, and the top call.
 mod status;
 mod top;
 
 pub use input::MOST_INPUT_BYTES;
 pub use numbers::MOST_STEPS;
+pub use service::{MOST_CONNECTIONS, MOST_WORKERS, USUAL_WORKERS};
 pub use status::{
-    BAD_INPUT, BAD_WORDS, CUT, DONE, NO_MEMORY, READ_FAILED, REFUSED, TOO_MANY, WRITE_FAILED, ended,
+    BAD_INPUT, BAD_WORDS, CUT, DONE, LISTEN_FAILED, NO_MEMORY, READ_FAILED, REFUSED, TOO_MANY,
+    WRITE_FAILED, ended,
 };
 pub use top::run;
 pub use turns::MOST_TURNS;

@@ -34,6 +34,9 @@ pub const WRITE_FAILED: u8 = 6;
 /// Memory was wanted: of `pipe` before anything was read of the input.
 pub const NO_MEMORY: u8 = 7;
 
+/// No address could be listened at, or no further connection could be had.
+pub const LISTEN_FAILED: u8 = 8;
+
 /// The input ended inside a request, or the head of a request was refused.
 pub const CUT: u8 = 9;
 
@@ -73,6 +76,7 @@ fn error_line(status: u8) -> &'static str
         BAD_WORDS => "kubeconv: bad command line\n",
         READ_FAILED => "kubeconv: read failed\n",
         NO_MEMORY => "kubeconv: out of memory\n",
+        LISTEN_FAILED => "kubeconv: listening failed\n",
         CUT => "kubeconv: request cut or refused\n",
         _ => "kubeconv: too many requests\n",
     }
@@ -164,8 +168,8 @@ pub fn ended<E: Sink>(errors: &mut E, status: u8) -> u8
     }
 }
 
-// Ends a run at a file that is refused.
-fn refused<E: Sink>(errors: &mut E, file: &str, why: &Why) -> u8
+/// Ends a run at a file that is refused.
+pub(crate) fn refused<E: Sink>(errors: &mut E, file: &str, why: &Why) -> u8
     ensures status { result ≡ REFUSED }
     ensures line { ¬ (Rose (E.faults errors.old) (E.faults errors.new))
         → E.written errors.new ≡ append_known (E.written errors.old) (refusal_line file.now (why_text why.now)) }

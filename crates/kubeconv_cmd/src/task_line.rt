@@ -13,7 +13,8 @@ ghost use Rattle.kubeconv_cmd.specs.Halts.{OnHalt, OnFile, Unwritten, Past};
 use crate::halt::{Halt, halt_of};
 use crate::loading::load_files;
 use crate::status::{
-    BAD_INPUT, BAD_WORDS, DONE, NO_MEMORY, READ_FAILED, REFUSED, WRITE_FAILED, tell_task,
+    BAD_INPUT, BAD_WORDS, DONE, LISTEN_FAILED, NO_MEMORY, READ_FAILED, REFUSED, WRITE_FAILED,
+    tell_task,
 };
 use crate::tasks::do_task;
 use crate::words::Task;
@@ -91,6 +92,7 @@ pub(crate) fn run_task<F: Files, S: Source, K: Sink, E: Sink>(
     ensures read_fault { result ≡ READ_FAILED → Rose (F.faults files.old) (F.faults files.new) ⊎ Rose (S.faults input.old) (S.faults input.new) }
     ensures write_fault { result ≡ WRITE_FAILED → Rose (K.faults output.old) (K.faults output.new) }
     ensures words { result ≢ BAD_WORDS }
+    ensures no_ears { result ≢ LISTEN_FAILED }
     ensures silent { result ≢ DONE → result ≢ WRITE_FAILED → output.new ≡ output.old }
     ensures unserved { result ≡ REFUSED → input.new ≡ input.old }
     ensures end { result ≡ DONE → IsAtEnd (S.left input.new) }

@@ -6,7 +6,9 @@ ghost use Rattle.http_wire.specs.Head.{Request};
 ghost use Rattle.http_wire.specs.Stream.{End, Asks};
 ghost use Rattle.http_wire.specs.declared.limits.TheConstants.{MOST_REQUESTS};
 ghost use Rattle.kubeconv_cmd.specs.declared.pipe.PipeEnd.TheVariants.{ReadFault as ReadFaulted, WriteFault as WriteFaulted};
-ghost use Rattle.kubeconv_cmd.specs.Lines.{Named, Task as TaskView, Line, pipe, task as task_line, drill as drill_line, IsLine, Texts, named_in};
+ghost use Rattle.kubeconv_cmd.specs.Lines.{Named, Task as TaskView, Line, Service, pipe, task as task_line, drill as drill_line, serve, HearsNone, IsLine, Texts, named_in};
+ghost use Rattle.kubeconv_cmd.specs.Listening.{Announced, SaysOfService};
+ghost use Rattle.kubeconv_cmd.specs.Beside.{RunsService, ServesAll};
 ghost use Rattle.kubeconv_cmd.specs.Tasks.{AnswersTexts, Wrote, Broke, RefusesTexts};
 ghost use Rattle.kubeconv_cmd.specs.Serving.{DrillsTexts, Ran, Converses, Held, IsUnheld};
 ghost use Rattle.kubeconv_cmd.specs.Refusal.{RefusesNamed, RefusesSome, IsServed};
@@ -15,8 +17,9 @@ ghost use Rattle.kubeconv_cmd.specs.Given.{line_of};
 
 use crate::drill_line::run_drill;
 use crate::pipe_line::run_pipe;
+use crate::serve_line::run_serve;
 use crate::status::{
-    BAD_INPUT, BAD_WORDS, DONE, NO_MEMORY, READ_FAILED, REFUSED, WRITE_FAILED, ended,
+    BAD_INPUT, BAD_WORDS, DONE, LISTEN_FAILED, NO_MEMORY, READ_FAILED, REFUSED, WRITE_FAILED, ended,
 };
 use crate::task_line::run_task;
 use crate::words::{Command, Words, command_of};
@@ -24,9 +27,19 @@ use edge_io::{Clock, Ears, Files, Sink, Source};
 use std::alloc::Global;
 use std::sync::Wait;
 use std::thread::Threads;
+use std::time;
+use tcp_ears::Place;
 
 // Does what the words ask for.
-fn run_command<R: Wait, F: Files, S: Source, K: Sink, E: Sink, C: Clock>(
+fn run_command<
+    R: Threads + Wait + time::Clock + Sync,
+    F: Files,
+    S: Source,
+    K: Sink,
+    E: Sink,
+    A: Ears + Place + Send,
+    C: Clock + Sync,
+>(
     rt: &R,
     alloc: Global,
     command: Command<'_>,
@@ -34,6 +47,7 @@ fn run_command<R: Wait, F: Files, S: Source, K: Sink, E: Sink, C: Clock>(
     input: &mut S,
     output: &mut K,
     errors: &mut E,
+    ears: &mut A,
     clock: &C,
     boot: u64,
 ) -> u8
@@ -78,11 +92,21 @@ fn run_command<R: Wait, F: Files, S: Source, K: Sink, E: Sink, C: Clock>(
     ensures drill_silent { (start count : ℕ) → line_of command.entry ≡ (drill_line start count) → result ≢ DONE → result ≢ WRITE_FAILED → output.new ≡ output.old }
     ensures drill_ends { (start count : ℕ) → line_of command.entry ≡ (drill_line start count)
         → ((result ≡ DONE) ⊎ ((result ≡ WRITE_FAILED) ⊎ (result ≡ NO_MEMORY))) × (files.new ≡ files.old) × (input.new ≡ input.old) }
+    ensures serves { (s : Service) → line_of command.entry ≡ (serve s)
+        → RunsService s.connections
+        (λ count. (crd rules : List ℕ) → Texts (F.file files.old) (named_in (serve s)) crd rules
+        → ServesAll crd rules (record { boot = boot; told = C.told clock.now }) count (A.origins ears.old) (A.origins ears.new) (A.returned ears.old) (A.returned ears.new))
+        (Announced (K.written output.old) (K.written output.new) (K.flushed output.new)) (Rose (A.faults ears.old) (A.faults ears.new))
+        ((A.origins ears.new ≡ A.origins ears.old) × (A.returned ears.new ≡ A.returned ears.old)) result }
+    ensures ears { (line : Line) → line_of command.entry ≡ line → HearsNone line → ears.new ≡ ears.old }
+    ensures says { (s : Service) → line_of command.entry ≡ (serve s) → SaysOfService (K.written output.old) (K.written output.new) result }
+    ensures no_input { (s : Service) → line_of command.entry ≡ (serve s) → (input.new ≡ input.old) × (result ≢ BAD_INPUT) }
+    ensures ears_fault { result ≡ LISTEN_FAILED → Rose (A.faults ears.old) (A.faults ears.new) }
     ensures no_task { (named : Named) (turns : ℕ) → line_of command.entry ≡ pipe named turns → result ≢ BAD_INPUT }
     ensures read_fault { result ≡ READ_FAILED → Rose (F.faults files.old) (F.faults files.new) ⊎ Rose (S.faults input.old) (S.faults input.new) }
     ensures write_fault { result ≡ WRITE_FAILED → Rose (K.faults output.old) (K.faults output.new) }
     ensures words { result ≢ BAD_WORDS }
-    ensures memory { result ≡ NO_MEMORY → output.new ≡ output.old }
+    ensures memory { (line : Line) → line_of command.entry ≡ line → HearsNone line → result ≡ NO_MEMORY → output.new ≡ output.old }
     ensures unread_memory { (named : Named) (turns : ℕ) → line_of command.entry ≡ pipe named turns → result ≡ NO_MEMORY → input.new ≡ input.old }
     ensures unserved { result ≡ REFUSED → (input.new ≡ input.old) × (output.new ≡ output.old) }
     ensures errors { result ≢ REFUSED → result ≢ BAD_INPUT → ¬ (Rose (E.faults errors.old) (E.faults errors.new))
@@ -99,6 +123,9 @@ fn run_command<R: Wait, F: Files, S: Source, K: Sink, E: Sink, C: Clock>(
             run_task(alloc, crd, rules, task, files, input, output, errors)
         }
         Command::Drill { start, count } => run_drill(rt, alloc, start, count, output, errors),
+        Command::Serve(service) => {
+            run_serve(rt, alloc, service, files, output, errors, ears, clock, boot)
+        }
     }
 }
 
@@ -117,18 +144,24 @@ fn run_command<R: Wait, F: Files, S: Source, K: Sink, E: Sink, C: Clock>(
 ///   example, to which nothing has happened, COUNT steps are taken that a generator draws from the state START on, then turns of a
 ///   worker until it has nothing to do; what is written is nine lines that count what the replies were. It reads no file and no input.
 ///
+/// - `serve --crd FILE --rules FILE --listen ADDRESS`, with `--workers N`, 0 to 15 and 2 where no number is given, and `--connections N`, 1 to
+///   1,000,000: `ears` listen at the address, and `listening on ADDRESS` is written with the end of a line, where the address has the port
+///   that was taken. Then connections are answered beside each other, so many or, where no number is given, as many as come, with so many
+///   workers of migrations beside them. It reads no input.
+///
 /// The definition's file is read first, then that of the rules, and then both are loaded; nothing of the input is read before that.
 /// The input of `convert` and `review` has at most 4,194,304 bytes. Whether there is a version of the name is asked before it is read.
 ///
 /// | status | comes where |
 /// |---|---|
-/// | 0 | of `pipe` the input was read to its end between two requests, or an answered request asked for closing; of the others what is written was written |
+/// | 0 | of `pipe` the input was read to its end between two requests, or an answered request asked for closing; of `serve` as many connections were given back as were asked for; of the others what is written was written |
 /// | 2 | exactly where the words are no such line; nothing is read or written then but the error line |
 /// | 3 | a file is longer than 4,194,304 bytes, isn't UTF-8, or something of it is refused |
 /// | 4 | the input of `convert` or `review` is too long or refused, or no version has the name; nothing is written then but the error line |
 /// | 5 | only where the count of faults of `files` or of `input` rose |
 /// | 6 | only where the count of faults of `output` rose |
-/// | 7 | want of memory, with nothing written but the error line, and of `pipe` nothing read of the input |
+/// | 7 | want of memory, with nothing written but the error line, or of `serve` that it listens, and of `pipe` nothing read of the input |
+/// | 8 | only where the count of faults of `ears` rose: nobody can listen at the address, or no further connection could be had |
 /// | 9 | the input of `pipe` ended inside a request, or the head of a request was refused |
 /// | 10 | `pipe` answered 10,000 requests, and the last didn't ask for closing |
 ///
@@ -137,12 +170,12 @@ fn run_command<R: Wait, F: Files, S: Source, K: Sink, E: Sink, C: Clock>(
 /// NAME`, `NotReview PATH`, `NotJson`, `TooDeep`, `NotWhole`, `NotObject`, or the field of the document and the rule that it breaks. A failed
 /// write of the line changes no status.
 pub fn run<
-    R: Threads + Wait + Sync,
+    R: Threads + Wait + time::Clock + Sync,
     F: Files,
     S: Source,
     K: Sink,
     E: Sink,
-    A: Ears,
+    A: Ears + Place + Send,
     C: Clock + Sync,
 >(
     rt: &R,
@@ -152,7 +185,7 @@ pub fn run<
     input: &mut S,
     output: &mut K,
     errors: &mut E,
-    _ears: &mut A,
+    ears: &mut A,
     clock: &C,
     boot: u64,
 ) -> u8
@@ -211,23 +244,37 @@ pub fn run<
     ensures drill_silent { (start count : ℕ) → IsLine words.now (drill_line start count) → result ≢ DONE → result ≢ WRITE_FAILED → output.new ≡ output.old }
     ensures drill_ends { (start count : ℕ) → IsLine words.now (drill_line start count)
         → ((result ≡ DONE) ⊎ ((result ≡ WRITE_FAILED) ⊎ (result ≡ NO_MEMORY))) × (files.new ≡ files.old) × (input.new ≡ input.old) }
+    // Whatever the outside did, where connections were handed out a line of `serve` had told where it listens, and they were answered by
+    // one history and given back, as many as were asked for at 0 and fewer at 8; at each other status none was handed out.
+    ensures serves { (s : Service) → IsLine words.now (serve s)
+        → RunsService s.connections
+        (λ count. (crd rules : List ℕ) → Texts (F.file files.old) (named_in (serve s)) crd rules
+        → ServesAll crd rules (record { boot = boot; told = C.told clock.now }) count (A.origins ears.old) (A.origins ears.new) (A.returned ears.old) (A.returned ears.new))
+        (Announced (K.written output.old) (K.written output.new) (K.flushed output.new)) (Rose (A.faults ears.old) (A.faults ears.new))
+        ((A.origins ears.new ≡ A.origins ears.old) × (A.returned ears.new ≡ A.returned ears.old)) result }
+    // The other lines ask nothing of the ears.
+    ensures ears { (line : Line) → IsLine words.now line → HearsNone line → ears.new ≡ ears.old }
+    // At 0 it wrote the line that names a place, at 6 a front of it, at 3 and 5 nothing, at 7 and 8 the line or nothing; and it ends with no
+    // other status. It reads no input.
+    ensures says { (s : Service) → IsLine words.now (serve s) → SaysOfService (K.written output.old) (K.written output.new) result }
+    ensures no_input { (s : Service) → IsLine words.now (serve s) → (input.new ≡ input.old) × (result ≢ BAD_INPUT) }
+    ensures ears_fault { result ≡ LISTEN_FAILED → Rose (A.faults ears.old) (A.faults ears.new) }
     ensures no_task { (named : Named) (turns : ℕ) → IsLine words.now (pipe named turns) → result ≢ BAD_INPUT }
     ensures read_fault { result ≡ READ_FAILED → Rose (F.faults files.old) (F.faults files.new) ⊎ Rose (S.faults input.old) (S.faults input.new) }
     ensures write_fault { result ≡ WRITE_FAILED → Rose (K.faults output.old) (K.faults output.new) }
     ensures words_refused { (result ≡ BAD_WORDS) ↔ ((line : Line) → IsLine words.now line → ⊥) }
-    ensures memory { result ≡ NO_MEMORY → output.new ≡ output.old }
+    ensures memory { (line : Line) → IsLine words.now line → HearsNone line → result ≡ NO_MEMORY → output.new ≡ output.old }
     ensures unread_memory { (named : Named) (turns : ℕ) → IsLine words.now (pipe named turns) → result ≡ NO_MEMORY → input.new ≡ input.old }
     ensures unserved { result ≡ REFUSED → (input.new ≡ input.old) × (output.new ≡ output.old) }
-    ensures unused { result ≡ BAD_WORDS → (files.new ≡ files.old) × (input.new ≡ input.old) × (output.new ≡ output.old) }
+    ensures unused { result ≡ BAD_WORDS → (files.new ≡ files.old) × (input.new ≡ input.old) × (output.new ≡ output.old) × (ears.new ≡ ears.old) }
     ensures errors { result ≢ REFUSED → result ≢ BAD_INPUT → ¬ (Rose (E.faults errors.old) (E.faults errors.new))
         → E.written errors.new ≡ append_known (E.written errors.old) (error_line result) }
     ensures kept { (name : List ℕ) → F.file files.new name ≡ F.file files.old name }
-    ensures ears { _ears.new ≡ _ears.old }
 {
     match command_of(words) {
         Some(command) => {
             run_command(
-                rt, alloc, command, files, input, output, errors, clock, boot,
+                rt, alloc, command, files, input, output, errors, ears, clock, boot,
             )
         }
         None => ended(errors, BAD_WORDS),

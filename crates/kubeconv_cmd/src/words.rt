@@ -1,10 +1,12 @@
 //! The words of the command line.
 ghost use Rattle.std.specs.Prelude.{◌≡◌, ◌≢◌, ◌≤◌, ◌<◌, ◌↔◌, ◌++◌, ◌∷◌, [], ℕ, List, None, IfSome, IsTrue, MatchOption, codes, map, length};
 ghost use Rattle.kj_value.specs.Texts.{bytes_of};
-ghost use Rattle.kubeconv_cmd.specs.Lines.{Line, Flag as FlagView, HasOptions, IsLine, IsValue, SpellsTurns, flag_text, value_at, with_value};
+ghost use Rattle.kubeconv_cmd.specs.Lines.{Line, Flag as FlagView, HasOptions, IsLine, IsUnserved, IsValue, SpellsTurns, crd_flag, rules_flag, to_flag, listen_flag, workers_flag, connections_flag, flag_text, value_at, with_value};
 ghost use Rattle.kubeconv_cmd.specs.Given.{line_of, flag_in, values_in, TakesFirst, GivesOne, IsCommand};
 
 use crate::drill_words::drill_of;
+use crate::serve_words::{is_unserved, serve_of};
+use crate::service::Service;
 use crate::turns::turns_of;
 use kj_value::{TextList, Txt};
 
@@ -44,6 +46,8 @@ pub(crate) enum Command<'a> {
         start: u64,
         count: u64,
     },
+    /// To answer connections.
+    Serve(Service<'a>),
 }
 
 // The name of an option.
@@ -53,6 +57,9 @@ enum Flag {
     Rules,
     To,
     Turns,
+    Listen,
+    Workers,
+    Connections,
 }
 
 // An option with its value, and the words behind it.
@@ -63,13 +70,16 @@ struct Taken<'a> {
     rest: &'a [Txt],
 }
 
-// The options that are given.
+/// The options that are given.
 #[derive(Clone, Copy)]
-struct Given<'a> {
-    crd: Option<&'a str>,
-    rules: Option<&'a str>,
-    to: Option<&'a str>,
-    turns: Option<&'a str>,
+pub(crate) struct Given<'a> {
+    pub(crate) crd: Option<&'a str>,
+    pub(crate) rules: Option<&'a str>,
+    pub(crate) to: Option<&'a str>,
+    pub(crate) turns: Option<&'a str>,
+    pub(crate) listen: Option<&'a str>,
+    pub(crate) workers: Option<&'a str>,
+    pub(crate) connections: Option<&'a str>,
 }
 
 // Nothing is given.
@@ -78,6 +88,9 @@ const NOTHING: Given<'static> = Given {
     rules: None,
     to: None,
     turns: None,
+    listen: None,
+    workers: None,
+    connections: None,
 };
 
 // Whether a word can be a value: it isn't empty, and doesn't begin as an option does.
@@ -97,9 +110,10 @@ fn behind<'a>(word: &'a str, front: &str) -> Option<&'a str>
     word.strip_prefix(front)
 }
 
-// The option whose name stands at the front of a word, and what stands behind the name.
-fn flag_of(word: &str) -> Option<(Flag, &str)>
-    ensures { MatchOption result ((f : FlagView) (end : List ℕ) → word.now ≢ flag_text f ++ end)
+// The option whose name stands at the front of a word, and what stands behind the name, of those that name files and a version.
+fn file_flag_of(word: &str) -> Option<(Flag, &str)>
+    ensures { MatchOption result
+        (((end : List ℕ) → word.now ≢ flag_text crd_flag ++ end) × ((end : List ℕ) → word.now ≢ flag_text rules_flag ++ end) × ((end : List ℕ) → word.now ≢ flag_text to_flag ++ end))
         (λ p. word.now ≡ flag_text (flag_in p.0) ++ p.1.now) }
 {
     match behind(word, "--crd") {
@@ -108,10 +122,42 @@ fn flag_of(word: &str) -> Option<(Flag, &str)>
             Some(end) => Some((Flag::Rules, end)),
             None => match behind(word, "--to") {
                 Some(end) => Some((Flag::To, end)),
-                None => match behind(word, "--turns") {
-                    Some(end) => Some((Flag::Turns, end)),
-                    None => None,
-                },
+                None => None,
+            },
+        },
+    }
+}
+
+// The same of those that say where connections come, and how many.
+fn service_flag_of(word: &str) -> Option<(Flag, &str)>
+    ensures { MatchOption result
+        (((end : List ℕ) → word.now ≢ flag_text listen_flag ++ end) × ((end : List ℕ) → word.now ≢ flag_text workers_flag ++ end) × ((end : List ℕ) → word.now ≢ flag_text connections_flag ++ end))
+        (λ p. word.now ≡ flag_text (flag_in p.0) ++ p.1.now) }
+{
+    match behind(word, "--listen") {
+        Some(end) => Some((Flag::Listen, end)),
+        None => match behind(word, "--workers") {
+            Some(end) => Some((Flag::Workers, end)),
+            None => match behind(word, "--connections") {
+                Some(end) => Some((Flag::Connections, end)),
+                None => None,
+            },
+        },
+    }
+}
+
+// The option whose name stands at the front of a word, and what stands behind the name.
+fn flag_of(word: &str) -> Option<(Flag, &str)>
+    ensures { MatchOption result ((f : FlagView) (end : List ℕ) → word.now ≢ flag_text f ++ end)
+        (λ p. word.now ≡ flag_text (flag_in p.0) ++ p.1.now) }
+{
+    match behind(word, "--turns") {
+        Some(end) => Some((Flag::Turns, end)),
+        None => match file_flag_of(word) {
+            Some((flag, end)) => Some((flag, end)),
+            None => match service_flag_of(word) {
+                Some((flag, end)) => Some((flag, end)),
+                None => None,
             },
         },
     }
@@ -189,47 +235,54 @@ impl<'a> Given<'a> {
         ensures { MatchOption result (value_at (flag_in flag) (values_in self.entry) ≢ None)
             (λ g. (value_at (flag_in flag) (values_in self.entry) ≡ None) × (values_in g ≡ with_value (flag_in flag) value.now (values_in self.entry))) }
     {
-        let Given {
-            crd,
-            rules,
-            to,
-            turns,
-        } = self;
         match flag {
-            Flag::Crd => match crd {
+            Flag::Crd => match self.crd {
                 Some(_) => None,
                 None => Some(Given {
                     crd: Some(value),
-                    rules,
-                    to,
-                    turns,
+                    ..self
                 }),
             },
-            Flag::Rules => match rules {
+            Flag::Rules => match self.rules {
                 Some(_) => None,
                 None => Some(Given {
-                    crd,
                     rules: Some(value),
-                    to,
-                    turns,
+                    ..self
                 }),
             },
-            Flag::To => match to {
+            Flag::To => match self.to {
                 Some(_) => None,
                 None => Some(Given {
-                    crd,
-                    rules,
                     to: Some(value),
-                    turns,
+                    ..self
                 }),
             },
-            Flag::Turns => match turns {
+            Flag::Turns => match self.turns {
                 Some(_) => None,
                 None => Some(Given {
-                    crd,
-                    rules,
-                    to,
                     turns: Some(value),
+                    ..self
+                }),
+            },
+            Flag::Listen => match self.listen {
+                Some(_) => None,
+                None => Some(Given {
+                    listen: Some(value),
+                    ..self
+                }),
+            },
+            Flag::Workers => match self.workers {
+                Some(_) => None,
+                None => Some(Given {
+                    workers: Some(value),
+                    ..self
+                }),
+            },
+            Flag::Connections => match self.connections {
+                Some(_) => None,
+                None => Some(Given {
+                    connections: Some(value),
+                    ..self
                 }),
             },
         }
@@ -254,7 +307,8 @@ fn give<'a>(words: &'a [Txt], given: Given<'a>) -> Option<Given<'a>>
 
 // The line of `pipe` with these options, where so many turns are spelled.
 fn pipe_with<'a>(given: Given<'a>, turns: u64) -> Option<Command<'a>>
-    requires { SpellsTurns (values_in given).turns turns }
+    requires unserved { IsUnserved (values_in given) }
+    requires turns { SpellsTurns (values_in given).turns turns }
     ensures { IsCommand (codes "pipe") (values_in given.entry) result }
 {
     match given.to {
@@ -280,6 +334,7 @@ fn pipe_with<'a>(given: Given<'a>, turns: u64) -> Option<Command<'a>>
 
 // The line of `pipe` with these options.
 fn pipe_of<'a>(given: Given<'a>) -> Option<Command<'a>>
+    requires { IsUnserved (values_in given) }
     ensures { IsCommand (codes "pipe") (values_in given.entry) result }
 {
     match turns_of(given.turns) {
@@ -290,7 +345,8 @@ fn pipe_of<'a>(given: Given<'a>) -> Option<Command<'a>>
 
 // The line of `convert` with the options that aren't `--turns`.
 fn convert_with<'a>(given: Given<'a>) -> Option<Command<'a>>
-    requires { (values_in given).turns ≡ None }
+    requires unserved { IsUnserved (values_in given) }
+    requires turns { (values_in given).turns ≡ None }
     ensures { IsCommand (codes "convert") (values_in given.entry) result }
 {
     match given.to {
@@ -311,6 +367,7 @@ fn convert_with<'a>(given: Given<'a>) -> Option<Command<'a>>
 
 // The line of `convert` with these options.
 fn convert_of<'a>(given: Given<'a>) -> Option<Command<'a>>
+    requires { IsUnserved (values_in given) }
     ensures { IsCommand (codes "convert") (values_in given.entry) result }
 {
     match given.turns {
@@ -321,7 +378,8 @@ fn convert_of<'a>(given: Given<'a>) -> Option<Command<'a>>
 
 // The line of `review` with the options that aren't `--turns`.
 fn review_with<'a>(given: Given<'a>) -> Option<Command<'a>>
-    requires { (values_in given).turns ≡ None }
+    requires unserved { IsUnserved (values_in given) }
+    requires turns { (values_in given).turns ≡ None }
     ensures { IsCommand (codes "review") (values_in given.entry) result }
 {
     match given.to {
@@ -342,6 +400,7 @@ fn review_with<'a>(given: Given<'a>) -> Option<Command<'a>>
 
 // The line of `review` with these options.
 fn review_of<'a>(given: Given<'a>) -> Option<Command<'a>>
+    requires { IsUnserved (values_in given) }
     ensures { IsCommand (codes "review") (values_in given.entry) result }
 {
     match given.turns {
@@ -350,8 +409,9 @@ fn review_of<'a>(given: Given<'a>) -> Option<Command<'a>>
     }
 }
 
-// The line of a command with these options.
-fn command_named<'a>(word: &str, given: Given<'a>) -> Option<Command<'a>>
+// The line of a command with these options, of which none is of `serve` alone.
+fn unserved<'a>(word: &str, given: Given<'a>) -> Option<Command<'a>>
+    requires { IsUnserved (values_in given) }
     ensures { IsCommand word.now (values_in given.entry) result }
 {
     if word == "pipe" {
@@ -363,6 +423,25 @@ fn command_named<'a>(word: &str, given: Given<'a>) -> Option<Command<'a>>
     } else {
         None
     }
+}
+
+fn is_serve(word: &str) -> bool
+    ensures { IsTrue result ↔ (word.now ≡ codes "serve") }
+{
+    word == "serve"
+}
+
+// The line of a command with these options.
+fn command_named<'a>(word: &str, given: Given<'a>) -> Option<Command<'a>>
+    ensures { IsCommand word.now (values_in given.entry) result }
+{
+    if is_serve(word) {
+        return serve_of(given);
+    }
+    if is_unserved(given) {
+        return unserved(word, given);
+    }
+    None
 }
 
 // The line of a command with the options that the words behind it are.

@@ -4,9 +4,11 @@ use crate::going::{Outcome, run_case};
 use std::alloc::Global;
 use std::sync::Wait;
 use std::thread::Threads;
+use std::time::Clock;
 
 fn is_same(one: &Outcome, other: &Outcome) -> bool {
     one.output == other.output
+        && one.connection == other.connection
         && one.errors == other.errors
         && one.status == other.status
         && one.calls == other.calls
@@ -31,7 +33,7 @@ fn add_piece(
 }
 
 // In pieces of each size that the case names.
-fn run_pieces<R: Threads + Wait + Sync>(
+fn run_pieces<R: Threads + Wait + Clock + Sync>(
     rt: &R,
     alloc: Global,
     case: &Case,
@@ -47,7 +49,7 @@ fn run_pieces<R: Threads + Wait + Sync>(
 }
 
 // How many of the first writes fail, each with a front of what was to be written. There is no answer where one has none.
-fn failing_writes<R: Threads + Wait + Sync>(
+fn failing_writes<R: Threads + Wait + Clock + Sync>(
     rt: &R,
     alloc: Global,
     case: &Case,
@@ -66,7 +68,7 @@ fn failing_writes<R: Threads + Wait + Sync>(
 }
 
 // How much was written where each of the first reads fails, until none does.
-fn failing_reads<R: Threads + Wait + Sync>(
+fn failing_reads<R: Threads + Wait + Clock + Sync>(
     rt: &R,
     alloc: Global,
     case: &Case,
@@ -101,7 +103,7 @@ fn add_reads(alloc: Global, all: &mut String, lengths: &[usize]) -> Option<()> {
     Some(())
 }
 
-fn run_faults<R: Threads + Wait + Sync>(
+fn run_faults<R: Threads + Wait + Clock + Sync>(
     rt: &R,
     alloc: Global,
     case: &Case,
@@ -122,7 +124,7 @@ fn run_faults<R: Threads + Wait + Sync>(
 }
 
 /// Runs a case again as it says, and tells what that comes to beside the first run.
-pub(crate) fn run_again<R: Threads + Wait + Sync>(
+pub(crate) fn run_again<R: Threads + Wait + Clock + Sync>(
     rt: &R,
     alloc: Global,
     case: &Case,

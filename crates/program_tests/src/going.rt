@@ -1,11 +1,15 @@
 //! One run of the program in memory.
+ghost use Rattle.std.specs.Prelude.{IfSome};
+ghost use Rattle.edge_io.specs.MemoryEars.{IsUnread};
+
 use crate::case::{Case, Outside};
-use edge_io::{FixedClock, MemEars, MemFile, MemFiles, MemSink, MemSource};
+use edge_io::{FixedClock, MemConnection, MemEars, MemFile, MemFiles, MemSink, MemSource};
 use kj_value::{Stamp, Txt};
 use kubeconv_cmd::{Words, run};
 use std::alloc::Global;
 use std::sync::Wait;
 use std::thread::Threads;
+use std::time::Clock;
 
 // The words of a line `words WORD ..`.
 fn words_of(alloc: Global, line: &str) -> Option<Words> {
@@ -42,7 +46,9 @@ fn files_of(alloc: Global, case: &Case) -> Option<MemFiles> {
     Some(MemFiles::new(files, Vec::new(alloc)))
 }
 
-fn source_of(alloc: Global, case: &Case, outside: Outside) -> Option<MemSource> {
+fn source_of(alloc: Global, case: &Case, outside: Outside) -> Option<MemSource>
+    ensures { IfSome result IsUnread }
+{
     let piece = outside.piece;
     if piece == 0 {
         return None;
@@ -52,10 +58,23 @@ fn source_of(alloc: Global, case: &Case, outside: Outside) -> Option<MemSource> 
     Some(MemSource::new(bytes, piece, failing))
 }
 
+// Ears with one connection, which holds the input.
+fn ears_of(alloc: Global, case: &Case, outside: Outside) -> Option<MemEars> {
+    let source = source_of(alloc, case, Outside::new())?;
+    let Ok(sink) = MemSink::new(alloc, 100_000, Vec::new(alloc)) else {
+        return None;
+    };
+    let connection = MemConnection::new(alloc, source, sink).ok()?;
+    let connections = vec![in alloc; connection].ok()?;
+    let failing = vec![in alloc; outside.failing_ears].ok()?;
+    MemEars::new(alloc, connections, failing).ok()
+}
+
 /// What a run came to.
 #[derive(Drop)]
 pub(crate) struct Outcome {
     pub(crate) output: Vec<u8>,
+    pub(crate) connection: Vec<u8>,
     pub(crate) errors: Vec<u8>,
     pub(crate) status: u8,
     pub(crate) calls: u64,
@@ -65,22 +84,53 @@ pub(crate) struct Outcome {
 fn outcome_of(
     alloc: Global,
     output: &MemSink,
+    ears: &MemEars,
     errors: &MemSink,
     status: u8,
     calls: u64,
 ) -> Option<Outcome> {
     let output = output.bytes().to_vec(alloc).ok()?;
+    let connection = ears.last_written().unwrap_or(&[]).to_vec(alloc).ok()?;
     let errors = errors.bytes().to_vec(alloc).ok()?;
     Some(Outcome {
         output,
+        connection,
         errors,
         status,
         calls,
     })
 }
 
+// What a run writes to: its output, one of whose writes fails, and its errors.
+fn sinks_of(alloc: Global, outside: Outside) -> Option<(MemSink, MemSink)> {
+    let failing = vec![in alloc; outside.failing_write].ok()?;
+    let output = MemSink::new(alloc, 4_000_000, failing).ok()?;
+    let errors = MemSink::new(alloc, 1_000, Vec::new(alloc)).ok()?;
+    Some((output, errors))
+}
+
+// Runs the program in this outside.
+fn run_in<R: Threads + Wait + Clock + Sync>(
+    rt: &R,
+    alloc: Global,
+    words: &Words,
+    files: &mut MemFiles,
+    source: &mut MemSource,
+    output: &mut MemSink,
+    errors: &mut MemSink,
+    ears: &mut MemEars,
+) -> Option<Outcome> {
+    let clock = FixedClock::new(Stamp {
+        text: *b"2024-01-02T03:04:05Z",
+    });
+    let status = run(
+        rt, alloc, words, files, source, output, errors, ears, &clock, 0,
+    );
+    outcome_of(alloc, output, ears, errors, status, files.calls())
+}
+
 /// Runs the program over a case, where the outside behaves so.
-pub(crate) fn run_case<R: Threads + Wait + Sync>(
+pub(crate) fn run_case<R: Threads + Wait + Clock + Sync>(
     rt: &R,
     alloc: Global,
     case: &Case,
@@ -89,14 +139,9 @@ pub(crate) fn run_case<R: Threads + Wait + Sync>(
     let words = words_of(alloc, case.asked.words.as_str())?;
     let mut files = files_of(alloc, case)?;
     let mut source = source_of(alloc, case, outside)?;
-    let mut ears = MemEars::new(alloc, Vec::new(alloc), Vec::new(alloc)).ok()?;
-    let failing = vec![in alloc; outside.failing_write].ok()?;
-    let mut output = MemSink::new(alloc, 4_000_000, failing).ok()?;
-    let mut errors = MemSink::new(alloc, 1_000, Vec::new(alloc)).ok()?;
-    let clock = FixedClock::new(Stamp {
-        text: *b"2024-01-02T03:04:05Z",
-    });
-    let status = run(
+    let (mut output, mut errors) = sinks_of(alloc, outside)?;
+    let mut ears = ears_of(alloc, case, outside)?;
+    run_in(
         rt,
         alloc,
         &words,
@@ -105,8 +150,5 @@ pub(crate) fn run_case<R: Threads + Wait + Sync>(
         &mut output,
         &mut errors,
         &mut ears,
-        &clock,
-        0,
-    );
-    outcome_of(alloc, &output, &errors, status, files.calls())
+    )
 }

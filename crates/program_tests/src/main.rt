@@ -17,11 +17,14 @@
 //! | `head TEXT`, `input TEXT` | the text in the input, with the end of a line and without |
 //! | `size NUMBER` | a read gives so many bytes at most |
 //! | `fails NUMBER`, `unwritten NUMBER` | the read, or the write, with this number fails, counted from 0 |
+//! | `closed NUMBER` | the call of the ears with this number fails, counted from 0, of which the first listens |
 //! | `last NUMBER` | only so many bytes of the output are printed, behind the number of those before them and their digest (FIPS 180-4) |
 //! | `again NUMBER ..` | the case is run again with reads of so many bytes, and it is said whether it comes to the same |
 //! | `every` | it is run again with each write failing in turn, and with each read |
 //! | `@ FIRST END`, `@` | the lines between the two stand once for each number from FIRST on and below END, which stands for each `@` in them |
 //! | `.` | the case ends |
+//!
+//! The ears have one connection, which holds the input too. What was written to it is printed behind the output.
 //!
 //! Nothing here has a contract.
 #![tactic(auto)]

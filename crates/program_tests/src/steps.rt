@@ -5,6 +5,7 @@ use std::alloc::Global;
 use std::mem;
 use std::sync::Wait;
 use std::thread::Threads;
+use std::time::Clock;
 
 // What stands behind the word of a line.
 fn behind(line: &str) -> &str {
@@ -75,6 +76,7 @@ fn of_outside(outside: &mut Outside, word: u8, text: &str) -> Option<()> {
         b's' => outside.piece = text.parse::<usize>().ok()?,
         b'f' => outside.failing_read = text.parse::<u64>().ok()?,
         b'u' => outside.failing_write = text.parse::<u64>().ok()?,
+        b'c' => outside.failing_ears = text.parse::<u64>().ok()?,
         b'l' => outside.last = text.parse::<usize>().ok()?,
         b'D' => outside.spoils_crd = true,
         b'R' => outside.spoils_rules = true,
@@ -123,7 +125,7 @@ fn of_times(alloc: Global, case: &mut Case, word: u8, text: &str) -> Option<()> 
 }
 
 // Takes a line, and answers what is to be printed; there is no answer where it is no line, or memory is wanted.
-fn take_line<R: Threads + Wait + Sync>(
+fn take_line<R: Threads + Wait + Clock + Sync>(
     rt: &R,
     alloc: Global,
     case: &mut Case,
@@ -149,7 +151,7 @@ fn take_line<R: Threads + Wait + Sync>(
 }
 
 // Takes the lines of a block once for each of its numbers, with the number in place of each `@`.
-fn take_block<R: Threads + Wait + Sync>(
+fn take_block<R: Threads + Wait + Clock + Sync>(
     rt: &R,
     alloc: Global,
     case: &mut Case,
@@ -168,7 +170,7 @@ fn take_block<R: Threads + Wait + Sync>(
 }
 
 /// Takes a line, and answers what is to be printed; there is no answer where it is no line, or memory is wanted.
-pub(crate) fn take<R: Threads + Wait + Sync>(
+pub(crate) fn take<R: Threads + Wait + Clock + Sync>(
     rt: &R,
     alloc: Global,
     case: &mut Case,

@@ -6,6 +6,7 @@ use sha2::{Digest, Sha256};
 use std::alloc::Global;
 use std::sync::Wait;
 use std::thread::Threads;
+use std::time::Clock;
 
 // The digest of bytes, in hexadecimal digits.
 fn digest_of(alloc: Global, bytes: &[u8]) -> Option<String> {
@@ -39,6 +40,7 @@ fn add_output(alloc: Global, all: &mut String, output: &[u8], last: usize) -> Op
 pub(crate) fn told(alloc: Global, came: &Outcome, last: usize) -> Option<String> {
     let mut all = String::new(alloc);
     add_output(alloc, &mut all, came.output.as_slice(), last)?;
+    add_output(alloc, &mut all, came.connection.as_slice(), last)?;
     all.push_str(str::from_utf8(came.errors.as_slice()).ok()?)
         .ok()?;
     let line = format!(in alloc; "= {}, {} files read\n", came.status, came.calls).ok()?;
@@ -57,7 +59,7 @@ fn clear(alloc: Global, case: &mut Case) -> Option<()> {
 }
 
 /// Runs the program over a case, once and as often as it says, and answers what it came to.
-pub(crate) fn go<R: Threads + Wait + Sync>(
+pub(crate) fn go<R: Threads + Wait + Clock + Sync>(
     rt: &R,
     alloc: Global,
     case: &mut Case,

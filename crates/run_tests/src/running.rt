@@ -6,6 +6,7 @@ use std::alloc::Global;
 use std::sync::Wait;
 use std::test::*;
 use std::thread::Threads;
+use std::time::Clock;
 
 // What a run came to: the status, and what was written.
 pub(crate) struct Ran {
@@ -25,7 +26,7 @@ impl Drop for Ran {
 }
 
 // Runs `pipe` over a source, by the definition that is built in.
-pub(crate) fn pipe_over<R: Threads + Wait + Sync, S: Source>(
+pub(crate) fn pipe_over<R: Threads + Wait + Clock + Sync, S: Source>(
     rt: &R,
     alloc: Global,
     source: &mut S,

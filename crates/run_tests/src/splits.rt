@@ -8,6 +8,7 @@ use std::process::Abort;
 use std::sync::Wait;
 use std::test::*;
 use std::thread::Threads;
+use std::time::Clock;
 
 const POST: &str =
     "POST /apis/example.com/v1beta1/namespaces/default/crontabs HTTP/1.1\r\nContent-Length: 99\r\n\r\n{\"apiVersion\":\"example.com/v1beta1\",\"kind\":\"CronTab\",\"metadata\":{\"name\":\"a\"},\"address\":\"localhost\"}";
@@ -32,7 +33,7 @@ fn joined(alloc: Global, texts: &[&str]) -> Result<Vec<u8>, Fail> {
 }
 
 // `pipe` over this input comes to this.
-fn pipe<R: Threads + Wait + Sync + Abort>(
+fn pipe<R: Threads + Wait + Clock + Sync + Abort>(
     rt: &R,
     alloc: Global,
     input: &[u8],
@@ -65,7 +66,7 @@ fn two_pieces(rt: HostRuntime) -> Result<(), Fail> {
 }
 
 // The input ends at this place of two requests.
-fn cut_at<R: Threads + Wait + Sync + Abort>(
+fn cut_at<R: Threads + Wait + Clock + Sync + Abort>(
     rt: &R,
     alloc: Global,
     asked: &[u8],

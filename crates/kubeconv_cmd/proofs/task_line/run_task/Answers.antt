@@ -4,7 +4,7 @@ use Rattle.edge_io.specs.Causes.{Rose}
 use Rattle.kubeconv_cmd.specs.Lines.{from_files, Texts}
 use Rattle.kubeconv_cmd.specs.Tasks.{AnswersTexts, RefusesTexts, Broke}
 use Rattle.kubeconv_cmd.specs.Given.{task_of}
-use Rattle.kubeconv_cmd.proofs.TaskEnding.{ran, unwritten_of, at_done, at_write_fault, input_line, file_line, refuses}
+use Rattle.kubeconv_cmd.proofs.TaskEnding.{ran, unwritten_of, at_done, at_write_fault, input_line, file_line, refuses, never_heard}
 use Rattle.kubeconv_cmd.proofs.task_line.run_task.Goals as goal
 
 pub returns-clause-ran : goal.returns-clause-ran
@@ -48,3 +48,6 @@ returns-clause-refusal g c = λ e.
     (¬ (Rose (g.E.Sink.faults c.args.errors.now) (g.E.Sink.faults c.tell_task.new.errors)))
     (λ (text : List ℕ). g.E.Sink.written c.tell_task.new.errors ≡ append_known (g.E.Sink.written c.args.errors.now) text)
     c.perform-came.result c.tell_task.result c.perform-came.ensures.refused c.tell_task.ensures.line c.tell_task.ensures.status e
+
+pub returns-clause-no_ears : goal.returns-clause-no_ears
+returns-clause-no_ears g c = λ e. never_heard c.perform-came.result c.tell_task.result c.tell_task.ensures.status e

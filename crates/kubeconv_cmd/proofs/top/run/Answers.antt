@@ -1,5 +1,5 @@
 use Rattle.std.proofs.Common.{sym}
-use Rattle.kubeconv_cmd.specs.Lines.{pipe, task, drill}
+use Rattle.kubeconv_cmd.specs.Lines.{pipe, task, serve, drill}
 use Rattle.kubeconv_cmd.proofs.top.run.Goals as goal
 
 pub returns-in-Some-clause-talk : goal.returns-in-Some-clause-talk
@@ -32,6 +32,18 @@ returns-in-Some-clause-broke g c = λ c2 r2 k r b t is texts left bad. c.run_com
 pub returns-in-Some-clause-bad_input : goal.returns-in-Some-clause-bad_input
 returns-in-Some-clause-bad_input g c = λ c2 r2 t is bad. c.run_command.ensures.bad_input c2 r2 t (sym (c.in-Some.ensures.only (task c2 r2 t) is)) bad
 
+pub returns-in-Some-clause-serves : goal.returns-in-Some-clause-serves
+returns-in-Some-clause-serves g c = λ s is. c.run_command.ensures.serves s (sym (c.in-Some.ensures.only (serve s) is))
+
+pub returns-in-Some-clause-ears : goal.returns-in-Some-clause-ears
+returns-in-Some-clause-ears g c = λ line is none. c.run_command.ensures.ears line (sym (c.in-Some.ensures.only line is)) none
+
+pub returns-in-Some-clause-no_input : goal.returns-in-Some-clause-no_input
+returns-in-Some-clause-no_input g c = λ s is. c.run_command.ensures.no_input s (sym (c.in-Some.ensures.only (serve s) is))
+
+pub returns-in-Some-clause-memory : goal.returns-in-Some-clause-memory
+returns-in-Some-clause-memory g c = λ line is none wanted. c.run_command.ensures.memory line (sym (c.in-Some.ensures.only line is)) none wanted
+
 pub returns-in-None-clause-talk : goal.returns-in-None-clause-talk
 returns-in-None-clause-talk g c = λ line k r b is texts left nf nr nw. absurd (c.in-None.ensures.only line is)
 
@@ -61,3 +73,15 @@ returns-in-Some-clause-drill_ends g c = λ start count is. c.run_command.ensures
 
 pub returns-in-None-clause-drill_ends : goal.returns-in-None-clause-drill_ends
 returns-in-None-clause-drill_ends g c = λ start count is. absurd (c.in-None.ensures.only (drill start count) is)
+
+pub returns-in-None-clause-serves : goal.returns-in-None-clause-serves
+returns-in-None-clause-serves g c = λ s is. absurd (c.in-None.ensures.only (serve s) is)
+
+pub returns-in-None-clause-no_input : goal.returns-in-None-clause-no_input
+returns-in-None-clause-no_input g c = λ s is. absurd (c.in-None.ensures.only (serve s) is)
+
+pub returns-in-Some-clause-says : goal.returns-in-Some-clause-says
+returns-in-Some-clause-says g c = λ s is. c.run_command.ensures.says s (sym (c.in-Some.ensures.only (serve s) is))
+
+pub returns-in-None-clause-says : goal.returns-in-None-clause-says
+returns-in-None-clause-says g c = λ s is. absurd (c.in-None.ensures.only (serve s) is)

@@ -1,0 +1,24 @@
+//! What `serve` is told.
+ghost use Rattle.std.specs.Prelude.{◌≤◌};
+ghost use Rattle.kubeconv_cmd.specs.declared.service.TheConstants.{MOST_WORKERS};
+
+/// So many workers there are at most.
+pub const MOST_WORKERS: u64 = 15;
+
+/// So many workers there are where no number is given.
+pub const USUAL_WORKERS: u64 = 2;
+
+/// So many connections are waited for at most, where a number is given.
+pub const MOST_CONNECTIONS: u64 = 1_000_000;
+
+/// Whose connections are answered: the place at which they come, so many of them where a number is given, with so many workers
+/// beside them.
+#[derive(Clone, Copy)]
+pub(crate) struct Service<'a> {
+    pub(crate) crd: &'a str,
+    pub(crate) rules: &'a str,
+    pub(crate) place: &'a str,
+    pub(crate) workers: u64,
+    pub(crate) connections: Option<u64>,
+    ghost few: { workers ≤ MOST_WORKERS },
+}
