@@ -7,7 +7,7 @@ checked: 201 for a create, 200 for all others, status 0 at the end.
 
 A run answers at most 10,000 requests, the creates among them, so no run of `pipe` comes to the 16,384 objects that a server may
 hold. With 5,000 objects 4,900 requests are left to be timed over them; with more, what is left takes too little time beside the
-creates to be told from them."""
+creates to be told from them. `serve.py sizes` times the same chores over 1,000 and 16,000 objects, by several connections."""
 
 import sys
 

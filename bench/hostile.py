@@ -1,0 +1,284 @@
+#!/usr/bin/env python3
+"""Puts hostile peers in front of `kubeconv serve`, and looks whether the others are served meanwhile:
+
+- one that sends a byte a second: it is answered in the end;
+- one that asks for lists and never reads an answer: it is let go a minute after the last byte was written to it;
+- one that is gone in mid-body, and one that breaks its connection there: nothing is created;
+- one whose head has 16,384 bytes and no end: it is answered 431 and let go;
+- 200 connections on which nothing is sent: those that have a thread are let go after a minute.
+
+While they are there another connection makes requests, and migrations are started, which the workers are to finish. A connection that
+comes behind the 200 is to be answered too. Of the 65 places one is that of the connection that makes requests, so that 64 idle ones are
+let go a minute, and it waits two to four minutes: the system's queue holds 129, and whose try comes next when others are behind these is
+by chance. Prints what each came to, and ends with status 1 where something was stopped. It takes some five minutes, nearly all of which
+it waits; with --short some seconds. The program is built by `rt run` in its folder, or --address names a server that runs already."""
+
+import argparse
+import pathlib
+import socket
+import struct
+import sys
+import threading
+import time
+
+from programs import built
+from serving import (
+    DEFINITION,
+    MIGRATIONS,
+    Connection,
+    Gone,
+    Server,
+    address_of,
+    body_of,
+    path_of,
+    request,
+    seconds_now,
+)
+
+IDLE = 200
+IDLE_SECONDS = 60
+# So many seconds late an end may come, and so many an answer may take that others hold up.
+LATE_SECONDS = 15
+SLOW_SECONDS = 5
+HEAD_BYTES = 16_384
+LISTED = 500
+PAIRS = 100
+LOOKS = 600
+FAULTS = []
+
+
+def check(holds, what):
+    print(f"{'ok' if holds else 'WRONG':<6} {what}", flush=True)
+    if not holds:
+        FAULTS.append(what)
+
+
+class Early:
+    """A connection that was there before, which asks every second, and how long its slowest answer took."""
+
+    def __init__(self, address):
+        self.connection, self.lock, self.slowest = Connection(address), threading.Lock(), 0
+        self.over = threading.Event()
+        self.thread = threading.Thread(target=self.go_on, daemon=True)
+        self.thread.start()
+
+    def ask(self, method, path, body=None):
+        with self.lock:
+            start = seconds_now()
+            came = self.connection.ask(method, path, body)
+            self.slowest = max(self.slowest, seconds_now() - start)
+        return came
+
+    def go_on(self):
+        try:
+            while not self.over.wait(1):
+                self.ask("GET", path_of("v1", "many", "m000"))
+        except Gone as gone:
+            check(False, f"the connection that was there before is gone: {gone}")
+
+    def close(self):
+        self.over.set()
+        self.thread.join()
+        self.connection.close()
+
+
+def slow(address, came):
+    """Sends a request by one byte a second, which takes longer than a peer that sends nothing is waited for."""
+    connection = Connection(address, 3 * IDLE_SECONDS)
+    try:
+        for byte in request("GET", path_of("v1", "hostile", "slow")):
+            connection.send(bytes([byte]))
+            time.sleep(1)
+        came.append(connection.answer()[0])
+    except Gone as gone:
+        came.append(str(gone))
+    connection.close()
+
+
+def waiting(address, port):
+    """How many bytes the system holds that the server wrote to this port of ours, and that aren't read yet, or none."""
+    ours, servers = f"{port:04X}", f"{address[1]:04X}"
+    for row in pathlib.Path("/proc/net/tcp").read_text().splitlines()[1:]:
+        _number, here, there, _state, queues = row.split()[:5]
+        if here.endswith(f":{servers}") and there.endswith(f":{ours}"):
+            return int(queues.partition(":")[0], 16)
+    return None
+
+
+def deaf(address, came):
+    """Asks for lists, and reads nothing, until it is let go: the seconds from when the last byte was written to it."""
+    asked = request("GET", "/apis/example.com/v1/crontabs?limit=500")
+    peer = socket.socket()
+    # Little of what it is sent is held for it.
+    peer.setsockopt(socket.SOL_SOCKET, socket.SO_RCVBUF, HEAD_BYTES)
+    peer.connect(address)
+    peer.settimeout(1)
+    start = wrote = seconds_now()
+    held = 0
+    while seconds_now() - start < 10 * IDLE_SECONDS:
+        now = waiting(address, peer.getsockname()[1])
+        if now is not None and now > held:
+            held, wrote = now, seconds_now()
+        try:
+            peer.send(asked * 10)
+            time.sleep(0.1)
+        except TimeoutError:
+            continue
+        except OSError:
+            came.append(seconds_now() - wrote)
+            break
+    peer.close()
+
+
+def cut(address, broken):
+    """Is gone in mid-body, by an end or by a reset."""
+    connection = Connection(address)
+    sent = request("POST", path_of("v1", "hostile"), body_of("v1", "cut", ("h", "1", 1)))
+    connection.send(sent[:-10])
+    if broken:
+        connection.socket.setsockopt(socket.SOL_SOCKET, socket.SO_LINGER, struct.pack("ii", 1, 0))
+    connection.close()
+
+
+def long_head(address):
+    """What a head without an end is answered, and whether the connection is closed then."""
+    connection, code, closed = Connection(address), None, False
+    front = b"GET / HTTP/1.1\r\nX: "
+    connection.send(front + b"x" * (HEAD_BYTES - len(front)))
+    try:
+        code, _body = connection.answer()
+        connection.more()
+    except Gone:
+        closed = True
+    connection.close()
+    return code, closed
+
+
+def migrates(early):
+    """Moves the storage version, starts a migration, and sees it to its end."""
+    _code, definition = early.ask("GET", DEFINITION)
+    for version in definition["spec"]["versions"]:
+        version["storage"] = not version["storage"]
+    early.ask("PUT", DEFINITION, definition)
+    name = f"h{time.time_ns()}"
+    body = {
+        "apiVersion": "storagemigration.k8s.io/v1alpha1",
+        "kind": "StorageVersionMigration",
+        "metadata": {"name": name},
+        "spec": {"resource": {"group": "example.com", "resource": "crontabs"}},
+    }
+    code, shown = early.ask("POST", MIGRATIONS, body)
+    check(code == 201, f"a migration is started: {code}")
+    for _ in range(LOOKS):
+        _code, shown = early.ask("GET", f"{MIGRATIONS}/{name}")
+        if shown["status"]["conditions"][0]["type"] != "Running":
+            break
+        time.sleep(0.1)
+    condition = shown["status"]["conditions"][0]["type"]
+    check(condition == "Succeeded", f"the workers finish a migration: {condition}")
+
+
+def serves(early, pairs, mark):
+    """Creates objects and reads them, and has a migration done."""
+    for number in range(pairs):
+        code, _shown = early.ask("POST", path_of("v1", "hostile"), body_of("v1", f"{mark}{number}", ("h", str(number), 1)))
+        if code != 201:
+            check(False, f"a create is answered {code}")
+        code, _shown = early.ask("GET", path_of("v1beta1", "hostile", f"{mark}{number}"))
+        if code != 200:
+            check(False, f"a get is answered {code}")
+    migrates(early)
+
+
+def seconds_to_end(held, start):
+    """The seconds after which a connection on which nothing was sent is closed, or none where it isn't."""
+    held.settimeout(IDLE_SECONDS + LATE_SECONDS)
+    try:
+        return seconds_now() - start if held.recv(1) == b"" else None
+    except OSError:
+        return None
+
+
+def silent(address):
+    """A connection on which nothing is sent. It isn't waited for, since the system's queue of connections may be full."""
+    held = socket.socket()
+    held.setblocking(False)
+    held.connect_ex(address)
+    return held
+
+
+def behind(address, came):
+    """A connection that comes behind the idle ones: what it is answered."""
+    try:
+        connection = Connection(address, 6 * IDLE_SECONDS)
+        came.append(connection.ask("GET", path_of("v1", "many", "m000"))[0])
+        connection.close()
+    except (Gone, OSError) as fault:
+        came.append(str(fault))
+
+
+def idle(address, early, mark):
+    """Opens so many connections and sends nothing, while one that was there before makes requests; then one more, which is
+    answered in the end."""
+    start, came = seconds_now(), []
+    held = [silent(address) for _ in range(IDLE)]
+    last = threading.Thread(target=behind, args=(address, came))
+    last.start()
+    serves(early, PAIRS, mark)
+    seconds = seconds_to_end(held[0], start)
+    told = "never" if seconds is None else f"{seconds:.0f} seconds after it came"
+    check(seconds is not None and seconds >= IDLE_SECONDS - 1, f"an idle connection was closed {told}")
+    last.join()
+    seconds = seconds_now() - start
+    check(came == [200], f"a connection behind {IDLE} idle ones is answered {came}, after {seconds:.0f} seconds")
+    for it in held:
+        it.close()
+
+
+def main():
+    """Reads the words, runs and prints."""
+    parser = argparse.ArgumentParser(description=__doc__, formatter_class=argparse.RawDescriptionHelpFormatter)
+    parser.add_argument("--program", help="the built program (default: crates/kubeconv/out/kubeconv)")
+    parser.add_argument("--address", help="HOST:PORT of a server that runs already, and is left running")
+    parser.add_argument("--workers", type=int, default=2)
+    parser.add_argument("--short", action="store_true", help="without what takes a minute and more")
+    options = parser.parse_args()
+    server = None if options.address else Server(built("kubeconv", options.program, "pipe"), options.workers)
+    address = address_of(options.address) if options.address else server.address
+    mark = f"o{time.time_ns()}-"
+    # Lists that are worth not reading.
+    connection = Connection(address)
+    for number in range(LISTED):
+        connection.ask("POST", path_of("v1", "many"), body_of("v1", f"m{number:03}", ("h" * 200, str(number), 1)))
+    connection.close()
+    early, slow_came, deaf_came, peers = Early(address), [], [], []
+    if not options.short:
+        peers = [threading.Thread(target=slow, args=(address, slow_came)), threading.Thread(target=deaf, args=(address, deaf_came))]
+    for peer in peers:
+        peer.start()
+    cut(address, False)
+    cut(address, True)
+    code, closed = long_head(address)
+    check(code == 431 and closed, f"a head of {HEAD_BYTES} bytes with no end is answered {code} and let go")
+    serves(early, PAIRS, mark)
+    code, _shown = early.ask("GET", path_of("v1", "hostile", "cut"))
+    check(code == 404, f"what was cut in mid-body isn't there: {code}")
+    for peer in peers:
+        peer.join()
+    if not options.short:
+        check(slow_came == [404], f"the one that sends a byte a second is answered {slow_came}")
+        seconds = deaf_came[0] if deaf_came else 0
+        near = IDLE_SECONDS - 2 <= seconds <= IDLE_SECONDS + LATE_SECONDS
+        check(near, f"the one that never reads is let go {seconds:.0f} seconds after the last byte")
+        idle(address, early, f"{mark}i")
+    check(early.slowest < SLOW_SECONDS, f"another connection is answered meanwhile, the slowest time after {early.slowest:.3f} seconds")
+    early.close()
+    if server:
+        check(server.process.poll() is None, "the server still runs")
+        print(f"memory: {server.memory():.1f} MB, at most {server.memory('VmHWM'):.1f} MB; {server.threads()} threads")
+        server.stop()
+    sys.exit(1 if FAULTS else 0)
+
+
+if __name__ == "__main__":
+    main()
