@@ -1,0 +1,37 @@
+//! What holds of the one list by which the connections of a line of `serve` were answered: the workers beside them move nothing
+//! but resource versions, and behind a migration that succeeded no object stands elsewhere until the storage version changes.
+//!
+//! Each law is the contract of a function that does nothing. It knows nothing of how connections are served.
+#![tactic(auto)]
+
+ghost use Rattle.std.specs.Prelude.{◌≡◌, ◌∷◌, ◌++◌, [], List, Option, Some, ℕ, length};
+ghost use Rattle.kube_meta.specs.Plan.{Migration, running};
+ghost use Rattle.api_calls.specs.Item.{Item, Logged, MarkSucceeded, entry, items};
+ghost use Rattle.api_calls.specs.Laws.{KeepsStorage};
+ghost use Rattle.api_calls.specs.Legal.{Each};
+ghost use Rattle.api_calls.specs.State.{state};
+ghost use Rattle.edge_io.specs.Connections.{Ending, Origin};
+ghost use Rattle.serve_spans.specs.Owners.{Within};
+ghost use Rattle.kubeconv_cmd.specs.Beside.{ServesAll};
+ghost use Rattle.kubeconv_cmd.specs.Serving.{Start, served_meaning};
+ghost use Rattle.serve_laws.specs.Moves.{MovesNumbers};
+
+/// What is entered beside the connections of a line of `serve` is a worker's, and moves the resource version of one object at
+/// most, with the version at which it is stored. No value changes, no object comes or goes, and the flags and the stored versions
+/// stay.
+pub fn moves_only_numbers()
+    ensures { (crd rules : List ℕ) (start : Start) (count : ℕ) (h0 handed : Option (List Origin)) (g0 given : Option (List Ending))
+        → (s : ServesAll crd rules start count h0 handed g0 given) (before after : List Logged) (x : Logged)
+        → s.answered.log ≡ before ++ x ∷ after → ¬ (Within s.answered.spans (length before) x)
+        → MovesNumbers (state (served_meaning s.loaded) (items before)) (state (served_meaning s.loaded) (items before ++ x.item ∷ [])) }
+{}
+
+/// A migration that is marked Succeeded while connections are answered is of the storage version, and from then on each object
+/// stands there until the storage version changes, even if it changes back.
+pub fn stands_at_the_target()
+    ensures { (crd rules : List ℕ) (start : Start) (count : ℕ) (h0 handed : Option (List Origin)) (g0 given : Option (List Ending))
+        → (s : ServesAll crd rules start count h0 handed g0 given) (before after later : List Item)
+        → items s.answered.log ≡ before ++ entry MarkSucceeded ∷ (after ++ later)
+        → (m : Migration) × (running (state (served_meaning s.loaded) before).migrations ≡ Some m) × (m.target ≡ (state (served_meaning s.loaded) before).flags.storage)
+        × (Each (KeepsStorage m.target) after → Each (λ e. e.at ≡ m.target) (state (served_meaning s.loaded) (before ++ entry MarkSucceeded ∷ after)).objects) }
+{}
