@@ -1,12 +1,13 @@
-//! One run of `pipe` in memory.
-use edge_io::{FixedClock, MemEars, MemFiles, MemSink, Source};
+//! One run of the program in memory.
+use edge_io::{Clock, Ears, Files, FixedClock, MemEars, MemFile, MemFiles, MemSink, Sink, Source};
 use kj_value::{Stamp, Txt};
 use kubeconv_cmd::{Words, run};
 use std::alloc::Global;
 use std::sync::Wait;
 use std::test::*;
 use std::thread::Threads;
-use std::time::Clock;
+use std::time;
+use tcp_ears::Place;
 
 // What a run came to: the status, and what was written.
 pub(crate) struct Ran {
@@ -25,22 +26,86 @@ impl Drop for Ran {
     }
 }
 
-// Runs `pipe` over a source, by the definition that is built in.
-pub(crate) fn pipe_over<R: Threads + Wait + Clock + Sync, S: Source>(
+// The status of a run. Nothing is said of it, so that whoever runs the program takes over none of its clauses.
+fn status_of<
+    R: Threads + Wait + time::Clock + Sync,
+    F: Files,
+    S: Source,
+    K: Sink,
+    E: Sink,
+    A: Ears + Place + Send,
+    C: Clock + Sync,
+>(
     rt: &R,
     alloc: Global,
+    words: &Words,
+    files: &mut F,
     source: &mut S,
-) -> Result<Ran, Fail> {
+    output: &mut K,
+    errors: &mut E,
+    ears: &mut A,
+    clock: &C,
+) -> u8 {
+    run(
+        rt, alloc, words, files, source, output, errors, ears, clock, 0,
+    )
+}
+
+// The words of a line, of which none is empty.
+fn words_of(alloc: Global, line: &str) -> Result<Words, Fail> {
     let mut words = Words::new(alloc);
-    words.push(Txt::of(alloc, "pipe")?)?;
-    let mut files = MemFiles::new(Vec::new(alloc), Vec::new(alloc));
-    let mut ears = MemEars::new(alloc, Vec::new(alloc), Vec::new(alloc))?;
-    let mut output = MemSink::new(alloc, 1_000, Vec::new(alloc))?;
-    let mut errors = MemSink::new(alloc, 100, Vec::new(alloc))?;
+    for word in line.split(' ') {
+        words.push(Txt::of(alloc, word)?)?;
+    }
+    Ok(words)
+}
+
+fn file(alloc: Global, path: &str, text: &str) -> Result<MemFile, Fail> {
+    let bytes = text.as_bytes().to_vec(alloc)?;
+    Ok(MemFile::new(Txt::of(alloc, path)?, bytes))
+}
+
+// The files `crd.json` and `rules.json`, which hold the definition that is built in.
+fn built_in_files(alloc: Global) -> Result<MemFiles, Fail> {
+    let mut files = Vec::new(alloc);
+    files.push(file(alloc, "crd.json", built_in::definition())?)?;
+    files.push(file(alloc, "rules.json", built_in::rules())?)?;
+    Ok(MemFiles::new(files, Vec::new(alloc)))
+}
+
+// What a run writes to: its output, and its errors.
+fn sinks(alloc: Global) -> Result<(MemSink, MemSink), Fail> {
+    let output = MemSink::new(alloc, 1_000, Vec::new(alloc))?;
+    let errors = MemSink::new(alloc, 100, Vec::new(alloc))?;
+    Ok((output, errors))
+}
+
+// What stands in the sinks behind a run.
+fn ran_of(alloc: Global, status: u8, output: &MemSink, errors: &MemSink) -> Result<Ran, Fail> {
+    let output = output.bytes().to_vec(alloc)?;
+    let errors = errors.bytes().to_vec(alloc)?;
+    Ok(Ran {
+        status,
+        output,
+        errors,
+    })
+}
+
+// Runs a line over a source and ears, where the files `crd.json` and `rules.json` hold the definition that is built in.
+pub(crate) fn run_line<R: Threads + Wait + time::Clock + Sync, S: Source, A: Ears + Place + Send>(
+    rt: &R,
+    alloc: Global,
+    line: &str,
+    source: &mut S,
+    ears: &mut A,
+) -> Result<Ran, Fail> {
+    let words = words_of(alloc, line)?;
+    let mut files = built_in_files(alloc)?;
+    let (mut output, mut errors) = sinks(alloc)?;
     let clock = FixedClock::new(Stamp {
         text: *b"2024-01-02T03:04:05Z",
     });
-    let status = run(
+    let status = status_of(
         rt,
         alloc,
         &words,
@@ -48,13 +113,18 @@ pub(crate) fn pipe_over<R: Threads + Wait + Clock + Sync, S: Source>(
         source,
         &mut output,
         &mut errors,
-        &mut ears,
+        ears,
         &clock,
-        0,
     );
-    Ok(Ran {
-        status,
-        output: output.bytes().to_vec(alloc)?,
-        errors: errors.bytes().to_vec(alloc)?,
-    })
+    ran_of(alloc, status, &output, &errors)
+}
+
+// Runs `pipe` over a source, by the definition that is built in.
+pub(crate) fn pipe_over<R: Threads + Wait + time::Clock + Sync, S: Source>(
+    rt: &R,
+    alloc: Global,
+    source: &mut S,
+) -> Result<Ran, Fail> {
+    let mut ears = MemEars::new(alloc, Vec::new(alloc), Vec::new(alloc))?;
+    run_line(rt, alloc, "pipe", source, &mut ears)
 }

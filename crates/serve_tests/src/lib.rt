@@ -5,6 +5,4 @@
 #![tactic(auto)]
 
 #[cfg(test)]
-mod peers;
-#[cfg(test)]
 mod tests;

@@ -1,6 +1,5 @@
 ghost use Rattle.std.specs.Prelude.{◌≤◌};
 
-use crate::peers::{Peer, Peers};
 use api_calls::{NoTool, NoTools, Tools};
 use edge_io::{FixedClock, MemConnection, MemEars, MemSink, MemSource};
 use kj_value::{NoMemory, Stamp};
@@ -14,6 +13,7 @@ use std::test::*;
 use std::thread::Threads;
 use std::time::Clock;
 use versions_fixture::TwoNames;
+use waiting_peers::{GETS, Peer, Peers, SHOWN, three_for_a_migration};
 
 const ROOM: Limits = Limits {
     objects: 64,
@@ -37,12 +37,6 @@ const MIGRATES: &[u8] =
     b"POST /apis/example.com/v1beta1/namespaces/default/crontabs HTTP/1.1\r\nContent-Length: 99\r\n\r\n{\"apiVersion\":\"example.com/v1beta1\",\"kind\":\"CronTab\",\"metadata\":{\"name\":\"a\"},\"address\":\"localhost\"}PUT /apis/apiextensions.k8s.io/v1/customresourcedefinitions/crontabs.example.com HTTP/1.1\r\nContent-Length: 25\r\n\r\n{\"spec\":{\"storage\":\"v1\"}}POST /apis/storagemigration.k8s.io/v1alpha1/storageversionmigrations HTTP/1.1\r\nContent-Length: 172\r\n\r\n{\"apiVersion\":\"storagemigration.k8s.io/v1alpha1\",\"kind\":\"StorageVersionMigration\",\"metadata\":{\"name\":\"m\"},\"spec\":{\"resource\":{\"group\":\"example.com\",\"resource\":\"crontabs\"}}}GET /apis/storagemigration.k8s.io/v1alpha1/storageversionmigrations/m HTTP/1.1\r\n\r\n";
 
 const BEHIND: usize = 602;
-
-const GETS: &[u8] = b"GET /apis/example.com/v1/namespaces/default/crontabs/a HTTP/1.1\r\n\r\n";
-
-// The object once the migration wrote it.
-const SHOWN: &[u8] =
-    b"HTTP/1.1 200 OK\r\nContent-Type: application/json\r\nContent-Length: 238\r\n\r\n{\"apiVersion\":\"example.com/v1\",\"host\":\"localhost\",\"kind\":\"CronTab\",\"metadata\":{\"creationTimestamp\":\"2024-01-02T03:04:05Z\",\"generation\":1,\"name\":\"a\",\"namespace\":\"default\",\"resourceVersion\":\"5\",\"uid\":\"00000000-0000-8000-8000-000000000002\"}}";
 
 // Three connections in memory that each ask once, of which the ears' call of this number fails, and each read or write of this number.
 fn three(
@@ -150,16 +144,7 @@ fn served<R: Threads + Wait + Clock + Sync>(
 #[test]
 fn three_connections_and_a_worker_beside_each_other(rt: HostRuntime) -> Result<(), Fail> {
     let alloc = rt.alloc();
-    let word = Arc::new(alloc, AtomicBool::new(false))?;
-    let mut third = Peer::new(alloc, &word, MIGRATES, 0)?;
-    third.again = BEHIND;
-    third.times = 9_000;
-    third.until = b"Succeeded";
-    let mut second = Peer::new(alloc, &word, GETS, 1_000)?;
-    second.waits = true;
-    let mut first = Peer::new(alloc, &word, GETS, 1_000)?;
-    first.waits = true;
-    let peers = vec![in alloc; third, second, first]?;
+    let peers = three_for_a_migration(alloc, MIGRATES, BEHIND)?;
     let counted = served(&rt, alloc, peers, SHOWN, 1, u64::MAX)?;
     assert_eq!(&rt; counted, (ServeEnd::Done, 3, 2, 3));
     Ok(())

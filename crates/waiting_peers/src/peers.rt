@@ -2,13 +2,15 @@
 ghost use Rattle.std.specs.Prelude.{◌≡◌, ◌≤◌, None, Some, ℕ};
 
 use edge_io::{Ears, Failed, Sink, Source};
+use kj_value::{NoMemory, Txt};
 use std::alloc::{AllocError, Global};
 use std::sync::Arc;
 use std::sync::atomic::{AtomicBool, Ordering};
 use std::thread;
+use tcp_ears::Place;
 
-/// So often a peer that waits looks whether the word was given.
-const TRIES: u64 = 100_000_000;
+/// So often at most a peer that waits looks whether the word was given.
+pub const TRIES: u64 = 1_000_000_000;
 
 /// A connection with a peer. The peer sends a text, after the word was given where it waits for it, and then the text's end from
 /// `again` on, again and again until the word is given, so often at most. Once `until` was written to it the word is given. Its reads from
@@ -236,6 +238,7 @@ pub struct Peers {
 }
 
 impl Peers {
+    /// Ears that hand out these connections, whose answers are wanted so. None was given back.
     pub fn new(waiting: Vec<Peer>, wanted: &'static [u8]) -> Peers {
         Peers {
             waiting,
@@ -314,4 +317,12 @@ impl Ears for Peers {
     }
 
     ghost numbers_differ = { λ s. tt };
+}
+
+impl Place for Peers {
+    ghost place = { λ e. None };
+
+    fn place(&self, alloc: Global) -> Result<Txt, NoMemory> {
+        Txt::of(alloc, "here")
+    }
 }
