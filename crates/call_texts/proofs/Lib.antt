@@ -4,5 +4,6 @@ pub mod Showing
 pub mod IfOk
 pub mod Pieces
 pub mod Paging
+pub mod Caching
 pub mod Texts
 pub mod StoredTexts

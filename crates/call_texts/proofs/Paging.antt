@@ -1,5 +1,5 @@
 -- What a page shows: item by item, and the whole.
-use Rattle.std.proofs.Common.{◌≡◌, ℕ, zero, suc, ◌+◌, ◌-◌, ◌<◌, List, [], ◌∷◌, ◌++◌, length, map, take, get_or, Option, None, Some, Ok, Err, Bool, true, false, ap, sym, subst, refl, ◌∙◌, arith, append_assoc}
+use Rattle.std.proofs.Common.{◌≡◌, ℕ, zero, suc, ◌+◌, ◌-◌, ◌<◌, ◌≤◌, List, [], ◌∷◌, ◌++◌, length, map, take, get_or, Option, None, Some, Ok, Err, Bool, true, false, ap, sym, subst, refl, ◌∙◌, arith, append_assoc}
 use Rattle.std.proofs.lemmas.List.{append-nil}
 use Rattle.std.proofs.lemmas.Bool.Decides.{nat_tests}
 use Rattle.std.specs.Prelude.{IsTrue, codes, pos, slice_get, nat_eq, if◌then◌else◌, decimal}
@@ -102,6 +102,13 @@ added-item m boot v i before now after ss s j short is so_far shows adds = recor
 
     place : items_text (items_of so_far.documents) ++ (comma_before (length so_far.documents) ++ text_of j) ≡ items_text (items_of so_far.documents) ++ (comma_before i ++ text_of j)
     place = ap (λ (n : ℕ). items_text (items_of so_far.documents) ++ (comma_before n ++ text_of j)) (shown-length m boot v (take i ss) so_far.documents so_far.shown ∙ counted i ss short)
+
+-- all of a list
+pub take-all : {X : Type 0} (i : ℕ) (xs : List X) → length xs ≤ i → take i xs ≡ xs
+take-all zero [] h = refl
+take-all zero (x ∷ xs) h = absurd (omega (arith, h))
+take-all (suc i) [] h = refl
+take-all {X} (suc i) (x ∷ xs) h = ap (λ (ys : List X). x ∷ ys) (take-all i xs (omega (arith, h)))
 
 -- the element that was found at an index
 pub got-at : {X : Type 0} (xs : List X) (i : ℕ) (x : X) → i < length xs → x ≡ get_or xs i x → slice_get xs i ≡ Some x

@@ -38,18 +38,11 @@ pub shown_other : (m : Meaning) (boot v : ℕ) (g h : ObjectView) (number born :
 shown_other m boot v g h number born text same s =
     (s.0, (λ honest. subst (λ (o : ObjectView). m.pair v o s.0) (same honest) (s.1 honest)), s.2)
 
--- the reply that shows it
-pub seen_reply : (m : Meaning) (boot v : ℕ) (log : List Item) (k : KeyView) (p : Peeked) (seen : Seen) (r : ReplyView) → Sees m log k p → p.found ≡ Some seen
-    → served (state m log).flags v ≡ true → r.code ≡ code_ok
-    → ((h : ObjectView) → IsStored m seen.at h seen.bytes.bytes → IsShown m boot v h seen.rv seen.born r.text)
+-- the reply that shows the object of a key
+pub object_reply : (m : Meaning) (boot v : ℕ) (log : List Item) (k : KeyView) (e : Stored) (r : ReplyView) → find k (state m log).objects ≡ Some e
+    → served (state m log).flags v ≡ true → r.code ≡ code_ok → IsShown m boot v e.h e.number e.born r.text
     → GetReply m boot (state m log) v k (Ok r) None
-seen_reply m boot v log k p seen r sees is may code shows =
-    let (e, there, keeps) = kept m log k p seen sees is in
-    let text = keeps.text in
-    let shown : IsShown m boot v text.value seen.rv seen.born r.text = shows text.value (subst (λ (a : ℕ). IsStored m a text.value seen.bytes.bytes) (sym keeps.at) text.stored) in
-    let by_value : IsShown m boot v e.h seen.rv seen.born r.text = shown_other m boot v text.value e.h seen.rv seen.born r.text text.same shown in
-    let by_number : IsShown m boot v e.h e.number seen.born r.text = subst (λ (n : ℕ). IsShown m boot v e.h n seen.born r.text) keeps.number by_value in
-    let by_birth : IsShown m boot v e.h e.number e.born r.text = subst (λ (n : ℕ). IsShown m boot v e.h e.number n r.text) keeps.born by_number in
+object_reply m boot v log k e r there may code shown =
     let told : MatchOption (find k (state m log).objects) (Ok r ≡ Err (not_found k.name)) (λ x. ShowsObject m boot code_ok v x.h x.number x.born (Ok r)) =
-    subst (λ (o : Option Stored). MatchOption o (Ok r ≡ Err (not_found k.name)) (λ x. ShowsObject m boot code_ok v x.h x.number x.born (Ok r))) (sym there) (code, by_birth) in
+    subst (λ (o : Option Stored). MatchOption o (Ok r ≡ Err (not_found k.name)) (λ x. ShowsObject m boot code_ok v x.h x.number x.born (Ok r))) (sym there) (code, shown) in
     (refl, subst (λ (b : Bool). MatchBool b (MatchOption (find k (state m log).objects) (Ok r ≡ Err (not_found k.name)) (λ x. ShowsObject m boot code_ok v x.h x.number x.born (Ok r))) (Ok r ≡ Err no_resource)) (sym may) told)

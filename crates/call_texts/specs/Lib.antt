@@ -3,4 +3,5 @@ pub mod Faults
 pub mod Told
 pub mod Spelled
 pub mod PageTexts
+pub mod Cached
 pub mod Listing

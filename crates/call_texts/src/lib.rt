@@ -9,15 +9,16 @@
 // The definition that is shown by, and the parts of every text.
 mod documents;
 mod given;
+mod kept;
 mod page_text;
 mod place;
 mod refused;
+mod render;
 mod served;
 mod written;
 
 // What each call tells.
 mod get;
-mod item;
 mod list;
 mod raw;
 

@@ -1,3 +1,4 @@
+pub mod Caches
 pub mod Turns
 pub mod PageLooks
 pub mod Entering

@@ -1,5 +1,5 @@
 -- What a turn that copies a page comes to.
-use Rattle.std.proofs.Common.{◌≡◌, ℕ, ◌+◌, ◌-◌, ◌≤◌, ◌<◌, ◌^◌, List, [], ◌∷◌, Option, None, Some, Ok, Err, Bool, true, false, length, map, take, zero, suc, sym, subst, refl, ◌∙◌, arith}
+use Rattle.std.proofs.Common.{◌≡◌, ℕ, ◌+◌, ◌-◌, ◌≤◌, ◌<◌, ◌^◌, List, [], ◌∷◌, Option, None, Some, Ok, Err, Bool, true, false, length, map, take, zero, suc, inl, inr, ap, sym, subst, refl, ◌∙◌, arith}
 use Rattle.std.specs.Prelude.{Result, IfOk, IfErr, filter, not, nat_eq, nat_lt, if◌then◌else◌}
 use Rattle.kube_meta.specs.Key.{KeyView}
 use Rattle.kube_meta.specs.Page.{Page as PageOf, listed}
@@ -8,7 +8,7 @@ use Rattle.kube_meta.specs.declared.limits.Limits.{Limits}
 use Rattle.api_calls.specs.Calls.{Told, answered, Failure, no_memory, converter, Fails, failure_refusal, list}
 use Rattle.api_calls.specs.Growth.{next_number-revision}
 use Rattle.api_calls.specs.Item.{Item, entry, note, items}
-use Rattle.api_calls.specs.Legal.{Each}
+use Rattle.api_calls.specs.Legal.{Each, In}
 use Rattle.api_calls.specs.Meaning.{Meaning}
 use Rattle.api_calls.specs.Objects.{Stored}
 use Rattle.api_calls.specs.Pages.{PageEnd, Place, page_decision, place_page}
@@ -32,12 +32,15 @@ use Rattle.turn_cell.specs.Turns.{Gives}
 use Rattle.call_texts.specs.Told.{Came}
 use Rattle.shared_api.specs.Answered.{CallsOn}
 use Rattle.shared_api.specs.Base.{StandsCell, base_of, server_of}
+use Rattle.call_texts.specs.Cached.{AreCached, Stood, WasSeen}
 use Rattle.call_texts.specs.Listing.{IsSeen}
 use Rattle.shared_api.specs.PageTurns.{LooksPage}
 use Rattle.shared_api.specs.Turning.{Reads}
 use Rattle.shared_api.specs.declared.cell.CoreBase.{CoreBase}
 use Rattle.call_texts.proofs.Born.{BornBelow, born-from, later}
 use Rattle.call_texts.proofs.IfOk.{if_ok}
+use Rattle.form_cache.specs.Forms.{Form}
+use Rattle.shared_api.proofs.Caches.{prefix-cached}
 use Rattle.shared_api.proofs.Turns.{reads, reads_calls}
 
 -- ---- births of the objects of a page
@@ -72,28 +75,60 @@ number-upto n r (note x ∷ log) = number-upto n r log
 snap-born : (m : Meaning) (log : List Item) (r : ℕ) → Each (BornBelow (next_number log)) (snap m log r)
 snap-born m log r = later (next_number (upto 2 r log)) (next_number log) (number-upto 2 r log) (snap m log r) (born-from 2 (opening m) (upto 2 r log) tt)
 
-page-born : (m : Meaning) (log : List Item) (ns : Option (List ℕ)) (after : Option KeyView) (r limit : ℕ) → Each (BornBelow (next_number log)) (page_at m log ns after r limit).items
-page-born m log ns after r limit = by (nat_eq limit 0)
+-- what holds of each object at a number holds of each object of a page
+page-each : (P : Stored → Type 0) (m : Meaning) (log : List Item) (ns : Option (List ℕ)) (after : Option KeyView) (r limit : ℕ) → Each P (snap m log r)
+    → Each P (page_at m log ns after r limit).items
+page-each P m log ns after r limit h = by (nat_eq limit 0)
   where
     of_ns : List Stored
     of_ns = listed (λ (e : Stored). e.key) ns after (snap m log r)
 
-    born : Each (BornBelow (next_number log)) of_ns
-    born = each-filter (BornBelow (next_number log)) _ (snap m log r) (snap-born m log r)
+    holds : Each P of_ns
+    holds = each-filter P _ (snap m log r) h
 
-    of_births : PageOf Stored → Type 0
-    of_births p = Each (BornBelow (next_number log)) p.items
+    of_items : PageOf Stored → Type 0
+    of_items p = Each P p.items
 
-    by : (b : Bool) → of_births (if b then record { number = r; items = of_ns; remaining = 0 } else record { number = r; items = take limit of_ns; remaining = length of_ns - limit })
-    by true = born
-    by false = each-take (BornBelow (next_number log)) limit of_ns born
+    by : (b : Bool) → of_items (if b then record { number = r; items = of_ns; remaining = 0 } else record { number = r; items = take limit of_ns; remaining = length of_ns - limit })
+    by true = holds
+    by false = each-take P limit of_ns holds
+
+-- ---- the objects of a page stood after a beginning of the list
+
+upto-take : (n r : ℕ) (log : List Item) → (i : ℕ) × (take i log ≡ upto n r log)
+upto-take n r [] = (0, refl)
+upto-take n r (note x ∷ log) = let (i, is) = upto-take n r log in (suc i, ap (λ (is : List Item). note x ∷ is) is)
+upto-take n r (entry e ∷ log) = by (nat_lt r n) (upto-take (n + 1) r log)
+  where
+    by : (b : Bool) → (i : ℕ) × (take i log ≡ upto (n + 1) r log) → (i : ℕ) × (take i (entry e ∷ log) ≡ (if b then [] else entry e ∷ upto (n + 1) r log))
+    by true more = (0, refl)
+    by false (i, is) = (suc i, ap (λ (is : List Item). entry e ∷ is) is)
+
+all-in : {X : Type 0} (P : X → Type 0) (xs : List X) → ((x : X) → In x xs → P x) → Each P xs
+all-in P [] f = tt
+all-in P (x ∷ xs) f = (f x (inl refl), all-in P xs (λ y h. f y (inr h)))
+
+snap-stood : (m : Meaning) (log : List Item) (r : ℕ) → Each (Stood m log) (snap m log r)
+snap-stood m log r =
+    let (i, is) = upto-take 2 r log in
+    subst (λ (l : List Item). Each (Stood m log) (state m l).objects) is (all-in (Stood m log) (state m (take i log)).objects (λ e h. record { until = i; there = h }))
+
+-- what is known of each object of a page
+abbrev Kept : Meaning → List Item → List Stored → Type 0
+Kept m log es = Each (BornBelow (next_number log)) es × Each (Stood m log) es
+
+page-kept : (m : Meaning) (log : List Item) (ns : Option (List ℕ)) (after : Option KeyView) (r limit : ℕ) → Kept m log (page_at m log ns after r limit).items
+page-kept m log ns after r limit = (
+  page-each (BornBelow (next_number log)) m log ns after r limit (snap-born m log r),
+  page-each (Stood m log) m log ns after r limit (snap-stood m log r),
+)
 
 -- ---- a page that is decided
 
--- the version is served, and the objects were created before the next entry
+-- the version is served, and the objects were created before the next entry and stood after a beginning of the list
 record IsDecided (m : Meaning) (log : List Item) (at : ℕ) (q : PageOf Stored) : Type 0 where
   served : served (state m log).flags at ≡ true
-  born : Each (BornBelow (next_number log)) q.items
+  kept : Kept m log q.items
 
 same-page : (p q : PageOf Stored) → page.shown p ≡ page.shown q → p ≡ q
 same-page p q is = cc
@@ -102,21 +137,21 @@ decided-page : (limits : Limits) (m : Meaning) (log : List Item) (at : ℕ) (ns 
     → page_decision limits m log at ns limit token ≡ page.shown q → IsDecided m log at q
 decided-page limits m log at ns limit token q is = by (served (state m log).flags at) refl is
   where
-    Born : PageOf Stored → Type 0
-    Born p = Each (BornBelow (next_number log)) p.items
+    Held : PageOf Stored → Type 0
+    Held p = Kept m log p.items
 
     at_token : (t : Place) (a b : Bool)
-        → (if a then page.ahead (revision log) else if b then page.expired (floor limits m log) else page.shown (page_at m log ns (Some t.key) t.number limit)) ≡ page.shown q → Born q
+        → (if a then page.ahead (revision log) else if b then page.expired (floor limits m log) else page.shown (page_at m log ns (Some t.key) t.number limit)) ≡ page.shown q → Held q
     at_token t true b is = absurd (cc)
     at_token t false true is = absurd (cc)
-    at_token t false false is = subst Born (same-page (page_at m log ns (Some t.key) t.number limit) q is) (page-born m log ns (Some t.key) t.number limit)
+    at_token t false false is = subst Held (same-page (page_at m log ns (Some t.key) t.number limit) q is) (page-kept m log ns (Some t.key) t.number limit)
 
-    at_place : (t : Option Place) → place_page limits m log ns limit t ≡ page.shown q → Born q
-    at_place None is = subst Born (same-page (page_at m log ns None (revision log) limit) q is) (page-born m log ns None (revision log) limit)
+    at_place : (t : Option Place) → place_page limits m log ns limit t ≡ page.shown q → Held q
+    at_place None is = subst Held (same-page (page_at m log ns None (revision log) limit) q is) (page-kept m log ns None (revision log) limit)
     at_place (Some t) is = at_token t (nat_lt (revision log) t.number) (nat_lt t.number (floor limits m log)) is
 
     by : (b : Bool) → served (state m log).flags at ≡ b → (if not b then page.unserved else place_page limits m log ns limit token) ≡ page.shown q → IsDecided m log at q
-    by true may is = record { served = may; born = at_place token is }
+    by true may is = record { served = may; kept = at_place token is }
     by false may is = absurd (cc)
 
 are-seen : (m : Meaning) (n : ℕ) (ss : List Seen) (es : List Stored) → n ≤ 2 ^ 62 → AllPair (KeepsObject m) (map seen_item ss) es → Each (BornBelow n) es → Each (IsSeen m) ss
@@ -132,20 +167,31 @@ are-seen m n (s ∷ ss) (e ∷ es) few keeps born = (
 are-seen m n [] (e ∷ es) few keeps born = absurd keeps
 are-seen m n (s ∷ ss) [] few keeps born = absurd keeps
 
+were-seen : (m : Meaning) (log : List Item) (ss : List Seen) (es : List Stored) → AllPair (KeepsObject m) (map seen_item ss) es → Each (Stood m log) es → Each (WasSeen m log) ss
+were-seen m log [] [] keeps stood = tt
+were-seen m log (s ∷ ss) (e ∷ es) keeps stood = (record { object = e; stood = stood.0; keeps = keeps.0 }, were-seen m log ss es keeps.1 stood.1)
+were-seen m log [] (e ∷ es) keeps stood = absurd keeps
+were-seen m log (s ∷ ss) [] keeps stood = absurd keeps
+
 -- what is known of a page that is shown
-record IsKnown (m : Meaning) (at : ℕ) (p : Page) : Type 0 where
+record IsKnown (m : Meaning) (log : List Item) (at : ℕ) (p : Page) : Type 0 where
   known : at < m.count
   stored : Each (IsSeen m) p.items
+  was : Each (WasSeen m log) p.items
 
 known-page : (limits : Limits) (m : Meaning) (log : List Item) (at : ℕ) (ns : Option (List ℕ)) (limit : ℕ) (token : Option Place) (p : Page)
-    → (served (state m log).flags at ≡ true → at < m.count) → revision log ≤ 2 ^ 61 → ShowsPage m p (page_decision limits m log at ns limit token) → IsKnown m at p
+    → (served (state m log).flags at ≡ true → at < m.count) → revision log ≤ 2 ^ 61 → ShowsPage m p (page_decision limits m log at ns limit token) → IsKnown m log at p
 known-page limits m log at ns limit token p may few shows = by (page_decision limits m log at ns limit token) refl shows
   where
-    by : (d : PageEnd) → page_decision limits m log at ns limit token ≡ d → ShowsPage m p d → IsKnown m at p
+    by : (d : PageEnd) → page_decision limits m log at ns limit token ≡ d → ShowsPage m p d → IsKnown m log at p
     by (page.shown q) is keeps =
         let decided = decided-page limits m log at ns limit token q is in
         let next = next_number-revision log in
-        record { known = may decided.served; stored = are-seen m (next_number log) p.items q.items (omega (arith, next, few)) keeps.records decided.born }
+        record {
+          known = may decided.served;
+          stored = are-seen m (next_number log) p.items q.items (omega (arith, next, few)) keeps.records decided.kept.0;
+          was = were-seen m log p.items q.items keeps.records decided.kept.1;
+        }
     by page.unserved is keeps = absurd keeps
     by (page.ahead n) is keeps = absurd keeps
     by (page.expired n) is keeps = absurd keeps
@@ -173,6 +219,7 @@ looks_page {V = V} meaning c b v w z at ns limit token r f based is took behind 
       reads = turn;
       known = if_ok showing (λ p. at < m.count) r (λ p s. (known p s).known) here;
       stored = if_ok showing (λ p. Each (IsSeen m) p.items) r (λ p s. (known p s).stored) here;
+      was = if_ok showing (λ p. Each (WasSeen m (items w.seen)) p.items) r (λ p s. (known p s).was) here;
       shows = here;
       refuses = if_err (λ e. (log : List Item) → StandsFor meaning c log → RefusesPage e (page_decision c.view.limits m log at ns limit token))
           (λ e. RefusesPage e (page_decision c.view.limits m (items w.seen) at ns limit token)) r (λ e s. s (items w.seen) stands.0) refuses;
@@ -190,7 +237,7 @@ looks_page {V = V} meaning c b v w z at ns limit token r f based is took behind 
     here : IfOk r showing
     here = if_ok (λ p. (log : List Item) → StandsFor meaning c log → ShowsPage m p (page_decision c.view.limits m log at ns limit token)) showing r (λ p s. s (items w.seen) stands.0) shows
 
-    known : (p : Page) → showing p → IsKnown m at p
+    known : (p : Page) → showing p → IsKnown m (items w.seen) at p
     known p s =
         let same_flags : f ≡ (state m (items w.seen)).flags = flags ∙ stands.0.present.flags in
         known-page c.view.limits m (items w.seen) at ns limit token p (subst (λ (x : Flags). served x at ≡ true → at < m.count) same_flags may) turn.few s
@@ -202,16 +249,21 @@ list_fails place ns limit token no_memory = refl
 list_fails place ns limit token converter = refl
 
 pub list_calls : {V : Type 0} (meaning : V → Meaning) (b : CoreBase V) (it : V) (boot : ℕ) (rose : Type 0) (v z : View (CoreBase V)) (place : ℕ) (ns : Option (List ℕ)) (limit : ℕ)
-    (token : Option Place) (r : Result Page PageFault) (d : Answer) (t : Told)
-    → it ≡ b.versions → boot ≡ b.boot → LooksPage (server_of meaning b) v z place ns limit token r
-    → ((e : PageEnd) → IfOk r (λ p. ShowsPage (meaning it) p e) → IfErr r (λ f. RefusesPage f e) → Came rose (λ a i. (i ≡ None) × Pages (meaning it) boot place e a) d None)
+    (token : Option Place) (r : Result Page PageFault) (d : Answer) (t : Told) (fs : List Form)
+    → it ≡ b.versions → boot ≡ b.boot → LooksPage (server_of meaning b) v z place ns limit token r → AreCached (meaning b.versions) b.boot (items v.seen) fs
+    → ((log : List Item) (e : PageEnd) → IfOk r (λ p. Each (WasSeen (meaning it) log) p.items) → AreCached (meaning it) boot log fs
+    → IfOk r (λ p. ShowsPage (meaning it) p e) → IfErr r (λ f. RefusesPage f e) → Came rose (λ a i. (i ≡ None) × Pages (meaning it) boot place e a) d None)
     → t ≡ answered d
     → CallsOn (server_of meaning b) rose [] v z (list place ns limit token) t
-list_calls {V = V} meaning b it boot rose v z place ns limit token r d t same booted looked came told =
+list_calls {V = V} meaning b it boot rose v z place ns limit token r d t fs same booted looked cached came told =
     let log : List Item = items looked.log in
     let e : PageEnd = page_decision b.limits (meaning b.versions) log place ns limit token in
-    let shows = subst (λ (x : V). IfOk r (λ p. ShowsPage (meaning x) p e)) (sym same) looked.shows in
-    let here = subst (λ (n : ℕ). Came rose (λ a i. (i ≡ None) × Pages (meaning it) n place e a) d None) booted (came e shows looked.refuses) in
-    let there = subst (λ (x : V). Came rose (λ a i. (i ≡ None) × Pages (meaning x) b.boot place e a) d None) same here in
+    let here = prefix-cached (meaning b.versions) b.boot fs v.seen looked.log looked.reads.turned.0 cached in
+    let by_boot = subst
+    (λ (n : ℕ). (l : List Item) (q : PageEnd) → IfOk r (λ p. Each (WasSeen (meaning it) l) p.items) → AreCached (meaning it) n l fs
+    → IfOk r (λ p. ShowsPage (meaning it) p q) → IfErr r (λ f. RefusesPage f q) → Came rose (λ a i. (i ≡ None) × Pages (meaning it) n place q a) d None) booted came in
+    let by_it = subst
+    (λ (x : V). (l : List Item) (q : PageEnd) → IfOk r (λ p. Each (WasSeen (meaning x) l) p.items) → AreCached (meaning x) b.boot l fs
+    → IfOk r (λ p. ShowsPage (meaning x) p q) → IfErr r (λ f. RefusesPage f q) → Came rose (λ a i. (i ≡ None) × Pages (meaning x) b.boot place q a) d None) same by_boot in
     reads_calls (server_of meaning b) rose v z looked.log (list place ns limit token) (ListReply (meaning b.versions) b.limits b.boot log place ns limit token)
-    (λ a i h. (a, refl, h)) (list_fails place ns limit token) (λ h. tt) d t looked.reads there told
+    (λ a i h. (a, refl, h)) (list_fails place ns limit token) (λ h. tt) d t looked.reads (by_it log e looked.was here looked.shows looked.refuses) told

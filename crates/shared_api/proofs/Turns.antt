@@ -29,7 +29,10 @@ use Rattle.shared_api.specs.Base.{StandsCell, base_of, server_of}
 use Rattle.shared_api.specs.Passes.{ApiOf, Known, IsOf}
 use Rattle.shared_api.specs.Turning.{Reads, Looks, Settles}
 use Rattle.shared_api.specs.declared.cell.CoreBase.{CoreBase}
+use Rattle.call_texts.specs.Cached.{AreCached}
 use Rattle.call_texts.proofs.IfOk.{if_ok}
+use Rattle.form_cache.specs.Forms.{Form, Forms}
+use Rattle.shared_api.proofs.Caches.{calls-cached, prefix-cached}
 
 pub items-length : (log : List Logged) → length (items log) ≡ length log
 items-length [] = refl
@@ -129,14 +132,26 @@ reads_calls {B = B} s rose v z log c D decides fails converts d t reads came tol
           (comes s rose [] (items v.seen) (items log) c D decides fails converts d None came);
     }
 
--- a pass after its call is one of the server still
-pub is_of : {V A : Type 0} (meaning : V → Meaning) (a : ApiOf (CoreBase V)) (p q : Known (CoreBase V) A) (rose : Type 0) (stamp : List ℕ) (c : Call) (t : Told)
-    → IsOf meaning a p → q.table ≡ p.table → CallsOn (server_of meaning a.base) rose stamp p.view q.view c t → IsOf meaning a q
-is_of {V = V} meaning a p q rose stamp c t of same calls = record {
+-- a pass whose cache holds what is known of its list is one of the server still
+pub is_of_with : {V A : Type 0} (meaning : V → Meaning) (a : ApiOf (CoreBase V)) (p q : Known (CoreBase V) A) (rose : Type 0) (stamp : List ℕ) (c : Call) (t : Told)
+    → IsOf meaning a p → q.table ≡ p.table → AreCached (meaning a.base.versions) a.base.boot (items q.view.seen) q.forms.forms → q.forms.most ≡ p.forms.most
+    → CallsOn (server_of meaning a.base) rose stamp p.view q.view c t → IsOf meaning a q
+is_of_with {V = V} meaning a p q rose stamp c t of same cached most calls = record {
   table = same ∙ of.table;
   base = ap (λ (v : View (CoreBase V)). v.base) calls.turned.3 ∙ of.base;
   legal = calls.legal;
+  cached = cached;
+  most = most ∙ of.most;
 }
+
+-- a pass after a call that left its cache is one of the server still
+pub is_of : {V A : Type 0} (meaning : V → Meaning) (a : ApiOf (CoreBase V)) (p q : Known (CoreBase V) A) (rose : Type 0) (stamp : List ℕ) (c : Call) (t : Told)
+    → IsOf meaning a p → q.table ≡ p.table → q.forms ≡ p.forms → CallsOn (server_of meaning a.base) rose stamp p.view q.view c t → IsOf meaning a q
+is_of {V = V} meaning a p q rose stamp c t of same left calls =
+    is_of_with meaning a p q rose stamp c t of same
+    (subst (λ (f : Forms). AreCached (meaning a.base.versions) a.base.boot (items q.view.seen) f.forms) (sym left)
+    (calls-cached (server_of meaning a.base) rose stamp p.view q.view c t p.forms.forms calls of.cached))
+    (ap (λ (f : Forms). f.most) left) calls
 
 -- ---- a get
 
@@ -146,18 +161,18 @@ get_fails v k converter = refl
 
 -- the call of a get, from what its look saw
 pub get_calls : {V : Type 0} (meaning : V → Meaning) (b : CoreBase V) (it : V) (boot : ℕ) (rose : Type 0) (v z : View (CoreBase V)) (k : KeyView) (place : ℕ) (r : Result Peeked NoMemory)
-    (d : Answer) (t : Told)
-    → it ≡ b.versions → boot ≡ b.boot → Looks (server_of meaning b) v z k r
-    → ((log : List Item) → IfOk r (λ p. Sees (meaning it) log k p) → Came rose (GetReply (meaning it) boot (state (meaning it) log) place k) d None)
+    (d : Answer) (t : Told) (fs : List Form)
+    → it ≡ b.versions → boot ≡ b.boot → Looks (server_of meaning b) v z k r → AreCached (meaning b.versions) b.boot (items v.seen) fs
+    → ((log : List Item) → IfOk r (λ p. Sees (meaning it) log k p) → AreCached (meaning it) boot log fs → Came rose (GetReply (meaning it) boot (state (meaning it) log) place k) d None)
     → t ≡ answered d
     → CallsOn (server_of meaning b) rose [] v z (get place k) t
-get_calls {V = V} meaning b it boot rose v z k place r d t same booted looked came told =
+get_calls {V = V} meaning b it boot rose v z k place r d t fs same booted looked cached came told =
     let log : List Item = items looked.log in
-    let sees = subst (λ (x : V). IfOk r (λ p. Sees (meaning x) log k p)) (sym same) looked.sees in
-    let here = subst (λ (n : ℕ). Came rose (GetReply (meaning it) n (state (meaning it) log) place k) d None) booted (came log sees) in
-    let there = subst (λ (x : V). Came rose (GetReply (meaning x) b.boot (state (meaning x) log) place k) d None) same here in
+    let here = prefix-cached (meaning b.versions) b.boot fs v.seen looked.log looked.reads.turned.0 cached in
+    let by_boot = subst (λ (n : ℕ). (l : List Item) → IfOk r (λ p. Sees (meaning it) l k p) → AreCached (meaning it) n l fs → Came rose (GetReply (meaning it) n (state (meaning it) l) place k) d None) booted came in
+    let by_it = subst (λ (x : V). (l : List Item) → IfOk r (λ p. Sees (meaning x) l k p) → AreCached (meaning x) b.boot l fs → Came rose (GetReply (meaning x) b.boot (state (meaning x) l) place k) d None) same by_boot in
     reads_calls (server_of meaning b) rose v z looked.log (get place k) (GetReply (meaning b.versions) b.boot (state (meaning b.versions) log) place k)
-    (λ a i h. (a, refl, h)) (get_fails place k) (λ h. tt) d t looked.reads there told
+    (λ a i h. (a, refl, h)) (get_fails place k) (λ h. tt) d t looked.reads (by_it log looked.sees here) told
 
 -- ---- a raw get
 

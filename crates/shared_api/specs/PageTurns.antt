@@ -9,6 +9,7 @@ use Rattle.api_core.specs.declared.page_ends.Page.{Page}
 use Rattle.api_core.specs.declared.page_ends.PageFault.{PageFault}
 use Rattle.turn_cell.specs.declared.view.View.{View}
 use Rattle.shared_api.specs.Turning.{Reads}
+use Rattle.call_texts.specs.Cached.{WasSeen}
 use Rattle.call_texts.specs.Listing.{IsSeen}
 
 -- a look at a page, at a version
@@ -17,5 +18,6 @@ pub record LooksPage {B : Type 0} (s : Server) (v z : View B) (at : ℕ) (ns : O
   pub reads : Reads s v z log
   pub known : IfOk r (λ p. at < s.meaning.count)
   pub stored : IfOk r (λ p. Each (IsSeen s.meaning) p.items)
+  pub was : IfOk r (λ p. Each (WasSeen s.meaning (items log)) p.items)
   pub shows : IfOk r (λ p. ShowsPage s.meaning p (page_decision s.limits s.meaning (items log) at ns limit token))
   pub refuses : IfErr r (λ f. RefusesPage f (page_decision s.limits s.meaning (items log) at ns limit token))

@@ -1,5 +1,7 @@
 //! The core that callers share, and the right to call.
-ghost use Rattle.std.specs.Prelude.{◌≡◌, ◌+◌, ◌<◌, ◌^◌, IfOk, IsOk};
+ghost use Rattle.std.specs.Prelude.{◌≡◌, ◌+◌, ◌<◌, ◌^◌, [], IfOk, OnErr, OnOk};
+ghost use Rattle.form_cache.specs.Forms.{forms_of};
+ghost use Rattle.form_cache.specs.Limits.{forms_of_a_pass};
 ghost use Rattle.turn_cell.specs.Turns.{IsNew, Meets};
 ghost use Rattle.turn_cell.specs.Views.{opening_view, halved};
 ghost use Rattle.shared_api.specs.Passes.{IsOf};
@@ -8,6 +10,7 @@ use crate::cell::{CoreBase, CoreCell};
 use api_calls::Versions;
 use api_core::Core;
 use call_texts::Given;
+use form_cache::{FormCache, PASS_FORMS};
 use kj_value::NoMemory;
 use kube_meta::Limits;
 use std::alloc::Global;
@@ -41,11 +44,13 @@ impl<V: Versions + Drop> Model for SharedApi<V> {
     } };
 }
 
-/// The right to call, with a tool. Contracts see its table, what it has seen, and its tool. It rests between two calls.
+/// The right to call, with a tool and a cache of the texts that it last showed. Contracts see its table, what it has seen, its
+/// tool, and the forms in its cache. It rests between two calls.
 #[derive(Drop)]
 pub struct Pass<V: Versions + Drop> {
     pub(crate) turn: PassOf<CoreCell<V>, CoreBase<V>>,
     pub(crate) tool: V::Tool,
+    pub(crate) cache: FormCache,
 }
 
 impl<V: Versions + Drop> Model for Pass<V> {
@@ -58,7 +63,7 @@ impl<V: Versions + Drop> Model for Pass<V> {
 
     ghost coded = { known_code (base_code V.code) V.Tool.code };
 
-    ghost view = { λ p. record { table = p.turn.seat.table_id; view = p.turn.seat.me.0; tool = p.tool } };
+    ghost view = { λ p. record { table = p.turn.seat.table_id; view = p.turn.seat.me.0; tool = p.tool; forms = p.cache } };
 
     ghost invariant = { λ p. IsResting p.turn.seat.me.0 };
 }
@@ -66,7 +71,7 @@ impl<V: Versions + Drop> Model for Pass<V> {
 impl<V: Versions + Drop> SharedApi<V> {
     /// The server of a definition to which nothing has happened, with the definition's opening flags, and its first pass,
     /// which is alone and has seen nothing. `boot` is the number of its start. It takes the memory that these limits ask
-    /// for; `NoMemory` comes where there is none.
+    /// for, and that of the pass's cache, which is empty and holds 256 texts at most; `NoMemory` comes where there is none.
     pub fn open(
         alloc: Global,
         versions: V,
@@ -79,10 +84,12 @@ impl<V: Versions + Drop> SharedApi<V> {
         ensures base { IfOk result (λ r. r.0.base ≡ record { versions = versions; limits = limits; boot = boot }) }
         ensures new { IfOk result (λ r. r.1.view ≡ opening_view r.0.base) }
         ensures tool { IfOk result (λ r. r.1.tool ≡ tool) }
+        ensures cache { IfOk result (λ r. r.1.forms ≡ forms_of [] forms_of_a_pass) }
     {
         let versions = Arc::new(alloc, versions)?;
         let again = versions.clone()?;
         let core = Core::open(alloc, again, limits, boot)?;
+        let cache = FormCache::open(alloc, PASS_FORMS)?;
         let (turn, pass) = Turn::open(alloc, CoreCell { core })?;
         let api = SharedApi {
             alloc,
@@ -91,11 +98,17 @@ impl<V: Versions + Drop> SharedApi<V> {
             limits,
             boot,
         };
-        Ok((api, Pass { turn: pass, tool }))
+        let pass = Pass {
+            turn: pass,
+            tool,
+            cache,
+        };
+        Ok((api, pass))
     }
 
-    /// A pass of its own, which has seen what `from` has seen, and has half of its share. It takes no memory and so is
-    /// never refused. It may wait for another call that makes a pass.
+    /// A pass of its own, which has seen what `from` has seen, and has half of its share. It takes the memory of its cache,
+    /// which is empty and holds 256 texts at most. At `NoMemory` there is no new pass, and `from` is as it was. It may wait
+    /// for another call that makes a pass.
     pub fn new_pass<R: Wait>(
         &self,
         rt: &R,
@@ -103,24 +116,32 @@ impl<V: Versions + Drop> SharedApi<V> {
         tool: V::Tool,
     ) -> Result<Pass<V>, NoMemory>
         requires of { IsOf V.meaning self.now from.old }
-        ensures of { IsOf V.meaning self.now from.new × IsOk result × IfOk result (λ p. IsOf V.meaning self.now p) }
-        ensures left { from.new ≡ record from.old { view = halved from.old.view } }
+        ensures of { IsOf V.meaning self.now from.new × IfOk result (λ p. IsOf V.meaning self.now p) }
+        ensures left { OnOk result (from.new ≡ record from.old { view = halved from.old.view }) }
+        ensures refused { OnErr result (from.new ≡ from.old) }
         ensures new { IfOk result (λ p. IsNew from.old.view p.view) }
         ensures tool { IfOk result (λ p. p.tool ≡ tool) }
+        ensures cache { IfOk result (λ p. p.forms ≡ forms_of [] forms_of_a_pass) }
     {
+        let cache = FormCache::open(self.alloc, PASS_FORMS)?;
         let turn = self.turn.new_pass(rt, &mut from.turn)?;
-        Ok(Pass { turn, tool })
+        Ok(Pass { turn, tool, cache })
     }
 
     /// Takes in another pass: what it had seen, its numbers and its share. Afterwards `into` has seen the longer of the two
-    /// lists, and each is a beginning of it. The other tool is dropped. It takes no memory.
+    /// lists, and each is a beginning of it. The other tool and the other cache are dropped. It takes no memory.
     pub fn meet(&self, into: &mut Pass<V>, from: Pass<V>)
         requires of { IsOf V.meaning self.now into.old × IsOf V.meaning self.now from }
         ensures of { IsOf V.meaning self.now into.new }
         ensures met { Meets into.old.view from.view into.new.view }
         ensures tool { into.new.tool ≡ into.old.tool }
+        ensures cache { into.new.forms ≡ into.old.forms }
     {
-        let Pass { turn, tool: _ } = from;
+        let Pass {
+            turn,
+            tool: _,
+            cache: _,
+        } = from;
         self.turn.meet(&mut into.turn, turn);
     }
 

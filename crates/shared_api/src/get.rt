@@ -34,6 +34,6 @@ impl<V: Versions + Drop> SharedApi<V> {
         let lent = self.given();
         let v = place_of(lent.versions, version);
         let looked = look(rt, self.alloc, &self.turn, &mut pass.turn, key);
-        plain(lent.got(&mut pass.tool, v, key, looked))
+        plain(lent.got(&mut pass.tool, &mut pass.cache, v, key, looked))
     }
 }

@@ -47,6 +47,6 @@ impl<V: Versions + Drop> SharedApi<V> {
             limit,
             token,
         );
-        plain(lent.listed(&mut pass.tool, v, looked))
+        plain(lent.listed(&mut pass.tool, &mut pass.cache, v, looked))
     }
 }

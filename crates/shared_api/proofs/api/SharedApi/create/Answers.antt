@@ -37,7 +37,7 @@ pub returns-clause-of : goal.returns-clause-of
 unfolding returns-clause-answer
 returns-clause-of g c =
     is_of g.V.Versions.meaning c.args.self.now c.args.pass.now
-    (record { table = c.create_with-came.new.pass.seat.table_id; view = c.create_with-came.new.pass.seat.me.0; tool = c.create_with-came.new.tool })
+    (record { table = c.create_with-came.new.pass.seat.table_id; view = c.create_with-came.new.pass.seat.me.0; tool = c.create_with-came.new.tool; forms = c.pass.inside.cache })
     (g.V.Tool.Tool.faults c.args.pass.now.tool < g.V.Tool.Tool.faults c.create_with-came.new.tool) c.args.stamp.text
     (create (record { version = c.place_of-v.result; ns = c.args.ns.now; name = None; bytes = c.args.bytes.now })) (told c.plain.result) c.requires.of
-    (c.create_with-came.ensures.own ∙ ap (λ (k : Known (CoreBase g.row.V.Denot) g.row.V-Tool.Denot). k.table) c.pass.view_is) (returns-clause-answer g c).2
+    (c.create_with-came.ensures.own ∙ ap (λ (k : Known (CoreBase g.row.V.Denot) g.row.V-Tool.Denot). k.table) c.pass.view_is) (ap (λ (k : Known (CoreBase g.row.V.Denot) g.row.V-Tool.Denot). k.forms) c.pass.view_is) (returns-clause-answer g c).2

@@ -42,10 +42,10 @@ pub returns-in-Ok-false-clause-of : goal.returns-in-Ok-false-clause-of
 unfolding returns-in-Ok-false-clause-answer
 returns-in-Ok-false-clause-of g c =
     is_of g.V.Versions.meaning c.args.self.now c.args.pass.now
-    (record { table = c.settle.new.pass.seat.table_id; view = c.settle.new.pass.seat.me.0; tool = c.pass.inside.tool })
+    (record { table = c.settle.new.pass.seat.table_id; view = c.settle.new.pass.seat.me.0; tool = c.pass.inside.tool; forms = c.pass.inside.cache })
     (g.V.Tool.Tool.faults c.args.pass.now.tool < g.V.Tool.Tool.faults c.pass.inside.tool) c.args.stamp.text
     (delete c.place_of-v.result c.args.key.now c.args.bytes.now) (answered (Err (refusal_of c.unserved_options.result))) c.requires.of
-    (c.settle.ensures.own ∙ ap (λ (k : Known (CoreBase g.row.V.Denot) g.row.V-Tool.Denot). k.table) c.pass.view_is) (returns-in-Ok-false-clause-answer g c).2
+    (c.settle.ensures.own ∙ ap (λ (k : Known (CoreBase g.row.V.Denot) g.row.V-Tool.Denot). k.table) c.pass.view_is) (ap (λ (k : Known (CoreBase g.row.V.Denot) g.row.V-Tool.Denot). k.forms) c.pass.view_is) (returns-in-Ok-false-clause-answer g c).2
 
 pub returns-in-Err-clause-answer : goal.returns-in-Err-clause-answer
 returns-in-Err-clause-answer g c =
@@ -70,10 +70,10 @@ pub returns-in-Err-clause-of : goal.returns-in-Err-clause-of
 unfolding returns-in-Err-clause-answer
 returns-in-Err-clause-of g c =
     is_of g.V.Versions.meaning c.args.self.now c.args.pass.now
-    (record { table = c.settle-settings.new.pass.seat.table_id; view = c.settle-settings.new.pass.seat.me.0; tool = c.pass.inside.tool })
+    (record { table = c.settle-settings.new.pass.seat.table_id; view = c.settle-settings.new.pass.seat.me.0; tool = c.pass.inside.tool; forms = c.pass.inside.cache })
     (g.V.Tool.Tool.faults c.args.pass.now.tool < g.V.Tool.Tool.faults c.pass.inside.tool) c.args.stamp.text
     (delete c.place_of-v.result c.args.key.now c.args.bytes.now) (answered (Err no_memory)) c.requires.of
-    (c.settle-settings.ensures.own ∙ ap (λ (k : Known (CoreBase g.row.V.Denot) g.row.V-Tool.Denot). k.table) c.pass.view_is) (returns-in-Err-clause-answer g c).2
+    (c.settle-settings.ensures.own ∙ ap (λ (k : Known (CoreBase g.row.V.Denot) g.row.V-Tool.Denot). k.table) c.pass.view_is) (ap (λ (k : Known (CoreBase g.row.V.Denot) g.row.V-Tool.Denot). k.forms) c.pass.view_is) (returns-in-Err-clause-answer g c).2
 
 pub returns-clause-answer : goal.returns-clause-answer
 returns-clause-answer g c =
@@ -100,7 +100,7 @@ pub returns-clause-of : goal.returns-clause-of
 unfolding returns-clause-answer
 returns-clause-of g c =
     is_of g.V.Versions.meaning c.args.self.now c.args.pass.now
-    (record { table = c.delete_with.new.pass.seat.table_id; view = c.delete_with.new.pass.seat.me.0; tool = c.delete_with.new.tool })
+    (record { table = c.delete_with.new.pass.seat.table_id; view = c.delete_with.new.pass.seat.me.0; tool = c.delete_with.new.tool; forms = c.pass.inside.cache })
     (g.V.Tool.Tool.faults c.args.pass.now.tool < g.V.Tool.Tool.faults c.delete_with.new.tool) c.args.stamp.text
     (delete c.place_of-v.result c.args.key.now c.args.bytes.now) (told c.plain.result) c.requires.of
-    (c.delete_with.ensures.own ∙ ap (λ (k : Known (CoreBase g.row.V.Denot) g.row.V-Tool.Denot). k.table) c.pass.view_is) (returns-clause-answer g c).2
+    (c.delete_with.ensures.own ∙ ap (λ (k : Known (CoreBase g.row.V.Denot) g.row.V-Tool.Denot). k.table) c.pass.view_is) (ap (λ (k : Known (CoreBase g.row.V.Denot) g.row.V-Tool.Denot). k.forms) c.pass.view_is) (returns-clause-answer g c).2

@@ -21,6 +21,6 @@ returns-clause-answer g c =
 pub returns-clause-of : goal.returns-clause-of
 returns-clause-of g c =
     is_of g.V.Versions.meaning c.args.self.now c.args.pass.now
-    (record { table = c.settle.new.pass.seat.table_id; view = c.settle.new.pass.seat.me.0; tool = c.pass.inside.tool })
+    (record { table = c.settle.new.pass.seat.table_id; view = c.settle.new.pass.seat.me.0; tool = c.pass.inside.tool; forms = c.pass.inside.cache })
     ⊥ [] group (told c.plain.result) c.requires.of
-    (c.settle.ensures.own ∙ ap (λ (k : Known (CoreBase g.row.V.Denot) g.row.V-Tool.Denot). k.table) c.pass.view_is) (returns-clause-answer g c)
+    (c.settle.ensures.own ∙ ap (λ (k : Known (CoreBase g.row.V.Denot) g.row.V-Tool.Denot). k.table) c.pass.view_is) (ap (λ (k : Known (CoreBase g.row.V.Denot) g.row.V-Tool.Denot). k.forms) c.pass.view_is) (returns-clause-answer g c)

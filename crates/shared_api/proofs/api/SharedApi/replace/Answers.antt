@@ -48,7 +48,7 @@ pub returns-clause-of : goal.returns-clause-of
 unfolding returns-clause-answer
 returns-clause-of g c =
     is_of g.V.Versions.meaning c.args.self.now c.args.pass.now
-    (record { table = c.replace_with-came.new.pass.seat.table_id; view = c.replace_with-came.new.pass.seat.me.0; tool = c.replace_with-came.new.tool })
+    (record { table = c.replace_with-came.new.pass.seat.table_id; view = c.replace_with-came.new.pass.seat.me.0; tool = c.replace_with-came.new.tool; forms = c.pass.inside.cache })
     (g.V.Tool.Tool.faults c.args.pass.now.tool < g.V.Tool.Tool.faults c.replace_with-came.new.tool) []
     (replace (record { version = c.place_of-v.result; ns = c.args.key.now.ns; name = Some c.args.key.now.name; bytes = c.args.bytes.now }) c.args.key.now) (told c.plain.result) c.requires.of
-    (c.replace_with-came.ensures.own ∙ ap (λ (k : Known (CoreBase g.row.V.Denot) g.row.V-Tool.Denot). k.table) c.pass.view_is) (returns-clause-answer g c).2
+    (c.replace_with-came.ensures.own ∙ ap (λ (k : Known (CoreBase g.row.V.Denot) g.row.V-Tool.Denot). k.table) c.pass.view_is) (ap (λ (k : Known (CoreBase g.row.V.Denot) g.row.V-Tool.Denot). k.forms) c.pass.view_is) (returns-clause-answer g c).2

@@ -34,13 +34,13 @@ returns-clause-answer g c =
 pub returns-in-Err-clause-of : goal.returns-in-Err-clause-of
 returns-in-Err-clause-of g c =
     is_of g.V.Versions.meaning c.args.self.now c.args.pass.now
-    (record { table = c.settle-settings.new.pass.seat.table_id; view = c.settle-settings.new.pass.seat.me.0; tool = c.pass.inside.tool })
+    (record { table = c.settle-settings.new.pass.seat.table_id; view = c.settle-settings.new.pass.seat.me.0; tool = c.pass.inside.tool; forms = c.pass.inside.cache })
     ⊥ [] (start c.args.bytes.now) (answered (Err (refusal_of c.in-Err.refused.refusal))) c.requires.of
-    (c.settle-settings.ensures.own ∙ ap (λ (k : Known (CoreBase g.row.V.Denot) g.row.V-Tool.Denot). k.table) c.pass.view_is) (returns-in-Err-clause-answer g c)
+    (c.settle-settings.ensures.own ∙ ap (λ (k : Known (CoreBase g.row.V.Denot) g.row.V-Tool.Denot). k.table) c.pass.view_is) (ap (λ (k : Known (CoreBase g.row.V.Denot) g.row.V-Tool.Denot). k.forms) c.pass.view_is) (returns-in-Err-clause-answer g c)
 
 pub returns-clause-of : goal.returns-clause-of
 returns-clause-of g c =
     is_of g.V.Versions.meaning c.args.self.now c.args.pass.now
-    (record { table = c.start-end.new.pass.seat.table_id; view = c.start-end.new.pass.seat.me.0; tool = c.pass.inside.tool })
+    (record { table = c.start-end.new.pass.seat.table_id; view = c.start-end.new.pass.seat.me.0; tool = c.pass.inside.tool; forms = c.pass.inside.cache })
     ⊥ [] (start c.args.bytes.now) (told c.plain.result) c.requires.of
-    (c.start-end.ensures.own ∙ ap (λ (k : Known (CoreBase g.row.V.Denot) g.row.V-Tool.Denot). k.table) c.pass.view_is) (returns-clause-answer g c)
+    (c.start-end.ensures.own ∙ ap (λ (k : Known (CoreBase g.row.V.Denot) g.row.V-Tool.Denot). k.table) c.pass.view_is) (ap (λ (k : Known (CoreBase g.row.V.Denot) g.row.V-Tool.Denot). k.forms) c.pass.view_is) (returns-clause-answer g c)

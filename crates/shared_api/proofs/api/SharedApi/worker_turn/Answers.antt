@@ -10,7 +10,8 @@ use Rattle.api_core.specs.Keeps.{IsText}
 use Rattle.turn_cell.specs.declared.view.View.{View}
 use Rattle.shared_api.specs.Answered.{CallsOn}
 use Rattle.shared_api.specs.Base.{server_of}
-use Rattle.shared_api.specs.Passes.{Known}
+use Rattle.shared_api.specs.Passes.{IsOf, Known}
+use Rattle.shared_api.specs.Working.{first_of, second_of}
 use Rattle.shared_api.specs.Steps.{IsTold, IsToPrepare}
 use Rattle.shared_api.specs.declared.cell.CoreBase.{CoreBase}
 use Rattle.shared_api.specs.declared.step.Begun.TheVariants as begun
@@ -18,6 +19,7 @@ use Rattle.shared_api.specs.declared.step.WorkFault.TheVariants as fault
 use Rattle.shared_api.specs.Faults.{work_fault}
 use Rattle.shared_api.specs.declared.step.TurnStep.{TurnStep}
 use Rattle.shared_api.specs.declared.step.WorkFault.{WorkFault}
+use Rattle.shared_api.proofs.Caches.{writes-cached}
 use Rattle.shared_api.proofs.WorkCalls.{copy-key, copy-ready, copy-said, ended_calls, failed_asked, failed_calls, fault-rose, on_err, ready-seen, touched_calls}
 use Rattle.shared_api.proofs.api.SharedApi.worker_turn.Goals as goal
 
@@ -37,10 +39,13 @@ pub returns-in-Ended-clause-of : goal.returns-in-Ended-clause-of
 returns-in-Ended-clause-of g c =
     let based : c.pass.inside.turn.seat.me.0.base ≡ Some c.args.self.now.base = ap (λ (k : Known (CoreBase g.row.V.Denot) g.row.V-Tool.Denot). k.view.base) c.pass.view_is ∙ c.requires.of.base in
     let began = c.in-Ended.ensures.begins c.args.self.now.base based in
+    let inside = subst (λ (k : Known (CoreBase g.row.V.Denot) g.row.V-Tool.Denot). IsOf g.V.Versions.meaning c.args.self.now k) (sym c.pass.view_is) c.requires.of in
     record {
       table = c.begin.ensures.own ∙ ap (λ (k : Known (CoreBase g.row.V.Denot) g.row.V-Tool.Denot). k.table) c.pass.view_is ∙ c.requires.of.table;
       base = ap (λ (q : View (CoreBase g.row.V.Denot)). q.base) began.writes.turned.3 ∙ based;
       legal = began.writes.after;
+      cached = writes-cached (server_of g.V.Versions.meaning c.args.self.now.base) c.pass.inside.turn.seat.me.0 c.begin.new.pass.seat.me.0 began.log (first_of (server_of g.V.Versions.meaning c.args.self.now.base).meaning (items began.log) c.args.w.now.claim).decision.item c.pass.inside.cache.forms began.writes inside.cached;
+      most = inside.most;
     }
 
 pub returns-in-Ended-clause-answer : goal.returns-in-Ended-clause-answer
@@ -58,10 +63,13 @@ pub returns-in-NoMemory-clause-of : goal.returns-in-NoMemory-clause-of
 returns-in-NoMemory-clause-of g c =
     let based : c.pass.inside.turn.seat.me.0.base ≡ Some c.args.self.now.base = ap (λ (k : Known (CoreBase g.row.V.Denot) g.row.V-Tool.Denot). k.view.base) c.pass.view_is ∙ c.requires.of.base in
     let began = c.in-NoMemory.ensures.begins c.args.self.now.base based in
+    let inside = subst (λ (k : Known (CoreBase g.row.V.Denot) g.row.V-Tool.Denot). IsOf g.V.Versions.meaning c.args.self.now k) (sym c.pass.view_is) c.requires.of in
     record {
       table = c.begin.ensures.own ∙ ap (λ (k : Known (CoreBase g.row.V.Denot) g.row.V-Tool.Denot). k.table) c.pass.view_is ∙ c.requires.of.table;
       base = ap (λ (q : View (CoreBase g.row.V.Denot)). q.base) began.writes.turned.3 ∙ based;
       legal = began.writes.after;
+      cached = writes-cached (server_of g.V.Versions.meaning c.args.self.now.base) c.pass.inside.turn.seat.me.0 c.begin.new.pass.seat.me.0 began.log (first_of (server_of g.V.Versions.meaning c.args.self.now.base).meaning (items began.log) c.args.w.now.claim).decision.item c.pass.inside.cache.forms began.writes inside.cached;
+      most = inside.most;
     }
 
 pub returns-in-NoMemory-clause-answer : goal.returns-in-NoMemory-clause-answer
@@ -107,10 +115,14 @@ returns-in_ok-new-in-Asked-clause-of g c =
     let began = c.in-Asked.ensures.begins c.args.self.now.base based in
     let mid = ap (λ (q : View (CoreBase g.row.V.Denot)). q.base) began.writes.turned.3 ∙ based in
     let second = c.touch.ensures.touches c.args.self.now.base mid in
+    let inside = subst (λ (k : Known (CoreBase g.row.V.Denot) g.row.V-Tool.Denot). IsOf g.V.Versions.meaning c.args.self.now k) (sym c.pass.view_is) c.requires.of in
+    let first = writes-cached (server_of g.V.Versions.meaning c.args.self.now.base) c.pass.inside.turn.seat.me.0 c.begin.new.pass.seat.me.0 began.log (first_of (server_of g.V.Versions.meaning c.args.self.now.base).meaning (items began.log) c.args.w.now.claim).decision.item c.pass.inside.cache.forms began.writes inside.cached in
     record {
       table = c.touch.ensures.own ∙ c.begin.ensures.own ∙ ap (λ (k : Known (CoreBase g.row.V.Denot) g.row.V-Tool.Denot). k.table) c.pass.view_is ∙ c.requires.of.table;
       base = ap (λ (q : View (CoreBase g.row.V.Denot)). q.base) second.writes.turned.3 ∙ mid;
       legal = second.writes.after;
+      cached = writes-cached (server_of g.V.Versions.meaning c.args.self.now.base) c.begin.new.pass.seat.me.0 c.touch.new.pass.seat.me.0 second.log (second_of (server_of g.V.Versions.meaning c.args.self.now.base).meaning (items second.log) c.begin.new.w.claim c.in_ok-new-in-Asked.new.key c.in-Asked.rv c.in_ok-new-in-Asked.new.at).decision.item c.pass.inside.cache.forms second.writes first;
+      most = inside.most;
     }
 
 pub returns-in_ok-new-in-Asked-clause-answer : goal.returns-in_ok-new-in-Asked-clause-answer
@@ -141,10 +153,13 @@ pub returns-in_err-new-in-Asked-clause-of : goal.returns-in_err-new-in-Asked-cla
 returns-in_err-new-in-Asked-clause-of g c =
     let based : c.pass.inside.turn.seat.me.0.base ≡ Some c.args.self.now.base = ap (λ (k : Known (CoreBase g.row.V.Denot) g.row.V-Tool.Denot). k.view.base) c.pass.view_is ∙ c.requires.of.base in
     let began = c.in-Asked.ensures.begins c.args.self.now.base based in
+    let inside = subst (λ (k : Known (CoreBase g.row.V.Denot) g.row.V-Tool.Denot). IsOf g.V.Versions.meaning c.args.self.now k) (sym c.pass.view_is) c.requires.of in
     record {
       table = c.begin.ensures.own ∙ ap (λ (k : Known (CoreBase g.row.V.Denot) g.row.V-Tool.Denot). k.table) c.pass.view_is ∙ c.requires.of.table;
       base = ap (λ (q : View (CoreBase g.row.V.Denot)). q.base) began.writes.turned.3 ∙ based;
       legal = began.writes.after;
+      cached = writes-cached (server_of g.V.Versions.meaning c.args.self.now.base) c.pass.inside.turn.seat.me.0 c.begin.new.pass.seat.me.0 began.log (first_of (server_of g.V.Versions.meaning c.args.self.now.base).meaning (items began.log) c.args.w.now.claim).decision.item c.pass.inside.cache.forms began.writes inside.cached;
+      most = inside.most;
     }
 
 pub returns-in_err-new-in-Asked-clause-answer : goal.returns-in_err-new-in-Asked-clause-answer

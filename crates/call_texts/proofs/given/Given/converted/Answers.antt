@@ -2,7 +2,7 @@ use Rattle.std.proofs.Common.{List, ℕ, subst, sym, ◌∙◌}
 use Rattle.kube_meta.specs.View.{object_of}
 use Rattle.api_calls.specs.Versions.{IsStored}
 use Rattle.call_texts.proofs.Showing.{shown_other}
-use Rattle.call_texts.proofs.given.Given.show.Goals as goal
+use Rattle.call_texts.proofs.given.Given.converted.Goals as goal
 
 pub returns-clause-shows : goal.returns-clause-shows
 returns-clause-shows g c = λ h is.
