@@ -108,6 +108,10 @@ pub property_default : (n : List ℕ) (ps : List SchemaField) (es : List (List �
 property_default n ps es m seen order is =
     ap (λ (fs : List (List ℕ × Shape)). first_default n (shapes_of fs)) seen ∙ first_default-is n es order ∙ ap (λ (x : Option (List (List ℕ × Shape))). default_of (property n (map_of x))) (sym is)
 
+pub map_default : (n : List ℕ) (es : List (List ℕ × Shape)) (m : Option (List (List ℕ × Shape))) → AreInOrder es → m ≡ Some es → first_default n (shapes_of es) ≡ default_of (property n (map_of m))
+map_default n es m order is =
+    first_default-is n es order ∙ ap (λ (x : Option (List (List ℕ × Shape))). default_of (property n (map_of x))) (sym is)
+
 -- where no default is missing, none is set
 pub none_missing : (n : List ℕ) (es : List (List ℕ × Shape)) (ms : Members) → each_default (shapes_of es) ms ≡ true → value_at n ms ≡ or_value (value_at n ms) (first_default n (shapes_of es))
 none_missing n [] ms h = sym (or_none (value_at n ms))

@@ -1,5 +1,6 @@
 //! The defaults of names that aren't there.
 ghost use Rattle.std.specs.Prelude.{◌≡◌, ◌≤◌, ◌+◌, ℕ, List, None, IfOk, OnOk, cond, map, is_some, is_none, ◌||◌};
+ghost use Rattle.kj_value.specs.Fields.{AreInOrder};
 ghost use Rattle.kj_value.specs.Json.{members_of};
 ghost use Rattle.struct_schema.specs.Shape.{map_of, shapes_of};
 ghost use Rattle.struct_schema.specs.ShapeOf.{own_of, named_shape};
@@ -11,7 +12,7 @@ ghost use Rattle.prune_default.specs.Size.{members_size};
 use crate::room::take_field;
 use kj_value::{Field, JFields, NoMemory, Txt, copy};
 use std::alloc::Global;
-use struct_schema::{Schema, SchemaField};
+use struct_schema::{Schema, SchemaField, SchemaMap};
 
 // Sets the default of each property that has one and isn't there.
 pub(crate) fn set_defaults(
@@ -27,7 +28,7 @@ pub(crate) fn set_defaults(
     match &s.properties {
         None => Ok(fields),
         Some(properties) => {
-            if needs_no_default(properties.as_slice(), &fields) {
+            if needs_none(properties, &fields) {
                 Ok(fields)
             } else {
                 merge(alloc, properties.as_slice(), fields, room)
@@ -36,7 +37,19 @@ pub(crate) fn set_defaults(
     }
 }
 
-// Whether each property that has a default is there.
+// Whether each property that has a default is there. Where none has one, they aren't gone over.
+fn needs_none(properties: &SchemaMap, fields: &JFields) -> bool
+    ensures none { result ≡ each_default (shapes_of properties.now) (members_of fields.now) }
+    ensures order { AreInOrder properties.now }
+{
+    let listed = properties.as_slice();
+    if properties.has_defaults() {
+        needs_no_default(listed, fields)
+    } else {
+        true
+    }
+}
+
 fn needs_no_default(properties: &[SchemaField], fields: &JFields) -> bool
     ensures { result ≡ each_default (shapes_of (map named_shape properties.now)) (members_of fields.now) }
 {

@@ -1,3 +1,4 @@
 pub mod Found
 pub mod Agrees
 pub mod Walk
+pub mod NoDefaults

@@ -19,3 +19,4 @@ pub mod Lookups
 pub mod Named
 pub mod Own
 pub mod Sameness
+pub mod Defaults

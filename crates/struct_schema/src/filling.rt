@@ -1,10 +1,10 @@
 //! Whether a value is its own filling.
-ghost use Rattle.std.specs.Prelude.{◌≡◌, ◌↔◌, IsTrue, is_some, is_none, ◌||◌, ◌&&◌};
+ghost use Rattle.std.specs.Prelude.{◌≡◌, ◌↔◌, IsTrue, is_some, is_none, ◌||◌, ◌&&◌, map};
 ghost use Rattle.kj_value.specs.Json.{items_of, members_of};
 ghost use Rattle.kj_value.specs.Seen.{json};
 ghost use Rattle.kj_value.specs.Pair.{pair_of};
 ghost use Rattle.struct_schema.specs.Shape.{map_of, items_shape, some_shape, shapes_of};
-ghost use Rattle.struct_schema.specs.ShapeOf.{shape_of, own_of};
+ghost use Rattle.struct_schema.specs.ShapeOf.{shape_of, own_of, named_shape};
 ghost use Rattle.struct_schema.specs.Names.{shape_for, value_at};
 ghost use Rattle.struct_schema.specs.Filled.{Filled, is_object, is_array, is_forbidden};
 ghost use Rattle.struct_schema.specs.Stays.{stays, items_stay, names_stay, item_stays, name_stays, item_null, name_null, defaults_there, each_default};
@@ -96,15 +96,26 @@ fn needs_no_default(field: &SchemaField, fields: &JFields) -> bool
     }
 }
 
-fn each_default(properties: &SchemaMap, fields: &JFields) -> bool
-    ensures { result ≡ each_default (shapes_of properties.now) (members_of fields.now) }
+fn each_default_of(properties: &[SchemaField], fields: &JFields) -> bool
+    ensures { result
+        ≡ each_default (shapes_of (map named_shape properties.now)) (members_of fields.now) }
 {
-    for p in properties.as_slice() {
+    for p in properties {
         if !needs_no_default(p, fields) {
             return false;
         }
     }
     true
+}
+
+fn each_default(properties: &SchemaMap, fields: &JFields) -> bool
+    ensures { result ≡ each_default (shapes_of properties.now) (members_of fields.now) }
+{
+    if properties.has_defaults() {
+        each_default_of(properties.as_slice(), fields)
+    } else {
+        true
+    }
 }
 
 // Whether each property that has a default is there.

@@ -1,8 +1,9 @@
 //! A structural schema.
-ghost use Rattle.std.specs.Prelude.{◌≡◌, ℕ, [], ◌∷◌, ◌++◌, length, map, IfOk, OnOk, OnErr, option_map};
+ghost use Rattle.std.specs.Prelude.{◌≡◌, ◌||◌, ℕ, [], ◌∷◌, ◌++◌, length, map, IfOk, OnOk, OnErr, is_some, option_map};
 ghost use Rattle.kj_value.specs.Fields.{AreInOrder, field};
 ghost use Rattle.struct_schema.specs.Shape.{shape, no_map, no_shape, maybe_of, properties, plain};
-ghost use Rattle.struct_schema.specs.ShapeOf.{shape_of, named_shape};
+ghost use Rattle.struct_schema.specs.ShapeOf.{shape_of, own_of, named_shape};
+ghost use Rattle.struct_schema.specs.Defaults.{have_default};
 ghost use Rattle.struct_schema.specs.Names.{property, shape_for};
 
 use crate::kind::{IntFormat, NodeKind};
@@ -49,11 +50,12 @@ pub struct SchemaField {
     pub schema: Schema,
 }
 
-/// Schemas by name, the names strictly rising by bytes.
+/// Schemas by name, the names strictly rising by bytes. It knows whether one of them has a default.
 #[cycle(schema)]
 #[derive(Drop)]
 pub struct SchemaMap {
     fields: Vec<SchemaField>,
+    defaults: bool,
 }
 
 /// A schema inside another.
@@ -78,7 +80,11 @@ impl Model for SchemaMap {
 
     ghost view = { λ a. map named_shape a.fields.items };
 
-    ghost invariant = { λ a. AreInOrder (map named_shape a.fields.items) };
+    ghost use Rattle.std.specs.Prelude.{◌≡◌};
+    ghost use Rattle.struct_schema.specs.Defaults.{have_default};
+
+    ghost invariant = { λ a. AreInOrder (map named_shape a.fields.items)
+        × (a.defaults ≡ have_default (map named_shape a.fields.items)) };
 
     ghost size = { λ ss. shapes_depth (shapes_of ss) };
 
@@ -191,6 +197,7 @@ impl SchemaMap {
     {
         SchemaMap {
             fields: Vec::new(alloc),
+            defaults: false,
         }
     }
 
@@ -198,7 +205,8 @@ impl SchemaMap {
         requires { AreInOrder (map named_shape fields.items) }
         ensures { result ≡ map named_shape fields.items }
     {
-        SchemaMap { fields }
+        let defaults = have_default(fields.as_slice());
+        SchemaMap { fields, defaults }
     }
 
     /// How many names there are.
@@ -217,6 +225,13 @@ impl SchemaMap {
         self.fields.as_slice()
     }
 
+    /// Whether a schema of the map has a default.
+    pub fn has_defaults(&self) -> bool
+        ensures { result ≡ have_default self.now }
+    {
+        self.defaults
+    }
+
     /// The schema at a name. It takes no memory.
     pub fn get(&self, name: &str) -> Option<&Schema>
         ensures { option_map (λ s. shape_of s.now) result ≡ field name.now self.now }
@@ -233,7 +248,35 @@ impl SchemaMap {
         ensures ok { OnOk result (self.new ≡ self.old ++ (name.bytes, shape_of schema) ∷ []) }
         ensures err { OnErr result (self.new ≡ self.old) }
     {
+        let defaults = either(self.defaults, has_default(&schema));
         self.fields.push(SchemaField { name, schema })?;
+        self.defaults = defaults;
         Ok(())
     }
+}
+
+fn either(a: bool, b: bool) -> bool
+    ensures { result ≡ (a || b) }
+{
+    a || b
+}
+
+fn has_default(schema: &Schema) -> bool
+    ensures { result ≡ is_some (own_of schema.now).default_value }
+{
+    match &schema.default_value {
+        None => false,
+        Some(_) => true,
+    }
+}
+
+fn have_default(fields: &[SchemaField]) -> bool
+    ensures { result ≡ have_default (map named_shape fields.now) }
+{
+    for f in fields {
+        if has_default(&f.schema) {
+            return true;
+        }
+    }
+    false
 }

@@ -6,7 +6,7 @@ use Rattle.struct_schema.proofs.Found.{hit, miss, order_names}
 use Rattle.struct_schema.proofs.schema.SchemaMap.get.Goals as goal
 
 pub seek-requires : goal.seek-requires
-seek-requires c = rw c.as_slice.ensures.value (order_names named_shape _ c.self.invariant)
+seek-requires c = rw c.as_slice.ensures.value (order_names named_shape _ c.self.invariant.0)
 
 pub index-requires : goal.index-requires
 index-requires c =
@@ -23,4 +23,4 @@ returns-in-Ok c =
 pub returns-in-Err : goal.returns-in-Err
 returns-in-Err c =
     let h = miss named_shape _ _ _ _ c.as_slice.ensures.value c.in-Err.ensures in
-    sym (h.value (order_names named_shape _ c.self.invariant)) ∙ ap (field c.args.name.now) c.self.view_is
+    sym (h.value (order_names named_shape _ c.self.invariant.0)) ∙ ap (field c.args.name.now) c.self.view_is
