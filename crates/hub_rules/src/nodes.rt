@@ -87,12 +87,7 @@ pub fn node_at<'a>(s: &'a Schema, name: &Txt, any: &'a AnyNode) -> &'a Schema
 pub fn is_required(name: &Txt, s: &Schema) -> bool
     ensures { result ≡ is_required name.now.bytes (shape_of s.now) }
 {
-    for n in s.required.as_slice() {
-        if name.as_str() == n.as_str() {
-            return true;
-        }
-    }
-    false
+    s.required.has(name.as_str())
 }
 
 // Both sides require the name, or neither does.

@@ -14,7 +14,7 @@ use crate::kinds::{is_yes, node_kind, value_at};
 use crate::words::{Keyword, passed_type};
 use kj_value::{JFields, JItems, JVal, NoMemory, TextList, Txt, copy};
 use std::alloc::Global;
-use struct_schema::{IntFormat, NodeKind, Schema};
+use struct_schema::{Choices, IntFormat, NodeKind, Required, Schema};
 
 fn kind_or_any(kind: Option<NodeKind>) -> NodeKind
     ensures { result ≡ kind_or_any kind }
@@ -59,12 +59,19 @@ fn copy_items(alloc: Global, items: &JItems) -> Result<JItems, NoMemory>
     Ok(copies)
 }
 
-fn choices_at(alloc: Global, fields: &JFields) -> Result<Option<JItems>, NoMemory>
+fn copy_choices(alloc: Global, items: &JItems) -> Result<Choices, NoMemory>
+    ensures { IfOk result (λ js. js ≡ items.now) }
+{
+    let copies = copy_items(alloc, items)?;
+    Ok(Choices::new(alloc, copies)?)
+}
+
+fn choices_at(alloc: Global, fields: &JFields) -> Result<Option<Choices>, NoMemory>
     ensures { IfOk result
         (λ o. o ≡ choices_of (value_at (word Keyword.Enum) (members_of fields.now))) }
 {
     match value_at(fields, Keyword::Enum) {
-        Some(JVal::List(items)) => Ok(Some(copy_items(alloc, items)?)),
+        Some(JVal::List(items)) => Ok(Some(copy_choices(alloc, items)?)),
         _ => Ok(None),
     }
 }
@@ -100,13 +107,21 @@ fn names_at(alloc: Global, root: bool, fields: &JFields) -> Result<TextList, NoM
     }
 }
 
+fn required_at(alloc: Global, root: bool, fields: &JFields) -> Result<Required, NoMemory>
+    ensures { IfOk result (λ ns. ns ≡ filter (is_counted root)
+        (names_of (value_at (word Keyword.Required) (members_of fields.now)))) }
+{
+    let names = names_at(alloc, root, fields)?;
+    Ok(Required::new(alloc, names)?)
+}
+
 // The schema that a node spells, without its default and the schemas inside it.
 pub(crate) fn read_own(alloc: Global, root: bool, fields: &JFields) -> Result<Schema, NoMemory>
     ensures { IfOk result (λ s. shape_of s
         ≡ shape (own_read root (members_of fields.now)) no_map no_shape no_shape) }
 {
     let choices = choices_at(alloc, fields)?;
-    let required = names_at(alloc, root, fields)?;
+    let required = required_at(alloc, root, fields)?;
     Ok(Schema {
         kind: kind_or_any(node_kind(fields)),
         preserve: is_yes_at(fields, Keyword::Preserve),

@@ -1,4 +1,5 @@
 pub mod Found
 pub mod Agrees
 pub mod Walk
+pub mod Placed
 pub mod NoDefaults

@@ -19,4 +19,5 @@ pub mod Lookups
 pub mod Named
 pub mod Own
 pub mod Sameness
+pub mod Places
 pub mod Defaults

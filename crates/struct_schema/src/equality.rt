@@ -8,10 +8,11 @@ ghost use Rattle.struct_schema.specs.Shape.{map_of, maybe_of, shapes_of};
 ghost use Rattle.struct_schema.specs.ShapeOf.{shape_of, own_of, named_shape};
 ghost use Rattle.struct_schema.specs.ShapeSame.{all_same, kinds_same, same_bound, bounds_same, same_format, same_choices, same_default, parts_same, own_same, shape_same, shapes_same, map_same, maybe_same};
 
+use crate::choices::Choices;
 use crate::keywords::alike;
 use crate::kind::{IntFormat, format_number, kind_number};
 use crate::schema::{Schema, SchemaBox, SchemaField, SchemaMap};
-use kj_value::{JItems, JVal, Txt};
+use kj_value::{JVal, Txt};
 
 /// Whether two schemas say the same in every keyword, those inside of them too. The lists of `enum` and
 /// `required` count in their order. It takes no memory.
@@ -76,7 +77,7 @@ fn same_values(xs: &[JVal], ys: &[JVal]) -> bool
     true
 }
 
-fn same_choices(a: &Option<JItems>, b: &Option<JItems>) -> bool
+fn same_choices(a: &Option<Choices>, b: &Option<Choices>) -> bool
     ensures { result ≡ same_choices a.now b.now }
 {
     match (a, b) {

@@ -1,6 +1,5 @@
 //! The keywords of a node that look at a value and not inside it.
 ghost use Rattle.std.specs.Prelude.{◌≡◌, pos, chars, length, option_map};
-ghost use Rattle.std.specs.List.{list_any};
 ghost use Rattle.kj_value.specs.Json.{whole, text, list, items_of, members_of};
 ghost use Rattle.kj_value.specs.Seen.{json};
 ghost use Rattle.kj_value.specs.Same.{json_same};
@@ -9,9 +8,11 @@ ghost use Rattle.struct_schema.specs.ShapeOf.{own_of};
 ghost use Rattle.struct_schema.specs.Keywords.{has_kind, is_chosen, at_least, at_most, is_formed, character_count, item_count};
 ghost use Rattle.struct_schema.specs.Fault.{broken_limit, broken_rule, lesser, missing, first_missing};
 
+use crate::choices::Choices;
 use crate::kind::{IntFormat, NodeKind};
+use crate::required::Required;
 use crate::schema::Schema;
-use kj_value::{JFields, JItems, JVal, Rule, TextList, Txt, same};
+use kj_value::{JFields, JItems, JVal, Rule, Txt, same};
 use std::cmp::Ordering;
 
 // Whether the value is of the node's kind.
@@ -38,24 +39,12 @@ pub(crate) fn alike(a: &JVal, b: &JVal) -> bool
     same(a, b)
 }
 
-// Whether the value is one of the choices.
-fn is_among(choices: &JItems, v: &JVal) -> bool
-    ensures { result ≡ list_any (λ c. json_same c (json v.now)) choices.now }
-{
-    for c in choices.as_slice() {
-        if alike(c, v) {
-            return true;
-        }
-    }
-    false
-}
-
-fn is_chosen(choices: &Option<JItems>, v: &JVal) -> bool
+fn is_chosen(choices: &Option<Choices>, v: &JVal) -> bool
     ensures { result ≡ is_chosen choices.now (json v.now) }
 {
     match choices {
         None => true,
-        Some(choices) => is_among(choices, v),
+        Some(choices) => choices.has(v),
     }
 }
 
@@ -212,7 +201,7 @@ fn lesser<'a>(first: Option<&'a Txt>, name: &'a Txt) -> &'a Txt
 }
 
 // The first name by bytes that is required and missing.
-pub(crate) fn first_missing<'a>(required: &'a TextList, fields: &JFields) -> Option<&'a Txt>
+pub(crate) fn first_missing<'a>(required: &'a Required, fields: &JFields) -> Option<&'a Txt>
     ensures { option_map (λ t. t.now.bytes) result
         ≡ first_missing required.now (members_of fields.now) }
 {

@@ -13,20 +13,26 @@
 #![tactic(auto)]
 
 mod checking;
+mod choices;
 mod copies;
 mod equality;
 mod filling;
 mod keywords;
 mod kind;
 mod laws;
+mod places;
+mod required;
 mod schema;
 mod trouble;
 
 pub use checking::check;
+pub use choices::Choices;
 pub use copies::copy_schema;
 pub use equality::equal;
 pub use filling::is_filled;
 pub use kind::{IntFormat, NodeKind};
 pub use laws::faults;
+pub use places::{Place, Places, find_in};
+pub use required::Required;
 pub use schema::{Schema, SchemaBox, SchemaField, SchemaMap};
 pub use trouble::CheckFault;

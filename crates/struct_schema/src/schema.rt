@@ -6,8 +6,10 @@ ghost use Rattle.struct_schema.specs.ShapeOf.{shape_of, own_of, named_shape};
 ghost use Rattle.struct_schema.specs.Defaults.{have_default};
 ghost use Rattle.struct_schema.specs.Names.{property, shape_for};
 
+use crate::choices::Choices;
 use crate::kind::{IntFormat, NodeKind};
-use kj_value::{JItems, JVal, Named, NoMemory, TextList, Txt, seek};
+use crate::required::Required;
+use kj_value::{JVal, Named, NoMemory, Txt, seek};
 use std::alloc::Global;
 use std::marker::Model;
 
@@ -22,7 +24,7 @@ pub struct Schema {
     pub preserve: bool,
     pub nullable: bool,
     /// `enum`.
-    pub choices: Option<JItems>,
+    pub choices: Option<Choices>,
     pub minimum: Option<i64>,
     pub maximum: Option<i64>,
     pub format: Option<IntFormat>,
@@ -32,7 +34,7 @@ pub struct Schema {
     pub max_length: Option<i64>,
     pub min_items: Option<i64>,
     pub max_items: Option<i64>,
-    pub required: TextList,
+    pub required: Required,
     pub properties: Option<SchemaMap>,
     /// `additionalProperties`.
     pub additional: Option<SchemaBox>,
@@ -129,7 +131,7 @@ impl Schema {
             max_length: None,
             min_items: None,
             max_items: None,
-            required: TextList::new(alloc),
+            required: Required::none(alloc),
             properties: None,
             additional: None,
             items: None,

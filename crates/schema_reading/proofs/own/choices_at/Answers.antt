@@ -9,6 +9,6 @@ listed-items_of : (js : List Json) → listed (items_of js) ≡ js
 listed-items_of [] = refl
 listed-items_of (j ∷ js) = ap (λ (ks : List Json). j ∷ ks) (listed-items_of js)
 
-pub returns-in_ok-copy_items-in-Some-List : goal.returns-in_ok-copy_items-in-Some-List
-returns-in_ok-copy_items-in-Some-List c =
-    ap (λ (js : List Json). Some js) (c.in_ok-copy_items-in-Some-List.ensures ∙ sym (listed-items_of c.in-Some-List.items)) ∙ ap (λ (v : JVal). choices_of (Some (json v))) (sym c.in-Some-List.field-0-is) ∙ ap choices_of c.in-Some-List.ensures
+pub returns-in_ok-copy_choices-in-Some-List : goal.returns-in_ok-copy_choices-in-Some-List
+returns-in_ok-copy_choices-in-Some-List c =
+    ap (λ (js : List Json). Some js) (c.in_ok-copy_choices-in-Some-List.ensures ∙ sym (listed-items_of c.in-Some-List.items)) ∙ ap (λ (v : JVal). choices_of (Some (json v))) (sym c.in-Some-List.field-0-is) ∙ ap choices_of c.in-Some-List.ensures
