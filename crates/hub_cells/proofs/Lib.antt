@@ -1,2 +1,3 @@
 pub mod Colons
 pub mod Crosses
+pub mod Partners

@@ -6,6 +6,7 @@ pub mod Answer
 pub mod Level
 pub mod Fit
 pub mod Pairs
+pub mod Sought
 pub mod Seen
 pub mod FitCode
 pub mod LevelDepth

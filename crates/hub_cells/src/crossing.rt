@@ -12,7 +12,7 @@ ghost use Rattle.hub_cells.specs.Answer.{answer, answer_by, CanCross};
 
 use crate::cell::{Cell, CellKind, Side, Tuple};
 use crate::pairs::PairItems;
-use crate::tables::{partner, shown_blank};
+use crate::tables::shown_blank;
 use crate::tuples::copy_tuple;
 use kj_value::{JVal, NoMemory, Txt, copy};
 use std::alloc::Global;
@@ -235,7 +235,7 @@ fn listed_value(
     ensures { IfOk result (λ r. (tuple r.tuple, r.matched)
         ≡ answer_by (option_map one (partner (side from) (json value.now) pairs.now)) (blank (json theirs.now))) }
 {
-    match partner(pairs.as_slice(), from, value) {
+    match pairs.partner(from, value) {
         Some(v) => Ok(matching(Tuple::One(Some(copy(alloc, v)?)))),
         None => Ok(showing(shown_blank(alloc, theirs)?)),
     }

@@ -1,10 +1,18 @@
 //! The pairs of a table.
-ghost use Rattle.std.specs.Prelude.{◌≡◌, ◌++◌, [], ◌∷◌, length, map, OnOk, OnErr, option_map, slice_get};
+ghost use Rattle.std.specs.Prelude.{◌≡◌, ◌++◌, [], ◌∷◌, length, map, IfOk, OnOk, OnErr, option_map, slice_get};
+ghost use Rattle.kj_value.specs.Seen.{json};
+ghost use Rattle.struct_schema.specs.Places.{ArePlaces, Tells, first_from};
+ghost use Rattle.hub_cells.specs.Cross.{partner};
 ghost use Rattle.hub_cells.specs.Pairs.{values_of};
+ghost use Rattle.hub_cells.specs.Seen.{side};
+ghost use Rattle.hub_cells.specs.Sought.{column};
 
+use crate::cell::Side;
+use crate::tables::{other_value, own_value, partner};
 use kj_value::{JVal, NoMemory};
 use std::alloc::Global;
 use std::marker::Model;
+use struct_schema::{Place, Places, find_in};
 
 /// A value of the spoke's, and the hub's value that matches it.
 #[derive(Drop)]
@@ -13,10 +21,13 @@ pub struct Pair {
     pub hub: JVal,
 }
 
-/// The pairs of a table, in the order of its rule.
+/// The pairs of a table, in the order of its rule. Once they are indexed, the partner of a text or of a whole number is
+/// found without going over them.
 #[derive(Drop)]
 pub struct PairItems {
     pairs: Vec<Pair>,
+    by_spoke: Option<Places>,
+    by_hub: Option<Places>,
 }
 
 impl Model for PairItems {
@@ -32,6 +43,10 @@ impl Model for PairItems {
     ghost use Rattle.hub_cells.specs.Pairs.{values_of};
 
     ghost view = { λ a. map values_of a.pairs.items };
+
+    ghost use Rattle.hub_cells.specs.Sought.{HaveBoth};
+
+    ghost invariant = { λ a. HaveBoth a.by_spoke a.by_hub (map values_of a.pairs.items) };
 }
 
 impl PairItems {
@@ -41,6 +56,8 @@ impl PairItems {
     {
         PairItems {
             pairs: Vec::new(alloc),
+            by_spoke: None,
+            by_hub: None,
         }
     }
 
@@ -65,12 +82,64 @@ impl PairItems {
         self.pairs.as_slice()
     }
 
-    /// Adds a pair at the end. After an error the list is as it was.
+    /// Adds a pair at the end of a list, which isn't indexed any more. After an error the list is as it was.
     pub fn push(&mut self, x: Pair) -> Result<(), NoMemory>
         ensures ok { OnOk result (self.new ≡ self.old ++ values_of x ∷ []) }
         ensures err { OnErr result (self.new ≡ self.old) }
     {
+        self.by_spoke = None;
+        self.by_hub = None;
         self.pairs.push(x)?;
         Ok(())
     }
+
+    /// The same pairs, indexed.
+    pub fn indexed(self, alloc: Global) -> Result<PairItems, NoMemory>
+        ensures { IfOk result (λ ps. ps ≡ self) }
+    {
+        let PairItems { pairs, .. } = self;
+        let items = pairs.as_slice();
+        let by_spoke = column_places(alloc, items, Side::Spoke)?;
+        let by_hub = column_places(alloc, items, Side::Hub)?;
+        Ok(PairItems {
+            pairs,
+            by_spoke: Some(by_spoke),
+            by_hub: Some(by_hub),
+        })
+    }
+
+    // Where the value stands first on the side.
+    fn place(&self, on: Side, value: &JVal) -> Place
+        ensures { Tells result (first_from 0 (json value.now) (column (side on) self.now)) }
+    {
+        match on {
+            Side::Spoke => find_in(&self.by_spoke, value),
+            Side::Hub => find_in(&self.by_hub, value),
+        }
+    }
+
+    /// The other side's value of the first pair that lists the value. It takes no memory.
+    pub fn partner(&self, from: Side, value: &JVal) -> Option<&JVal>
+        ensures { option_map (λ v. json v.now) result
+            ≡ partner (side from) (json value.now) self.now }
+    {
+        match self.place(from, value) {
+            Place::First(i) => Some(other_value(&self.pairs[i], from)),
+            Place::Nowhere => None,
+            Place::Unknown => partner(self.pairs.as_slice(), from, value),
+        }
+    }
+}
+
+// The places of the pairs' values on the side.
+fn column_places(alloc: Global, pairs: &[Pair], on: Side) -> Result<Places, NoMemory>
+    ensures { IfOk result (λ p. ArePlaces p 0 (column (side on) (map values_of pairs.now))) }
+{
+    let mut places = Places::new(alloc);
+    let mut i = pairs.len();
+    while i > 0 {
+        i -= 1;
+        places.put(alloc, i, own_value(&pairs[i], on))?;
+    }
+    Ok(places)
 }

@@ -31,7 +31,7 @@ pub fn own_value(pair: &Pair, on: Side) -> &JVal
 }
 
 // The pair's value on the other side.
-fn other_value(pair: &Pair, on: Side) -> &JVal
+pub(crate) fn other_value(pair: &Pair, on: Side) -> &JVal
     ensures { json result.now ≡ value_on (other (side on)) (values_of pair.now) }
 {
     match on {
@@ -40,7 +40,7 @@ fn other_value(pair: &Pair, on: Side) -> &JVal
     }
 }
 
-/// The other side's value of the pair that lists the value. It takes no memory.
+/// The other side's value of the first pair that lists the value, sought pair by pair. It takes no memory.
 pub fn partner<'a>(pairs: &'a [Pair], from: Side, value: &JVal) -> Option<&'a JVal>
     ensures { option_map (λ v. json v.now) result
         ≡ partner (side from) (json value.now) (map values_of pairs.now) }

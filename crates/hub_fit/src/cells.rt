@@ -59,7 +59,7 @@ fn copy_pairs(alloc: Global, pairs: &PairItems) -> Result<PairItems, NoMemory>
     for p in pairs.as_slice() {
         copies.push(copy_pair(alloc, p)?)?;
     }
-    Ok(copies)
+    Ok(copies.indexed(alloc)?)
 }
 
 // A cell of one name on each side.

@@ -7,6 +7,7 @@
 #![tactic(auto)]
 
 mod bounds;
+mod doubles;
 mod level;
 mod names;
 mod nodes;

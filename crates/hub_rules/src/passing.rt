@@ -2,11 +2,9 @@
 ghost use Rattle.std.specs.Prelude.{◌≡◌, ◌<◌, ◌≤◌, ◌&&◌, ◌||◌, not, pos, ◌*ℤ◌, map, option_map, FitsSigned};
 ghost use Rattle.kj_value.specs.Seen.{json};
 ghost use Rattle.struct_schema.specs.ShapeOf.{shape_of, own_of};
-ghost use Rattle.hub_cells.specs.Seen.{side};
 ghost use Rattle.std.specs.Prelude.{is_none};
 ghost use Rattle.std.specs.Ordering.{int_eq};
 ghost use Rattle.hub_cells.specs.Side.{spoke, hub};
-ghost use Rattle.hub_cells.specs.Cross.{partner};
 ghost use Rattle.hub_cells.specs.Fit.{is_required};
 ghost use Rattle.hub_cells.specs.Pairs.{values_of};
 ghost use Rattle.hub_rules.specs.Sound.{IsSoundRule};
@@ -16,13 +14,14 @@ ghost use Rattle.hub_rules.specs.Refusal.{node_at, default_at, schema_passes, de
 ghost use Rattle.struct_schema.specs.ShapeSame.{shape_same};
 
 use crate::bounds::{fits_i128, scale_fits};
+use crate::doubles::once;
 use crate::nodes::{
     AnyNode, alike, alike_nodes, alike_required, is_closed, is_null, is_required, is_text_node,
     is_valid, is_whole_node, lacks_default, node_at,
 };
 use crate::rules::Line;
 use crate::spot::Why;
-use hub_cells::{Pair, PairItems, Side, own_value, partner};
+use hub_cells::{Pair, PairItems, Side};
 use kj_value::{JVal, Txt};
 use std::alloc::Global;
 use struct_schema::{NodeKind, Schema};
@@ -71,7 +70,7 @@ fn schema_passes(line: &Line, spoke: &Schema, hub: &Schema, any: &AnyNode) -> bo
 fn is_pair(pairs: &PairItems, i: &JVal, j: &JVal) -> bool
     ensures { result ≡ is_pair pairs.now (json i.now) (json j.now) }
 {
-    match partner(pairs.as_slice(), Side::Spoke, i) {
+    match pairs.partner(Side::Spoke, i) {
         Some(v) => alike(v, j),
         None => false,
     }
@@ -233,24 +232,6 @@ fn valid_blank(alloc: Global, s: &Schema, v: &JVal) -> bool
     is_null(v) || is_valid(alloc, s, v)
 }
 
-fn is_new(on: Side, value: &JVal, pairs: &[Pair]) -> bool
-    ensures { result ≡ is_none (partner (side on) (json value.now) (map values_of pairs.now)) }
-{
-    partner(pairs, on, value).is_none()
-}
-
-// Whether no value is listed twice on the side.
-fn once(on: Side, pairs: &[Pair]) -> bool
-    ensures { result ≡ once (side on) (map values_of pairs.now) }
-{
-    for i in 0..pairs.len() {
-        if !is_new(on, own_value(&pairs[i], on), &pairs[i + 1..]) {
-            return false;
-        }
-    }
-    true
-}
-
 fn table_passes(
     alloc: Global,
     s: &Schema,
@@ -267,8 +248,8 @@ fn table_passes(
     all_valid(alloc, s, h, items)
         && valid_blank(alloc, s, x)
         && valid_blank(alloc, h, y)
-        && once(Side::Spoke, items)
-        && once(Side::Hub, items)
+        && once(alloc, Side::Spoke, items)
+        && once(alloc, Side::Hub, items)
 }
 
 fn range_passes(alloc: Global, line: &Line, spoke: &Schema, hub: &Schema, any: &AnyNode) -> bool

@@ -1,0 +1,15 @@
+use Rattle.std.proofs.Common.{◌≤◌, length, drop, map}
+use Rattle.struct_schema.specs.Places.{ArePlaces}
+use Rattle.hub_cells.specs.Pairs.{values_of}
+use Rattle.hub_cells.specs.Seen.{side}
+use Rattle.hub_cells.specs.Sought.{column}
+use Rattle.hub_cells.proofs.pairs.column_places.Given as goal
+
+abbrev pub invariant-loop-i : goal.invariant-loop-i
+invariant-loop-i l = record {
+  within : l.i ≤ length l.pairs;
+  places : ArePlaces l.places l.i (column (side l.on) (map values_of (drop l.i l.pairs)));
+}
+
+abbrev pub decreases-loop-i : goal.decreases-loop-i
+decreases-loop-i l = l.i
