@@ -390,25 +390,26 @@ module _ {T B : Type 0} (stands : T → List Logged → Type 0) (base_of : T →
         bounded = r.bounded;
       }
 
-  rings_at : (slots id k : ℕ) (me : M) → Allows Rule slots id me (suc (suc (suc (suc k)))) (λ n. (n + 1) % 2 ^ 64) (rang (step slots (suc (suc (suc (suc k)))) 1 0 none) me)
-  rings_at slots id k me s r deep at _ =
+  -- such a word becomes what f makes of it
+  rings_at : (f : ℕ → ℕ) (slots id k : ℕ) (me : M) → Allows Rule slots id me (suc (suc (suc (suc k)))) f (rang (step slots (suc (suc (suc (suc k)))) 1 0 none) me)
+  rings_at f slots id k me s r deep at _ =
       let i : ℕ = suc (suc (suc (suc k))) in
       let P : List ℕ → Type 0 = λ ws. (w : View B) × (a : Act (Option T)) × Valid s.homes me.1 a
-      × Rule record { words = slice_set ws i ((slice_index ws i + 1) % 2 ^ 64); homes = homes_after s.homes me.1 a; views = set s.views id w }
+      × Rule record { words = slice_set ws i (f (slice_index ws i)); homes = homes_after s.homes me.1 a; views = set s.views id w }
       × rang (step slots i 1 0 none) me (slice_index ws i) (w, carried_after me.1 a) in
-      let now = rung s r (slice_set r.plan.bells k ((slice_index (words_of r.plan) i + 1) % 2 ^ 64)) in
+      let now = rung s r (slice_set r.plan.bells k (f (slice_index (words_of r.plan) i))) in
       subst P (sym r.words) (
         me.0,
         keeps,
         tt,
-        subst (λ (vs : List (View B)). Rule record { words = words_of (record r.plan { bells = slice_set r.plan.bells k ((slice_index (words_of r.plan) i + 1) % 2 ^ 64) }); homes = s.homes; views = vs }) (sym (set_again s.views id me.0 at)) now,
+        subst (λ (vs : List (View B)). Rule record { words = words_of (record r.plan { bells = slice_set r.plan.bells k (f (slice_index (words_of r.plan) i)) }); homes = s.homes; views = vs }) (sym (set_again s.views id me.0 at)) now,
         refl,
       )
 
-  pub rings : (slots id i : ℕ) (me : M) → 4 ≤ i → Allows Rule slots id me i (λ n. (n + 1) % 2 ^ 64) (rang (step slots i 1 0 none) me)
-  rings slots id i me far =
+  pub rings : (f : ℕ → ℕ) (slots id i : ℕ) (me : M) → 4 ≤ i → Allows Rule slots id me i f (rang (step slots i 1 0 none) me)
+  rings f slots id i me far =
       let e : suc (suc (suc (suc (i - 4)))) ≡ i = omega arith in
-      subst (λ (j : ℕ). Allows Rule slots id me j (λ n. (n + 1) % 2 ^ 64) (rang (step slots j 1 0 none) me)) e (rings_at slots id (i - 4) me)
+      subst (λ (j : ℕ). Allows Rule slots id me j f (rang (step slots j 1 0 none) me)) e (rings_at f slots id (i - 4) me)
 
   pub starts : (x : T) (bells : List ℕ) → stands x [] → Rule (opening (0 ∷ 0 ∷ 0 ∷ 1 ∷ bells) (Some x ∷ []) (opening_view (base_of x)))
   starts x bells right =

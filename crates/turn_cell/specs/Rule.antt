@@ -1,5 +1,5 @@
 -- The rule of the table.
--- The words are the next ticket, the ticket that is served, the number of items, the number of callers, and the bells, of which nothing is known.
+-- The words are the next ticket, the ticket that is served, the number of items, the number of callers, and the bells with the counts of their sleepers, of which nothing is known.
 use Rattle.std.specs.Prelude.{ℕ, ◌≡◌, ◌+◌, ◌*◌, ◌-◌, ◌^◌, ◌<◌, ◌≤◌, Bool, true, false, List, [], ◌∷◌, ◌++◌, length, Option, Some}
 use mathlib.Core.Option.{some, none}
 use mathlib.Core.List.{IsPrefix}

@@ -35,7 +35,7 @@ module _ {T B : Type 0} where
   abbrev pub passed_on : Step (Option T) → Sat T B → ℕ → Sat T B → Type 0
   passed_on st m r m' = (m' ≡ (set_stage m.0 m.0.seen Rest, [])) × (r < last_ticket)
 
-  -- nothing is known of a bell, and nothing else changed
+  -- nothing is known of a bell or of a count of sleepers, and nothing else changed
   abbrev pub rang : Step (Option T) → Sat T B → ℕ → Sat T B → Type 0
   rang st m r m' = m' ≡ m
 

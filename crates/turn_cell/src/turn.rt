@@ -31,5 +31,5 @@ pub type TurnPass<T> = PassOf<T, <T as Standing>::Base>;
 #[derive(Drop)]
 pub struct Turn<T: Standing> {
     pub table: Table<Option<T>, View<T::Base>, Snapshot<T>, Law, Global>,
-    ghost sized: { (table.shared.table_id.words ≡ 20) × (table.shared.table_id.slots ≡ 1) },
+    ghost sized: { (table.shared.table_id.words ≡ 36) × (table.shared.table_id.slots ≡ 1) },
 }

@@ -6,7 +6,7 @@ ghost use Rattle.turn_cell.specs.Steps.{Sees};
 ghost use Rattle.api_calls.specs.Item.{items_of};
 ghost use Rattle.turn_cell.specs.declared.view.Stage.TheVariants.{Rest, Waits};
 
-use super::waiting::{BELL_COUNT, BELLS, CALLERS, COUNT, SERVING};
+use super::waiting::{BELL_COUNT, CALLERS, COUNT, SERVING, SLEEPERS};
 use super::{PassOf, Place, Turn, TurnPass};
 use crate::plays::{Append, GetNumber, Halve, Look, PassOn, Unite};
 use crate::standing::{Names, Standing};
@@ -29,7 +29,7 @@ impl<T: Standing> Turn<T> {
         ensures { IfOk result (λ r. (r.1.seat.table_id ≡ r.0.table.shared.table_id) × (r.1.seat.me.0 ≡ opening_view (T.base value))) }
     {
         let about = Snapshot::of(&value);
-        let mut words = [0; BELLS + BELL_COUNT];
+        let mut words = [0; SLEEPERS + BELL_COUNT];
         words[CALLERS] = 1;
         let mut slots = Vec::with_capacity(alloc, 1)?;
         slots.push_reserved(Some(value));
@@ -66,7 +66,7 @@ impl<T: Standing> Turn<T> {
     }
 
     /// Gives the value back, and the turn to the next pass that waits. The value stands for the list as it is now, and has
-    /// the pass's base. It takes no memory, and makes no system call where no pass waits.
+    /// the pass's base. It takes no memory, and makes no system call where no pass sleeps.
     pub fn give(&self, pass: &mut TurnPass<T>, value: T)
         requires own { pass.old.seat.table_id ≡ self.now.table.shared.table_id }
         requires holds { IsHolding pass.old.seat.me.0 }

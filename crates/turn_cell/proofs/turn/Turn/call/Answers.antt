@@ -1,6 +1,6 @@
-use Rattle.std.proofs.Common.{rules}
+use Rattle.std.proofs.Common.{◌+◌, ◌%◌, ◌^◌, rules}
 use Rattle.turn_cell.proofs.Keeps.{rings}
 use Rattle.turn_cell.proofs.turn.Turn.call.Goals as goal
 
 pub fetch_add-requires : goal.fetch_add-requires
-fetch_add-requires g c = (search rules, search rules, rings g.T.Standing.stands g.T.Standing.base _ _ _ _ c.bell_of-bell.ensures.0)
+fetch_add-requires g c = (search rules, search rules, rings g.T.Standing.stands g.T.Standing.base (λ n. (n + 1) % 2 ^ 64) _ _ _ _ c.bell_of-bell.ensures.0)

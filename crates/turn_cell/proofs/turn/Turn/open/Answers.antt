@@ -10,5 +10,5 @@ new-requires g c =
     let x = c.args.value in
     let items : c.push_reserved.new.self.items ≡ Some x ∷ [] = search rules in
     let told : c.of-about.result.value ≡ x = search rules in
-    subst (λ (z : List (Option g.row.T.Denot) × g.row.T.Denot). Kept g.T.Standing.stands g.T.Standing.base (opening (0 ∷ 0 ∷ 0 ∷ 1 ∷ replicate 16 0) z.0 (opening_view (g.T.Standing.base z.1))))
-    (λ i. (sym items i, sym told i)) (starts g.T.Standing.stands g.T.Standing.base x (replicate 16 0) c.requires)
+    subst (λ (z : List (Option g.row.T.Denot) × g.row.T.Denot). Kept g.T.Standing.stands g.T.Standing.base (opening (0 ∷ 0 ∷ 0 ∷ 1 ∷ replicate 32 0) z.0 (opening_view (g.T.Standing.base z.1))))
+    (λ i. (sym items i, sym told i)) (starts g.T.Standing.stands g.T.Standing.base x (replicate 32 0) c.requires)
