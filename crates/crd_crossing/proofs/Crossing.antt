@@ -16,6 +16,7 @@ use Rattle.hub_cells.specs.contracts.cell.Cell as Cell
 use Rattle.hub_cells.specs.contracts.fitted.Fitted as Fitted
 use Rattle.spoke_keep.specs.contracts.spokes.Spoke as Spoke
 use Rattle.spoke_keep.specs.contracts.spokes.Spokes as Spokes
+use Rattle.crd_reading.specs.contracts.definition.Version as Version
 use Rattle.crd_reading.specs.contracts.definition.Definition as Definition
 use Rattle.crd_loading.specs.contracts.versions.LoadedVersions as LoadedVersions
 use Rattle.crd_settings.proofs.pieces.Pieces.TheSendSync as pieces
@@ -47,8 +48,11 @@ spoke_send = search (fitted_send, txt.the_send, sendable, crosses, maps.crosses)
 spokes_send : IsSend Spokes.the_row
 spokes_send = search (spoke_send, txt.the_send, sendable, crosses, maps.crosses) depth 60 fits 200000
 
+version_send : IsSend Version.the_row
+version_send = declared_send Version.the_type (txt.the_send, (search sendable, (search sendable, (schema_send, tt))))
+
 definition_send : IsSend Definition.the_row
-definition_send = search (schemas.crosses, values.crosses, txt.the_send, texts.the_send, sendable, crosses, maps.crosses) depth 60 fits 200000
+definition_send = search (version_send, values.crosses, txt.the_send, sendable, crosses, maps.crosses) depth 60 fits 200000
 
 loaded_send : IsSend LoadedVersions.the_row
 loaded_send = search (definition_send, spokes_send, sendable, crosses, maps.crosses) depth 60 fits 200000
@@ -82,8 +86,11 @@ spoke_sync = search (fitted_sync, txt.the_sync, sendable, crosses, maps.crosses)
 spokes_sync : IsSync Spokes.the_row
 spokes_sync = search (spoke_sync, txt.the_sync, sendable, crosses, maps.crosses) depth 60 fits 200000
 
+version_sync : IsSync Version.the_row
+version_sync = declared_sync Version.the_type (txt.the_sync, (search sendable, (search sendable, (schema_sync, tt))))
+
 definition_sync : IsSync Definition.the_row
-definition_sync = search (schemas.crosses, values.crosses, txt.the_sync, texts.the_sync, sendable, crosses, maps.crosses) depth 60 fits 200000
+definition_sync = search (version_sync, values.crosses, txt.the_sync, sendable, crosses, maps.crosses) depth 60 fits 200000
 
 loaded_sync : IsSync LoadedVersions.the_row
 loaded_sync = search (definition_sync, spokes_sync, sendable, crosses, maps.crosses) depth 60 fits 200000

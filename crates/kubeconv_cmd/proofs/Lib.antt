@@ -8,4 +8,3 @@ pub mod TaskEnding
 pub mod TaskLemmas
 pub mod DrillEnding
 pub mod ServeEnding
-pub mod Crossing

@@ -9,7 +9,7 @@ use Rattle.kubeconv_cmd.specs.Beside.{AnsweredAll, ServesAll}
 use Rattle.kubeconv_cmd.specs.Refusal.{IsServed, RefusesNamed}
 use Rattle.kubeconv_cmd.specs.Ends.{OnRefused, OnUnread}
 use Rattle.kubeconv_cmd.specs.declared.stop.Stop.{Stop}
-use Rattle.kubeconv_cmd.proofs.Crossing.{set_send, set_sync}
+use Rattle.crd_crossing.proofs.Crossing.{set_send, set_sync}
 use Rattle.kubeconv_cmd.proofs.ServeEnding.{serves_all, done_as, fewer_as, never_stopped, unless_stopped}
 use Rattle.kubeconv_cmd.proofs.serve_line.serve_files.Goals as goal
 
