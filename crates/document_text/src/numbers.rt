@@ -1,5 +1,5 @@
 //! The text with a number and a uid.
-ghost use Rattle.std.specs.Prelude.{◌≡◌, ◌+◌, [], ◌∷◌, length, IfOk, flat_map, if◌then◌else◌};
+ghost use Rattle.std.specs.Prelude.{◌≡◌, ◌≤◌, ◌+◌, [], ◌∷◌, length, IfOk, flat_map, if◌then◌else◌};
 ghost use Rattle.kj_value.specs.Characters.{comma};
 ghost use Rattle.kj_value.specs.Text.{escaped_byte, text_of};
 ghost use Rattle.kube_meta.specs.View.{ObjectView};
@@ -44,7 +44,7 @@ fn between_fields(some: bool) -> &'static str
 pub fn parts(text: &str) -> (&str, &'static str, &str)
     requires { (x : ObjectView) × IsBare x text.now }
     ensures parts { (x : ObjectView) → IsBare x text.now → AreParts x result.0.now result.1.now result.2.now }
-    ensures lengths { length result.0.now + length result.2.now ≡ length text.now }
+    ensures lengths { (length result.0.now + length result.2.now ≡ length text.now) × (length result.1.now ≤ 1) }
 {
     let (place, some) = cut(text);
     let (front, back) = text.split_at(place);
