@@ -1,5 +1,5 @@
 -- A text that was kept shows what is seen under its key at its number, however the list goes on.
-use Rattle.std.proofs.Common.{◌≡◌, ◌∙◌, ℕ, zero, suc, ◌≤◌, ◌<◌, List, [], ◌∷◌, ◌++◌, length, take, Option, None, Some, Ok, Err, Bool, true, false, inl, inr, ap, sym, subst, refl}
+use Rattle.std.proofs.Common.{◌≡◌, ◌∙◌, ℕ, zero, suc, ◌≤◌, List, [], ◌∷◌, ◌++◌, length, take, Option, None, Some, Ok, Err, Bool, true, false, inl, inr, ap, sym, subst, refl}
 use Rattle.std.specs.Prelude.{IfOk, IfSome, IsTrue, MatchBool, Result, ◌⊎◌, option_map}
 use Rattle.kj_value.specs.Json.{Json}
 use Rattle.kj_value.specs.Text.{text_of}

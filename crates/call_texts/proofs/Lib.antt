@@ -7,3 +7,4 @@ pub mod Paging
 pub mod Caching
 pub mod Texts
 pub mod StoredTexts
+pub mod AsItStands

@@ -9,7 +9,6 @@ use Rattle.api_calls.specs.Refusal.{no_resource, not_found}
 use Rattle.api_calls.specs.Item.{Item}
 use Rattle.api_calls.specs.Objects.{Stored, find}
 use Rattle.api_calls.specs.State.{revision, served, state}
-use Rattle.api_calls.specs.Versions.{IsStored}
 use Rattle.api_calls.specs.Replies.{GetReply, IsShown, ShowsObject, code_ok}
 use Rattle.api_core.specs.declared.seen.Seen.{Seen}
 use Rattle.api_core.specs.declared.seen.Peeked.{Peeked}

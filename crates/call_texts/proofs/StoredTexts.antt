@@ -1,7 +1,6 @@
 -- A stored text spells the form that is stored.
-use Rattle.std.proofs.Common.{◌≡◌, ◌∙◌, ℕ, ◌≤◌, List, Option, Some, None, Ok, Err, ap, ap₂, subst, sym}
+use Rattle.std.proofs.Common.{◌≡◌, ◌∙◌, ℕ, List, Option, Some, None, Ok, Err, ap, ap₂, sym}
 use Rattle.std.specs.Prelude.{IfOk, IfSome, Result}
-use Rattle.kj_value.specs.Json.{depth}
 use Rattle.kj_value.specs.Text.{text_of}
 use Rattle.kj_value.specs.Txt.{Bytes}
 use Rattle.kj_value.specs.declared.error.NoMemory.{NoMemory}
@@ -12,8 +11,8 @@ use Rattle.api_calls.specs.Documents.{reply_text}
 use Rattle.api_calls.specs.Meaning.{Meaning, unnumbered}
 use Rattle.api_calls.specs.Replies.{IsShown}
 use Rattle.api_calls.specs.Versions.{IsStamp, IsStored, Stand}
-use Rattle.api_calls.specs.declared.versions.TheConstants.{OBJECT_LEVELS}
 use Rattle.api_core.specs.declared.seen.Seen.{Seen}
+use Rattle.document_text.specs.Numbered.{IsBare}
 use Rattle.call_texts.specs.Spelled.{IsTextOf}
 
 moment : (o : Option (List ℕ)) → IfSome o IsStamp → IfSome o IsMoment
@@ -39,17 +38,16 @@ stored-text m v h bytes stand s =
       utf8 = s.utf8;
     }
 
--- the object that was read has as many levels as the one that is spelled
-pub deep-enough : (x y : ObjectView) (bytes : List ℕ) → IsTextOf x bytes → y ≡ x → depth (document y) ≤ OBJECT_LEVELS
-deep-enough x y bytes t same = subst (λ (o : ObjectView). depth (document o) ≤ OBJECT_LEVELS) (sym same) t.levels
+-- the text is that of the form's document, which has neither number nor uid
+pub bare-stored : (m : Meaning) (v : ℕ) (h : ObjectView) (bytes : List ℕ) → Stand m → (s : IsStored m v h bytes) → IsBare s.form bytes
+bare-stored m v h bytes stand s =
+    let at = stand.pair v h s.form s.known s.whole s.pairs in
+    let text = stored-text m v h bytes stand s in
+    record { no_number = at.no_number; no_uid = at.no_uid; sound = text.sound; spelled = text.spelled }
 
--- the text of the object that a stored text spells, with its number and uid, shows each value of the stored text
-pub shown-as-stored : (m : Meaning) (boot : ℕ) (s : Seen) (y : ObjectView) (r : Result Bytes NoMemory) → Stand m
-    → ((x : ObjectView) → IsTextOf x s.bytes.bytes → y ≡ x) → IfOk r (λ t. t.bytes ≡ reply_text boot s.rv s.born y)
+-- a stored text with its number and uid shows each value of the stored text
+pub shown-as-stored : (m : Meaning) (boot : ℕ) (s : Seen) (r : Result Bytes NoMemory) → Stand m
+    → IfOk r (λ t. (x : ObjectView) → IsBare x s.bytes.bytes → t.bytes ≡ reply_text boot s.rv s.born x)
     → IfOk r (λ t. (h : ObjectView) → IsStored m s.at h s.bytes.bytes → IsShown m boot s.at h s.rv s.born t.bytes)
-shown-as-stored m boot s y (Err e) stand read is = tt
-shown-as-stored m boot s y (Ok t) stand read is = λ h stored. (
-  stored.form,
-  (λ honest. stored.pairs),
-  is ∙ ap (λ (x : ObjectView). reply_text boot s.rv s.born x) (read stored.form (stored-text m s.at h s.bytes.bytes stand stored)),
-)
+shown-as-stored m boot s (Err e) stand is = tt
+shown-as-stored m boot s (Ok t) stand is = λ h stored. (stored.form, (λ honest. stored.pairs), is stored.form (bare-stored m s.at h s.bytes.bytes stand stored))

@@ -14,7 +14,7 @@ use kube_meta::{Object, write_object};
 use std::alloc::Global;
 
 // The compact text of an object.
-pub fn object_text(alloc: Global, object: &Object) -> Result<Txt, NoMemory>
+fn object_text(alloc: Global, object: &Object) -> Result<Txt, NoMemory>
     requires { depth (document (object_of object.now)) ≤ OBJECT_LEVELS }
     ensures { IfOk result (λ t. t.bytes ≡ text_of (document (object_of object.now))) }
 {

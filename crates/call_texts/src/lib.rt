@@ -22,7 +22,7 @@ mod get;
 mod list;
 mod raw;
 
-pub use documents::{object_text, reply_text, stored_text};
+pub use documents::{reply_text, stored_text};
 pub use given::Given;
 pub use page_text::{add, comma_before, group_version, quoted};
 pub use place::place_of;

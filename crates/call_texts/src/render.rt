@@ -4,24 +4,30 @@ ghost use Rattle.kube_meta.specs.View.{ObjectView};
 ghost use Rattle.api_calls.specs.Replies.{IsShown};
 ghost use Rattle.api_calls.specs.Versions.{IsStored};
 
-use crate::documents::reply_text;
 use crate::given::Given;
-use crate::written::read_form;
-use api_calls::{BORN_END, ConvFault, Versions, one_stored};
+use api_calls::{BORN_END, ConvFault, Versions, one_stored, uid_of};
 use api_core::Seen;
+use document_text::numbered;
+use itoa::Buffer;
 use kj_value::{NoMemory, Txt};
 
 impl<V: Versions> Given<'_, V> {
-    // The text that shows what is stored at the version at which it stands. It converts nothing.
+    // The text that shows what is stored at the version at which it stands: the stored one, with a number and a uid. It
+    // converts nothing, and reads no value.
     fn as_it_stands(&self, seen: &Seen) -> Result<Txt, NoMemory>
         requires stored { (h : ObjectView) × IsStored (V.meaning self.now.versions.now) seen.now.at h seen.now.bytes.bytes }
         requires born { seen.now.born < BORN_END }
         ensures { IfOk result (λ t. (h : ObjectView) → IsStored (V.meaning self.now.versions.now) seen.now.at h seen.now.bytes.bytes
             → IsShown (V.meaning self.now.versions.now) self.now.boot seen.now.at h seen.now.rv seen.now.born t.bytes) }
     {
-        let bytes = seen.bytes.as_str().as_bytes();
-        let form = read_form(self.alloc, bytes)?;
-        reply_text(self.alloc, self.boot, seen.rv, seen.born, form)
+        let mut buffer = Buffer::new();
+        let uid = uid_of(self.alloc, self.boot, seen.born)?;
+        numbered(
+            self.alloc,
+            seen.bytes.as_str(),
+            buffer.format(seen.rv),
+            uid.as_str(),
+        )
     }
 
     // The text that shows at a version what is stored at another one.

@@ -1,0 +1,4 @@
+pub mod Ending
+pub mod Numbered
+pub mod FieldLaws
+pub mod Cut
