@@ -5,6 +5,9 @@ Prints what one request takes, in microseconds of processor time, so that what e
 it takes with the most objects as with the fewest; the run that makes the objects alone is taken off. Every answer is
 checked: 201 for a create, 200 for all others, status 0 at the end.
 
+With `--beside OTHER` another program is timed in the same rounds, and how many times as long each request takes as there is printed too:
+an earlier build of this one, or the plain server of `bench/plain/server.go`, which says how it is built.
+
 A run answers at most 10,000 requests, the creates among them, so no run of `pipe` comes to the 16,384 objects that a server may
 hold. With 5,000 objects 4,900 requests are left to be timed over them; with more, what is left takes too little time beside the
 creates to be told from them. `serve.py sizes` times the same chores over 1,000 and 16,000 objects, by several connections."""
@@ -105,21 +108,34 @@ def seconds_of(program, given, wanted):
 def main():
     """Reads the words, runs and prints."""
     parser = parser_of(__doc__, "kubeconv")
+    parser.add_argument("--beside", metavar="OTHER", help="another program that answers `OTHER pipe`, timed in the same rounds")
     options = parser.parse_args()
-    program = built("kubeconv", options.program, "pipe")
+    programs = [built("kubeconv", options.program, "pipe")]
+    if options.beside:
+        programs.append(built("kubeconv", options.beside, "pipe"))
     tasks = {}
-    for size in SIZES:
-        made = [create(turn, 0) for turn in range(size)]
-        tasks[size, None] = lambda given="".join(made).encode(), wanted=[201] * size: seconds_of(program, given, wanted)
-        for name, ask, code, times in CHORES:
-            asked = [ask(turn, size) for turn in range(times)]
-            given, wanted = "".join(made + asked).encode(), [201] * size + [code] * times
-            tasks[size, name] = lambda given=given, wanted=wanted: seconds_of(program, given, wanted)
+    for program in programs:
+        for size in SIZES:
+            made = [create(turn, 0) for turn in range(size)]
+            given, wanted = "".join(made).encode(), [201] * size
+            tasks[program, size, None] = lambda program=program, given=given, wanted=wanted: seconds_of(program, given, wanted)
+            for name, ask, code, times in CHORES:
+                asked = [ask(turn, size) for turn in range(times)]
+                given, wanted = "".join(made + asked).encode(), [201] * size + [code] * times
+                tasks[program, size, name] = lambda program=program, given=given, wanted=wanted: seconds_of(program, given, wanted)
     best = best_of(options.runs, tasks)
-    print(f"{'request':<26}" + "".join(f"{f'us, {size} objects':>18}" for size in SIZES) + f"{'last to first':>15}")
-    for name, _ask, _code, times in CHORES:
-        each = [(best[size, name] - best[size, None]) / times for size in SIZES]
-        print(f"{name:<26}" + "".join(f"{it * 1e6:>18.1f}" for it in each) + f"{each[-1] / each[0]:>15.2f}")
+    rows = {}
+    for program in programs:
+        print(f"{'request':<26}" + "".join(f"{f'us, {size} objects':>18}" for size in SIZES) + f"{'last to first':>15}")
+        for name, _ask, _code, times in CHORES:
+            each = [(best[program, size, name] - best[program, size, None]) / times for size in SIZES]
+            rows[program, name] = each
+            print(f"{name:<26}" + "".join(f"{it * 1e6:>18.1f}" for it in each) + f"{each[-1] / each[0]:>15.2f}")
+    if options.beside:
+        first, other = programs
+        print(f"{'the first to the other':<26}")
+        for name, *_ in CHORES:
+            print(f"{name:<26}" + "".join(f"{mine / its:>18.2f}" for mine, its in zip(rows[first, name], rows[other, name])))
 
 
 if __name__ == "__main__":
