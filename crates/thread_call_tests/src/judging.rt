@@ -11,21 +11,21 @@ use std::alloc::Global;
 use std::sync::Wait;
 
 // What was found of what two callers were told.
-#[derive(Clone, Copy, Debug)]
+#[derive(Drop)]
 struct Findings {
     odd: u64,
     rising: bool,
     apart: bool,
     counted: bool,
-    follows: bool,
+    in_order: bool,
     stands: bool,
 }
 
 // Whether a text shows its object as the last entry that tells of it left it.
 fn is_last(alloc: Global, text: &str, all: &[Entry], place: u64) -> Option<bool> {
-    let last = *all.get(last_of(all, place)?)?;
+    let last = all.get(last_of(all, place)?)?;
     let number = number_in(text)?;
-    let host = host_of(alloc, last)?;
+    let host = host_of(alloc, *last)?;
     Some(number == last.number && host_in(text)? == host.as_str())
 }
 
@@ -94,7 +94,7 @@ fn found(one: &Tally, two: &Tally, all: &[Entry], next: u64, stands: bool) -> Fi
         rising: rises(one.told.as_slice()) && rises(two.told.as_slice()),
         apart: rises(all),
         counted: next == entries.saturating_add(2),
-        follows: follows(all),
+        in_order: follows(all),
         stands,
     }
 }
@@ -123,11 +123,11 @@ fn lines_of(alloc: Global, found: Findings) -> Option<String> {
         rising,
         apart,
         counted,
-        follows,
+        in_order,
         stands,
     } = found;
     format!(in alloc;
-        "odd answers: {odd}\nnumbers rise for each caller: {rising}\nno number is told twice: {apart}\neach entry is one that a caller was told of: {counted}\neach entry may come behind those before it: {follows}\nwhat stands is the fold of the entries: {stands}\n"
+        "odd answers: {odd}\nnumbers rise for each caller: {rising}\nno number is told twice: {apart}\neach entry is one that a caller was told of: {counted}\neach entry may come behind those before it: {in_order}\nwhat stands is the fold of the entries: {stands}\n"
     ).ok()
 }
 
