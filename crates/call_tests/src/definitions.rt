@@ -2,7 +2,6 @@
 use crate::beside::{Trio, told as told_beside};
 use crate::failing::Failing;
 use crate::script::told as told_in_turn;
-use crate::threads::told as told_of_two;
 use crate::tool::Chosen;
 use api_calls::{NoTool, Versions};
 use crd_versions::load;
@@ -67,18 +66,14 @@ fn scripted<V: Versions<Tool = Chosen> + Drop + Send + Sync, R: Threads + Wait +
     }
 }
 
-// What a script answers over a definition, or what two callers come to.
+// What a script answers over a definition whose calls may be made to fail and to wait.
 fn over<V: Versions<Tool = NoTool> + Drop + Send + Sync, R: Threads + Wait + Sync>(
     rt: &R,
     alloc: Global,
     case: &Case,
     versions: V,
 ) -> Option<String> {
-    if case.head.as_str().starts_with("# threads") {
-        told_of_two(rt, alloc, versions)
-    } else {
-        scripted(rt, alloc, case, Failing::of(versions))
-    }
+    scripted(rt, alloc, case, Failing::of(versions))
 }
 
 fn loaded<R: Threads + Wait + Sync>(

@@ -9,7 +9,6 @@
 //! | `# fixture: ..` | the small one of `versions_fixture`, which admits an object with a name and one property, and no replace |
 //! | `# built-in: ..` | the one that is built in: `host` at `v1` is `address` at `v1beta1` |
 //! | `# shared: ..` | the one that tests share, with each kind of rule |
-//! | `# threads ..` | the built-in one; the script has no lines, and two threads create, replace and delete few objects |
 //!
 //! There is room for 64 objects. With the word `small` in the first line there is room for two objects in three chunks, for two
 //! superseded records in two chunks, and for one migration; with `large` for 512 objects. `v1beta1` is stored at first. A line is
@@ -42,12 +41,10 @@ mod beside;
 mod calls;
 mod definitions;
 mod failing;
-mod fold;
 mod gate;
 mod many;
 mod order;
 mod script;
-mod threads;
 mod tool;
 
 use definitions::{Case, told};

@@ -2,7 +2,7 @@
 use std::alloc::Global;
 
 /// A create or a replace that a caller was told of, with its number.
-#[derive(Clone, Copy, Debug, PartialEq, Eq)]
+#[derive(Clone, Copy)]
 pub struct Entry {
     pub number: u64,
     pub place: u64,

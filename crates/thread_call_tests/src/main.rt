@@ -1,0 +1,34 @@
+//! Calls of the server that callers share, by two callers beside each other: each in a thread of its own, on a pass of its own.
+//!
+//! Each line of standard input is a run over the definition that is built in, before which nothing has happened. The line is
+//! printed, and then what the two callers came to: each makes 1,000 creates, 1,000 replaces and 1,000 deletes of 16 objects, and
+//! then what the two were told is looked at together with what stands. The same is printed whatever the order in which their calls
+//! come; what is wanted stands in `stdout`. Nothing here has a contract that says what is answered.
+#![tactic(auto)]
+
+mod callers;
+mod calls;
+mod fold;
+mod judging;
+mod rounds;
+mod texts;
+
+use callers::told;
+use std::io;
+
+fn shown(told: &Option<String>) -> &str {
+    match told {
+        Some(text) => text.as_str(),
+        None => "no such run",
+    }
+}
+
+fn main(rt: HostRuntime) -> io::Result<()> {
+    let alloc = rt.alloc();
+    for line in rt.lines(alloc) {
+        let line = line?;
+        let text = told(&rt, alloc);
+        println!(rt; "{}\n{}", line.as_str(), shown(&text))?;
+    }
+    Ok(())
+}
