@@ -218,7 +218,9 @@ fn unite<V: Versions<Tool = Chosen> + Drop, R: Wait>(
     ensures pass { IsOf V.meaning api.now pass.new }
     ensures other { IsOf V.meaning api.now other.new }
 {
-    let made = api.new_pass(rt, pass, Chosen::at(0)).ok()?;
+    let Ok(made) = api.new_pass(rt, pass, Chosen::at(0)) else {
+        return None;
+    };
     let gone = mem::replace(other, made);
     api.meet(pass, gone);
     String::from_str(alloc, "met").ok()
