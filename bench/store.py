@@ -3,9 +3,10 @@
 1,000, 4,000 and 16,000 records.
 
 Prints how many a second, what one takes, and how many times as long that is as at the fewest records. A new record costs
-more with the records, since the rows behind its place are moved for it, and back where it goes; a write over a record or
-a touch moves none. A page copies the first 500 records and counts those behind them. All is processor time, so that what
-else runs counts little; the time of a run that only fills the store is taken off."""
+a little more with the records: it moves rows of its block of 256, and one row of each block behind that one, and the
+same again where it goes; a write over a record or a touch moves none. A page copies the first 500 records and counts
+those behind them. All is processor time, so that what else runs counts little; the time of a run that only fills the
+store is taken off."""
 
 from programs import built, each_of, parser_of
 

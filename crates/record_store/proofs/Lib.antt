@@ -1,5 +1,6 @@
 pub mod Search
 pub mod Places
+pub mod Packed
 pub mod WindowPieces
 pub mod Keyed
 pub mod Mapped

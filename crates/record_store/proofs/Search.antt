@@ -1,7 +1,9 @@
 -- What a binary search finds among keys that rise.
-use Rattle.std.proofs.Common.{◌≡◌, ℕ, zero, suc, ◌<◌, ◌≤◌, List, [], ◌∷◌, length, get_or, map, Result, Ok, Err, Ordering, Less, Equal, Greater, add-one, ap, sym, refl, ◌∙◌, arith}
+use Rattle.std.proofs.Common.{◌≡◌, ℕ, zero, suc, ◌+◌, ◌<◌, ◌≤◌, List, [], ◌∷◌, length, get_or, map, Some, Result, Ok, Err, Ordering, Less, Equal, Greater, add-one, ap, sym, refl, ◌∙◌, arith}
+use Rattle.std.specs.Prelude.{slice_get}
 use Rattle.std.specs.Ordering.{ordering_index, ordering_reverse}
 use Rattle.std.specs.List.Sorted.{IsBinarySearchResult, IsSearchInRange, IsNonDecreasingBy}
+use Rattle.std.proofs.lemmas.Option.{get_or_from_slice_get, slice_get_within}
 use Rattle.std.proofs.lemmas.List.Sorted.{IsNonDecreasingBy-from_all_adjacent}
 use Rattle.kube_meta.specs.Key.{KeyView, key_cmp}
 use Rattle.kube_meta.specs.KeyOrder.{key_cmp_total}
@@ -51,7 +53,7 @@ module _ {F : Type 0} (key : F → KeyView) where
       sym (key_cmp_total.congr there k (key f) (e f)) ∙ reversed (key f) there Less (below_later (key f) fs i f h.0 h.1 (omega arith)) in
       rw above (ap next (at_hit k fs i h.1 (omega arith) e))
 
-  at_miss : (k : KeyView) (fs : List F) (i : ℕ) → i ≤ length fs → ((j : ℕ) (d : F) → j < i → key_cmp (key (get_or fs j d)) k ≡ Less) → ((j : ℕ) (d : F) → i ≤ j → j < length fs → key_cmp (key (get_or fs j d)) k ≡ Greater)
+  pub at_miss : (k : KeyView) (fs : List F) (i : ℕ) → i ≤ length fs → ((j : ℕ) (d : F) → j < i → key_cmp (key (get_or fs j d)) k ≡ Less) → ((j : ℕ) (d : F) → i ≤ j → j < length fs → key_cmp (key (get_or fs j d)) k ≡ Greater)
       → Err i ≡ place k (map key fs)
   at_miss k [] zero p low high = refl
   at_miss k [] (suc i) p low high = absurd (omega arith)
@@ -61,6 +63,34 @@ module _ {F : Type 0} (key : F → KeyView) where
   at_miss k (f ∷ fs) (suc i) p low high =
       let above : key_cmp k (key f) ≡ Greater = reversed (key f) k Less (low 0 f (omega arith)) in
       rw above (ap next (at_miss k fs i (omega arith) (λ j d q. low (suc j) d (omega (arith, q))) (λ j d q r. high (suc j) d (omega (arith, q)) (omega (arith, r)))))
+
+  -- what stands before one that is too low is too low, and what stands behind one that is too high is too high
+  too_low : (k : KeyView) (fs : List F) (i j : ℕ) (d : F) → KeysRise (map key fs) → j ≤ i → i < length fs → key_cmp (key (get_or fs i d)) k ≡ Less → key_cmp (key (get_or fs j d)) k ≡ Less
+  too_low k [] i j d h q p e = absurd (omega (arith, p))
+  too_low k (f ∷ fs) zero zero d h q p e = e
+  too_low k (f ∷ fs) zero (suc j) d h q p e = absurd (omega (arith, q))
+  too_low k (f ∷ fs) (suc i) zero d h q p e = key_cmp_total.trans (key f) (key (get_or fs i d)) k (below_later (key f) fs i d h.0 h.1 (omega (arith, p))) e
+  too_low k (f ∷ fs) (suc i) (suc j) d h q p e = too_low k fs i j d h.1 (omega (arith, q)) (omega (arith, p)) e
+
+  too_high : (k : KeyView) (fs : List F) (i j : ℕ) (d : F) → KeysRise (map key fs) → i ≤ j → j < length fs → key_cmp (key (get_or fs i d)) k ≡ Greater → key_cmp (key (get_or fs j d)) k ≡ Greater
+  too_high k [] i j d h q p e = absurd (omega (arith, p))
+  too_high k (f ∷ fs) zero zero d h q p e = e
+  too_high k (f ∷ fs) (suc i) zero d h q p e = absurd (omega (arith, q))
+  too_high k (f ∷ fs) zero (suc j) d h q p e =
+      let there = key (get_or fs j d) in
+      reversed k there Less (key_cmp_total.trans k (key f) there (reversed (key f) k Greater e) (below_later (key f) fs j d h.0 h.1 (omega (arith, p))))
+  too_high k (f ∷ fs) (suc i) (suc j) d h q p e = too_high k fs i j d h.1 (omega (arith, q)) (omega (arith, p)) e
+
+  -- the same, of one that was read
+  pub lower : (k : KeyView) (fs : List F) (i : ℕ) (f : F) → KeysRise (map key fs) → slice_get fs i ≡ Some f → key_cmp (key f) k ≡ Less → (j : ℕ) (d : F) → j < i + 1 → key_cmp (key (get_or fs j d)) k ≡ Less
+  lower k fs i f h got e j d p =
+      too_low k fs i j d h (omega (arith, p)) (slice_get_within fs i f got) (ap (λ (g : F). key_cmp (key g) k) (get_or_from_slice_get fs i f d got) ∙ e)
+
+  pub higher : (k : KeyView) (fs : List F) (i : ℕ) (f : F) → KeysRise (map key fs) → slice_get fs i ≡ Some f → key_cmp (key f) k ≡ Greater → (j : ℕ) (d : F) → i ≤ j → j < length fs → key_cmp (key (get_or fs j d)) k ≡ Greater
+  higher k fs i f h got e j d p q = too_high k fs i j d h p q (ap (λ (g : F). key_cmp (key g) k) (get_or_from_slice_get fs i f d got) ∙ e)
+
+  pub here : (k : KeyView) (fs : List F) (i : ℕ) (f : F) → KeysRise (map key fs) → slice_get fs i ≡ Some f → key_cmp (key f) k ≡ Equal → Ok i ≡ place k (map key fs)
+  here k fs i f h got e = at_hit k fs i h (slice_get_within fs i f got) (λ d. ap (λ (g : F). key_cmp (key g) k) (get_or_from_slice_get fs i f d got) ∙ e)
 
   pub searched : (k : KeyView) (fs : List F) (r : Result ℕ ℕ) → KeysRise (map key fs) → IsSearchInRange r (length fs) → IsBinarySearchResult (λ f. key_cmp (key f) k) fs r → r ≡ place k (map key fs)
   searched k fs (Ok i) h within found = at_hit k fs i h within found

@@ -1,5 +1,6 @@
 pub mod ByKey
 pub mod Rows
+pub mod Blocks
 pub mod Pasts
 pub mod Held
 pub mod View

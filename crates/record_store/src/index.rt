@@ -1,37 +1,35 @@
-//! The sorted vector of rows.
-ghost use Rattle.std.specs.Prelude.{◌≡◌, ◌<◌, ◌≤◌, [], Ok, Some, None, find as first, length, map, not, option_map, option_copied, slice_get, slice_set, IfOk};
+//! The rows by key.
+ghost use Rattle.std.specs.Prelude.{◌≡◌, ◌<◌, ◌≤◌, ◌^◌, [], Ok, Some, None, find as first, length, map, not, option_map, option_copied, slice_get, slice_set, IfOk};
 ghost use Rattle.kube_meta.specs.Page.{bound_after};
 ghost use Rattle.kube_meta.specs.Plan.{passed};
 ghost use Rattle.record_store.specs.ByKey.{KeysRise, find, place as place_of, put, without};
 ghost use Rattle.record_store.specs.declared.row.Row.{Row as RowView};
 
-use crate::lookup::seek;
 use crate::row::{Record, Row};
+use crate::row_list::RowList;
 use kj_value::NoMemory;
 use kube_meta::{Key, KeySpot};
 use record_region::Piece;
 use std::alloc::Global;
+use std::cmp::Ordering;
 use std::marker::Model;
-use std::mem;
 
 /// The rows of a store by strictly rising key. It takes its memory when it is opened, and none later.
 #[derive(Drop)]
 pub struct Index {
-    rows: Vec<Row>,
-    room: u64,
+    rows: RowList,
 }
 
 impl Model for Index {
-    ghost use Rattle.std.specs.Prelude.{◌≤◌, length, map};
-    ghost use Rattle.std.specs.Vec.{vec_capacity};
+    ghost use Rattle.std.specs.Prelude.{map};
     ghost use Rattle.record_store.specs.ByKey.{KeysRise};
     ghost use Rattle.record_store.specs.Rows.{Rows, row_key};
 
     ghost Value = { Rows };
 
-    ghost view = { λ a. record { room = a.room; rows = a.rows.items } };
+    ghost view = { λ a. a.rows };
 
-    ghost invariant = { λ a. KeysRise (map row_key a.rows.items) × (length a.rows.items ≤ a.room) × (a.room ≤ vec_capacity a.rows) };
+    ghost invariant = { λ a. KeysRise (map row_key a.rows.rows) };
 }
 
 impl Index {
@@ -41,8 +39,8 @@ impl Index {
     pub fn open(alloc: Global, room: u64) -> Result<Index, NoMemory>
         ensures { IfOk result (λ index. index ≡ record { room = room; rows = [] }) }
     {
-        let rows = Vec::with_capacity(alloc, room as usize)?;
-        Ok(Index { rows, room })
+        let rows = RowList::open(alloc, room)?;
+        Ok(Index { rows })
     }
 
     /// How many rows there are.
@@ -54,21 +52,40 @@ impl Index {
         self.rows.len()
     }
 
-    /// The rows by rising key.
-    pub fn as_slice(&self) -> &[Row]
-        ensures rows { result.now ≡ self.now.rows }
+    /// The row at a place, by rising key.
+    pub fn at(&self, place: usize) -> &Row
+        requires within { place < length self.now.rows }
+        ensures { slice_get self.now.rows place ≡ Some result.now }
+    {
+        self.rows.at(place)
+    }
+
+    /// Where the key of this namespace and name stands, or else where it would go.
+    pub fn seek(&self, ns: &str, name: &str) -> Result<usize, usize>
+        ensures place { result ≡ place_of (record { ns = ns.now; name = name.now }) (map row_key self.now.rows) }
+        ensures counted { length self.now.rows < 2 ^ 64 }
         ensures room { length self.now.rows ≤ self.now.room }
         ensures order { KeysRise (map row_key self.now.rows) }
     {
-        self.rows.as_slice()
+        let mut low = 0;
+        let mut high = self.rows.len();
+        while low < high {
+            let middle = low + (high - low) / 2;
+            match self.rows.at(middle).key.compare_with(ns, name) {
+                Ordering::Less => low = middle + 1,
+                Ordering::Equal => return Ok(middle),
+                Ordering::Greater => high = middle,
+            }
+        }
+        Err(low)
     }
 
     /// The row of a key.
     pub fn find(&self, key: &Key) -> Option<&Row>
         ensures { option_copied result ≡ find row_key key.now self.now.rows }
     {
-        match seek(self.rows.as_slice(), key.ns(), key.name()) {
-            Ok(i) => Some(&self.rows[i]),
+        match self.seek(key.ns(), key.name()) {
+            Ok(i) => Some(self.rows.at(i)),
             Err(_) => None,
         }
     }
@@ -78,19 +95,23 @@ impl Index {
         ensures { option_copied result ≡ first (λ r. not (passed (bound_after (option_copied after.entry)) r.key)) self.now.rows }
     {
         let from = match after {
-            Some(key) => match seek(self.rows.as_slice(), key.ns(), key.name()) {
+            Some(key) => match self.seek(key.ns(), key.name()) {
                 Ok(i) => i + 1,
                 Err(i) => i,
             },
             None => 0,
         };
-        self.at(from)
+        self.get(from)
     }
 
-    fn at(&self, place: usize) -> Option<&Row>
+    fn get(&self, place: usize) -> Option<&Row>
         ensures { option_copied result ≡ slice_get self.now.rows place }
     {
-        self.rows.get(place)
+        if place < self.rows.len() {
+            Some(self.rows.at(place))
+        } else {
+            None
+        }
     }
 
     /// Adds the row of a key that isn't there, where there is room for one more.
@@ -99,13 +120,9 @@ impl Index {
         requires room { length self.old.rows < self.old.room }
         ensures { self.new ≡ record self.old { rows = put row_key row self.old.rows } }
     {
-        match seek(self.rows.as_slice(), row.key.ns(), row.key.name()) {
+        match self.seek(row.key.ns(), row.key.name()) {
             Ok(_) => unreachable!(),
-            Err(i) => {
-                if self.rows.insert(i, row).is_err() {
-                    unreachable!()
-                }
-            }
+            Err(i) => self.rows.insert(i, row),
         }
     }
 
@@ -114,7 +131,7 @@ impl Index {
         requires within { place < length self.now.rows }
         ensures { (row : RowView) → slice_get self.now.rows place ≡ Some row → result ≡ row.record }
     {
-        self.rows[place].record
+        self.rows.at(place).record
     }
 
     /// Puts a row in the place of the one under its key, as `seek` tells it, and answers that one. No
@@ -126,7 +143,7 @@ impl Index {
         ensures room { length self.old.rows ≤ self.old.room }
         ensures order { KeysRise (map row_key self.old.rows) }
     {
-        mem::replace(&mut self.rows[place], row)
+        self.rows.replace(place, row)
     }
 
     /// Gives the row at a place this piece, in place of the one that it had.
@@ -135,7 +152,7 @@ impl Index {
         ensures { (row : RowView) → slice_get self.old.rows place ≡ Some row
             → self.new ≡ record self.old { rows = slice_set self.old.rows place (record row { piece = piece }) } }
     {
-        self.rows[place].piece = piece;
+        self.rows.set_piece(place, piece);
     }
 
     /// Takes the row of a key out.
@@ -145,7 +162,7 @@ impl Index {
         ensures room { length self.old.rows ≤ self.old.room }
         ensures order { KeysRise (map row_key self.old.rows) }
     {
-        match seek(self.rows.as_slice(), key.ns(), key.name()) {
+        match self.seek(key.ns(), key.name()) {
             Ok(i) => Some(self.rows.remove(i)),
             Err(_) => None,
         }

@@ -11,10 +11,12 @@
 //! It knows nothing of what a text means, of versions, or of requests.
 #![tactic(auto)]
 
-// The rows that stand, by rising key, in a vector whose room is taken once.
+// The rows that stand, by rising key, in blocks whose room is taken once.
+mod block;
 mod index;
 mod lookup;
 mod row;
+mod row_list;
 
 // The newest superseded rows that fit, and the floor above which all are known.
 mod past;

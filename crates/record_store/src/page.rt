@@ -9,6 +9,7 @@ ghost use Rattle.record_store.specs.Copies.{copied};
 ghost use Rattle.record_store.specs.Inside.{AreKept, IsKept, item_of};
 ghost use Rattle.record_store.specs.Picked.{merge_into, merged, pick_key, rows_in, standing, stood, superseded};
 
+use crate::index::Index;
 use crate::lookup::{Keyed, seek};
 use crate::past::Past;
 use crate::record::StoredRecord;
@@ -97,19 +98,19 @@ fn stood(past: &Past, rv: u64) -> bool
 /// superseded since, by key.
 pub(crate) fn listed<'a>(
     alloc: Global,
-    rows: &'a [Row],
+    index: &'a Index,
     olds: &[Pick<'a>],
     rv: u64,
     ns: Option<&str>,
     after: Option<&Key>,
 ) -> Result<Vec<Pick<'a>>, NoMemory>
     ensures { IfOk result (λ picks. rows_in picks.items
-        ≡ listed row_key (option_copied ns.entry) (option_copied after.entry) (merged row_key (standing rv rows.now) (rows_in olds.now))) }
+        ≡ listed row_key (option_copied ns.entry) (option_copied after.entry) (merged row_key (standing rv index.now.rows) (rows_in olds.now))) }
 {
     let mut picks = Vec::new(alloc);
     let mut from = 0;
-    for row in rows {
-        from = merge_standing(&mut picks, row, olds, from, rv, ns, after)?;
+    for i in 0..index.len() {
+        from = merge_standing(&mut picks, index.at(i), olds, from, rv, ns, after)?;
     }
     offer_all(&mut picks, olds, from, ns, after)?;
     Ok(picks)

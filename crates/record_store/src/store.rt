@@ -12,7 +12,6 @@ ghost use Rattle.record_store.specs.View.{IsStore, item_key, item_weight, items_
 use crate::answer::PutEnd;
 use crate::held_versions::first_among;
 use crate::index::Index;
-use crate::lookup::seek;
 use crate::page::{copies, listed, shown, superseded};
 use crate::past::Past;
 use crate::record::{NewRecord, StorePage};
@@ -133,7 +132,7 @@ impl Store {
     pub fn first_held(&self, versions: &[u8]) -> Option<(u8, KeySpot)>
         ensures { result ≡ first_held item_at item_key versions.now self.now.items }
     {
-        first_among(self.index.as_slice(), versions)
+        first_among(&self.index, versions)
     }
 
     /// A page of the records as they were at a number: copies of those of a namespace behind a key, up
@@ -153,7 +152,7 @@ impl Store {
         ensures present { self.now.last ≤ rv → items_at rv self.now ≡ self.now.items }
     {
         let olds = superseded(alloc, &self.window, rv)?;
-        let picks = listed(alloc, self.index.as_slice(), olds.as_slice(), rv, ns, after)?;
+        let picks = listed(alloc, &self.index, olds.as_slice(), rv, ns, after)?;
         let count = shown(picks.len(), limit);
         let items = copies(alloc, &self.region, &picks[..count])?;
         Ok(StorePage {
@@ -278,7 +277,7 @@ impl Store {
         requires room { HasRoom new.weight (find item_key new.key self.old.items) self.old }
         ensures { self.new ≡ with_new now new self.old }
     {
-        match seek(self.index.as_slice(), new.key.ns(), new.key.name()) {
+        match self.index.seek(new.key.ns(), new.key.name()) {
             Ok(place) => self.write_over(place, now, new),
             Err(_) => self.add(now, new),
         }

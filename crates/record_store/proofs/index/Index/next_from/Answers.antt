@@ -1,4 +1,4 @@
-use Rattle.std.proofs.Common.{List, Option, map, ap, sym, subst, ◌∙◌, arith, add-one, Bor}
+use Rattle.std.proofs.Common.{List, Option, ap, sym, refl, ◌∙◌, arith, add-one, Bor}
 use Rattle.std.specs.Prelude.{slice_get, option_copied, find as first, not}
 use Rattle.kube_meta.specs.Key.{KeyView}
 use Rattle.kube_meta.specs.Page.{bound_after}
@@ -12,8 +12,8 @@ use Rattle.record_store.proofs.index.Index.next_from.Goals.{in-Some+in-Ok, in-So
 
 pub overflow_add-from : goal.overflow_add-from
 overflow_add-from c =
-    let h = hit_of row_key c.in-Some.key.now _ _ _ _ _ c.ns.ensures.value c.name.ensures.value c.as_slice.ensures.value c.in-Ok.ensures in
-    omega (arith, h.within, c.self.inside.rows.ok.0)
+    let h = hit_of row_key c.in-Some.key.now _ _ _ _ _ c.ns.ensures.value c.name.ensures.value refl c.in-Ok.ensures.place in
+    omega (arith, h.within, c.in-Ok.ensures.counted)
 
 -- the first row behind a key, if there is one
 abbrev after : List Row → Option KeyView → Option Row
@@ -21,16 +21,14 @@ after rows k = first (λ r. not (passed (bound_after k) r.key)) rows
 
 pub returns : goal.returns
 returns c =
-    let same = ap (λ (v : Rows). v.rows) c.self.view_is in
     let rows = c.args.self.now.rows in
     elim c.match-after.branch [
       | in-Some+in-Ok w ↦
-          let h = hit_of row_key w.in-Some.key.now _ _ _ _ _ w.ns.ensures.value w.name.ensures.value (w.as_slice.ensures.value ∙ same) w.in-Ok.ensures in
-          let rise = subst (λ (rs : List Row). KeysRise (map row_key rs)) same c.self.invariant.0 in
-          c.at.ensures ∙ ap (slice_get rows) (w.from-is ∙ add-one w.in-Ok.i) ∙ h.later rise ∙ ap (λ (o : Option (Bor KeyView)). after rows (option_copied o)) (sym w.in-Some.is)
+          let h = hit_of row_key w.in-Some.key.now _ _ _ _ _ w.ns.ensures.value w.name.ensures.value refl w.in-Ok.ensures.place in
+          c.get.ensures ∙ ap (slice_get rows) (w.from-is ∙ add-one w.in-Ok.i) ∙ h.later w.in-Ok.ensures.order ∙ ap (λ (o : Option (Bor KeyView)). after rows (option_copied o)) (sym w.in-Some.is)
       | in-Some+in-Err w ↦
-          let h = miss_of row_key w.in-Some.key.now _ _ _ _ _ w.ns.ensures.value w.name.ensures.value (w.as_slice.ensures.value ∙ same) w.in-Err.ensures in
-          c.at.ensures ∙ ap (slice_get rows) w.from-is ∙ h.later ∙ ap (λ (o : Option (Bor KeyView)). after rows (option_copied o)) (sym w.in-Some.is)
+          let h = miss_of row_key w.in-Some.key.now _ _ _ _ _ w.ns.ensures.value w.name.ensures.value refl w.in-Err.ensures.place in
+          c.get.ensures ∙ ap (slice_get rows) w.from-is ∙ h.later ∙ ap (λ (o : Option (Bor KeyView)). after rows (option_copied o)) (sym w.in-Some.is)
       | in-None w ↦
-          c.at.ensures ∙ ap (slice_get rows) w.from-is ∙ first_of_all row_key rows ∙ ap (λ (o : Option (Bor KeyView)). after rows (option_copied o)) (sym w.in-None.is)
+          c.get.ensures ∙ ap (slice_get rows) w.from-is ∙ first_of_all row_key rows ∙ ap (λ (o : Option (Bor KeyView)). after rows (option_copied o)) (sym w.in-None.is)
     ]

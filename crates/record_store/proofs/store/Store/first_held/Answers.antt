@@ -9,6 +9,5 @@ use Rattle.record_store.proofs.store.Store.first_held.Goals as goal
 pub returns : goal.returns
 returns c =
     c.first_among.ensures
-    ∙ ap (λ (rows : List Row). first_held (λ (r : Row). r.record.at) (λ (r : Row). r.key) c.args.versions.now rows) c.as_slice.ensures.rows
     ∙ sym (first_held-map item_at item_key (item_of c.self.inside.region) c.args.versions.now c.self.inside.index.rows)
     ∙ ap (λ (v : StoreView). first_held item_at item_key c.args.versions.now v.items) c.self.view_is

@@ -1,4 +1,4 @@
-use Rattle.std.proofs.Common.{◌≡◌, ◌≤◌, ◌-◌, ℕ, List, length, ap, ap₂, sym, subst, ◌∙◌, arith}
+use Rattle.std.proofs.Common.{◌≡◌, ◌≤◌, ◌-◌, ℕ, List, length, ap, sym, subst, ◌∙◌, arith}
 use Rattle.std.specs.Prelude.{option_copied, take, map}
 use Rattle.kube_meta.specs.Page.{listed, page_of}
 use Rattle.record_store.specs.Rows.{row_key}
@@ -16,7 +16,7 @@ copies-requires c =
     let ns = option_copied c.args.ns in
     let after = option_copied c.args.after in
     let picked = c.in_ok-picks.ensures
-    ∙ ap₂ (λ (rs zs : List Row). listed row_key ns after (merged row_key (standing c.args.rv rs) zs)) c.as_slice.ensures.rows (ap rows_in c.as_slice-2.ensures.value ∙ c.in_ok-olds.ensures) in
+    ∙ ap (λ (zs : List Row). listed row_key ns after (merged row_key (standing c.args.rv c.self.inside.index.rows) zs)) (ap rows_in c.as_slice.ensures.value ∙ c.in_ok-olds.ensures) in
     subst (λ (ps : List Pick). AreKept c.self.inside.region (rows_in (take c.shown-count.result ps))) (sym c.deref.ensures.value) (each-take (IsKept c.self.inside.region) c.shown-count.result c.in_ok-picks.picks.items (picks_kept c.self.inside.region c.self.inside.index c.self.inside.window c.args.rv ns after (rows_in c.in_ok-picks.picks.items) picked c.self.invariant.shares.kept c.self.invariant.shares.past_kept))
 
 pub returns-clause-page : goal.returns-clause-page
@@ -24,7 +24,7 @@ returns-clause-page c =
     let ns = option_copied c.args.ns in
     let after = option_copied c.args.after in
     let picked = c.in_ok-picks.ensures
-    ∙ ap₂ (λ (rs zs : List Row). listed row_key ns after (merged row_key (standing c.args.rv rs) zs)) c.as_slice.ensures.rows (ap rows_in c.as_slice-2.ensures.value ∙ c.in_ok-olds.ensures) in
+    ∙ ap (λ (zs : List Row). listed row_key ns after (merged row_key (standing c.args.rv c.self.inside.index.rows) zs)) (ap rows_in c.as_slice.ensures.value ∙ c.in_ok-olds.ensures) in
     let f = item_of c.self.inside.region in
     let picks = c.in_ok-picks.picks.items in
     let held = c.in_ok-picks.picks.ok.0 in
