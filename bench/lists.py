@@ -1,11 +1,11 @@
 #!/usr/bin/env python3
 """Times `kubeconv` over definitions with long lists, of one length and of twice that: loading one with a long `enum`, with a table of
-many pairs and with many required names; a create of as many texts as the `enum` has; and a review of objects that go over by the
+many pairs and with many required names; ten creates of as many texts as the `enum` has; and a review of objects that go over by the
 table, each by another pair.
 
 Prints what each takes, in milliseconds of processor time, so that what else runs counts little, and how many times as long it takes
-where the lists are twice as long. The time of a run over the same definition without the lists is taken off, and for the create and
-the review that of a run that only loads. Every answer is checked: status 0, 201 for the create, and as many objects in the review's
+where the lists are twice as long. The time of a run over the same definition without the lists is taken off, for the create that of a run
+that only loads, and for the review that of one that asks for one object. Every answer is checked: status 0, 201 for the create, and as many objects in the review's
 response as were asked for."""
 
 import pathlib
@@ -18,6 +18,7 @@ from serving import json
 GROUP = "example.com"
 # A definition has at most 1,024 nodes at a version.
 NAMES = 480
+CREATES = 10
 CREATE = f"/apis/{GROUP}/v1beta1/namespaces/default/crontabs"
 
 
@@ -63,11 +64,14 @@ def with_required(length):
     return definition_of(root, root, [])
 
 
-def create_of(length):
-    """The request that creates an object with so many texts, all of them different."""
-    kind = {"apiVersion": f"{GROUP}/v1beta1", "kind": "CronTab", "metadata": {"name": "a"}}
-    body = json.dumps({**kind, "tags": [text_of(n) for n in range(length)]})
-    return f"POST {CREATE} HTTP/1.1\r\nContent-Length: {len(body)}\r\n\r\n{body}".encode()
+def creates_of(length):
+    """Requests that create objects with so many texts each, all of them different."""
+    asked = []
+    for number in range(CREATES):
+        kind = {"apiVersion": f"{GROUP}/v1beta1", "kind": "CronTab", "metadata": {"name": f"a{number}"}}
+        body = json.dumps({**kind, "tags": [text_of(n) for n in range(length)]})
+        asked.append(f"POST {CREATE} HTTP/1.1\r\nContent-Length: {len(body)}\r\n\r\n{body}")
+    return "".join(asked).encode()
 
 
 def review_of(length):
@@ -94,10 +98,11 @@ def seconds_of(program, folder, texts, words, given, check):
 def main():
     """Reads the words, runs and prints."""
     parser = parser_of(__doc__, "kubeconv")
-    parser.add_argument("--length", type=int, default=10000, help="the shorter length of an enum and a table (default: 10000)")
+    parser.add_argument("--length", type=int, default=10000, help="the shorter length of an enum and a table that are asked; those that are only loaded are three times as long (default: 10000)")
     options = parser.parse_args()
     program = built("kubeconv", options.program, "pipe")
     lengths = options.length, 2 * options.length
+    loads = 3 * options.length, 6 * options.length
     names = NAMES, 2 * NAMES
     tasks = {}
     with tempfile.TemporaryDirectory() as place:
@@ -109,33 +114,34 @@ def main():
         def is_empty(output):
             return output == b""
 
-        for length in (0, *lengths):
+        for length in (0, *lengths, *loads):
             add("loading an enum", length, with_enum(length), ["pipe"], b"", is_empty)
+        for length in (0, *loads):
             add("loading a table", length, with_table(length), ["pipe"], b"", is_empty)
         for length in (0, *names):
             add("loading required names", length, with_required(length), ["pipe"], b"", is_empty)
         for length in lengths:
-            add("a create against the enum", length, with_enum(length), ["pipe"], create_of(length), lambda out: out.startswith(b"HTTP/1.1 201 "))
-            wanted = length
-            add(
-                "a review by the table",
-                length,
-                with_table(length),
-                ["review"],
-                review_of(length),
-                lambda out, wanted=wanted: len(json.loads(out)["response"]["convertedObjects"]) == wanted,
-            )
+            add("creates against the enum", length, with_enum(length), ["pipe"], creates_of(length), lambda out: out.count(b"HTTP/1.1 201 ") == CREATES)
+            for chore, wanted in (("a review by the table", length), ("a review of one object", 1)):
+                add(
+                    chore,
+                    length,
+                    with_table(length),
+                    ["review"],
+                    review_of(wanted),
+                    lambda out, wanted=wanted: len(json.loads(out)["response"]["convertedObjects"]) == wanted,
+                )
         best = best_of(options.runs, tasks)
     off = {
         "loading an enum": lambda length: best["loading an enum", 0],
         "loading a table": lambda length: best["loading a table", 0],
         "loading required names": lambda length: best["loading required names", 0],
-        "a create against the enum": lambda length: best["loading an enum", length],
-        "a review by the table": lambda length: best["loading a table", length],
+        "creates against the enum": lambda length: best["loading an enum", length],
+        "a review by the table": lambda length: best["a review of one object", length],
     }
     print(f"{'chore':<26}{'length':>8}{'ms':>10}{'ms, twice as long':>20}{'ratio':>8}")
     for chore, less in off.items():
-        least, most = names if chore == "loading required names" else lengths
+        least, most = names if chore == "loading required names" else loads if chore.startswith("loading") else lengths
         first, last = best[chore, least] - less(least), best[chore, most] - less(most)
         print(f"{chore:<26}{least:>8}{first * 1e3:>10.2f}{last * 1e3:>20.2f}{last / first:>8.2f}")
 
