@@ -12,6 +12,7 @@ pub mod Answered
 pub mod Opened
 pub mod Sorted
 pub mod Merged
+pub mod Beyond
 pub mod Paged
 pub mod Steps
 pub mod Overwritten

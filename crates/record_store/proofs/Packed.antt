@@ -1,9 +1,9 @@
 -- Rows in blocks, of which each but the last that has rows is full.
-use Rattle.std.proofs.Common.{◌≡◌, ℕ, zero, suc, ◌+◌, ◌-◌, ◌*◌, ◌/◌, ◌%◌, ◌<◌, ◌≤◌, List, [], ◌∷◌, ◌++◌, length, take, drop, set, get_or, Bool, true, false, nat_lt, Option, Some, ap, sym, subst, refl, ◌∙◌, arith, append_assoc, append-nil}
+use Rattle.std.proofs.Common.{◌≡◌, ℕ, zero, suc, ◌+◌, ◌-◌, ◌*◌, ◌/◌, ◌%◌, ◌<◌, ◌≤◌, List, [], ◌∷◌, ◌++◌, length, take, drop, set, get_or, Bool, true, false, nat_lt, Some, ap, sym, subst, refl, ◌∙◌, arith, append_assoc, append-nil}
 use Rattle.std.specs.Prelude.{insert, remove, slice_get}
 use Rattle.std.specs.List.{AllByRecursion as Each}
 use Rattle.std.proofs.lemmas.Bool.Decides.{nat_tests}
-use Rattle.std.proofs.lemmas.List.{length-append, length-set, set-append_left, set-append_right, set_split, take_more_set, take-set, take-set-le, drop-set-lt, drop_more, drop_all, take-append-drop, length-take-le, get_or-set_other}
+use Rattle.std.proofs.lemmas.List.{length-append, length-drop, length-set, set-append_left, set-append_right, set_split, take_more_set, take-set, take-set-le, drop-set-lt, drop_more, drop_all, take-append-drop, length-take-le, get_or-set_other}
 use Rattle.std.proofs.lemmas.List.Edits.{insert-append_left, insert-append_right, remove-append_left, remove-append_right, length-insert, length-remove}
 use Rattle.record_store.specs.Blocks.{block_rows, IsFull, IsGapped, IsPacked, joined}
 
@@ -63,6 +63,32 @@ module _ {X : Type 0} where
   get-right (x ∷ xs) ys n i zero e f = absurd (omega (arith, e, f))
   get-right (x ∷ xs) ys zero i (suc m) e f = absurd (omega (arith, e, f))
   get-right (x ∷ xs) ys (suc n) i (suc m) e f = get-right xs ys n i m (omega (arith, e)) (omega (arith, f))
+
+  drop-past : (xs ys : List X) (n k m : ℕ) → length xs ≡ n → m ≡ n + k → drop m (xs ++ ys) ≡ drop k ys
+  drop-past [] ys n k m e f = let same : m ≡ k = omega (arith, e, f) in ap (λ (i : ℕ). drop i ys) same
+  drop-past (x ∷ xs) ys n k zero e f = absurd (omega (arith, e, f))
+  drop-past (x ∷ xs) ys zero k (suc m) e f = absurd (omega (arith, e, f))
+  drop-past (x ∷ xs) ys (suc n) k (suc m) e f = drop-past xs ys n k m (omega (arith, e)) (omega (arith, f))
+
+  drop-within : (xs ys : List X) (k : ℕ) → k ≤ length xs → drop k (xs ++ ys) ≡ drop k xs ++ ys
+  drop-within xs ys zero p = refl
+  drop-within [] ys (suc k) p = absurd (omega (arith, p))
+  drop-within (x ∷ xs) ys (suc k) p = drop-within xs ys k (omega (arith, p))
+
+  -- ---- rows that lie side by side, in two parts
+
+  pub run-front : (xs ys zs : List X) (k : ℕ) → xs ++ ys ≡ zs → k ≤ length xs → drop k xs ++ drop (k + length (drop k xs)) zs ≡ drop k zs
+  run-front xs ys zs k e p =
+      let end : k + length (drop k xs) ≡ length xs + 0 = omega (arith, length-drop k xs, p) in
+      ap (λ (l : List X). drop k xs ++ drop (k + length (drop k xs)) l) (sym e)
+      ∙ ap (λ (l : List X). drop k xs ++ l) (drop-past xs ys (length xs) 0 (k + length (drop k xs)) refl end)
+      ∙ sym (drop-within xs ys k p) ∙ ap (λ (l : List X). drop k l) e
+
+  pub run-back : (xs ys zs : List X) (k m : ℕ) → xs ++ ys ≡ zs → k ≡ length xs + m → drop m ys ++ drop (k + length (drop m ys)) zs ≡ drop k zs
+  run-back xs ys zs k m e f =
+      let there : drop k zs ≡ drop m ys = ap (λ (l : List X). drop k l) (sym e) ∙ drop-past xs ys (length xs) m k refl f in
+      let end : length zs ≤ k + length (drop m ys) = omega (arith, ap (λ (l : List X). length l) e, length-append xs ys, f, length-drop m ys) in
+      ap (λ (l : List X). drop m ys ++ l) (drop_all (k + length (drop m ys)) zs end) ∙ append-nil (drop m ys) ∙ sym there
 
   -- ---- one block among the others
 
@@ -157,6 +183,12 @@ module _ {X : Type 0} where
     got-at : at < length b → slice_get (joined bs) n ≡ slice_get b at
     got-at q = ap (λ (l : List X). slice_get l n) (joined-cut bs i b p is) ∙ get-right front (b ++ rest) (block_rows * i) at n s.before e ∙ get-left b rest at q
 
+    drop-at : (k m : ℕ) → k ≤ length b → m ≡ block_rows * i + k → drop m (joined bs) ≡ drop k b ++ rest
+    drop-at k m q f =
+        ap (λ (l : List X). drop m l) (joined-cut bs i b p is)
+        ∙ drop-past front (b ++ rest) (block_rows * i) k m s.before f
+        ∙ drop-within b rest k q
+
     set-at : (x : X) → at < length b → set (joined bs) n x ≡ joined (set bs i (set b at x))
     set-at x q =
         ap (λ (l : List X). set l n x) (joined-cut bs i b p is)
@@ -224,6 +256,18 @@ module _ {X : Type 0} where
 
       pub got : slice_get (joined bs) n ≡ slice_get b (n % block_rows)
       got = got-at bs (n / block_rows) (n % block_rows) n b below is its_spot whole inside
+
+      -- the rows of the block from there on
+      pub run-joined : (run : List X) → run ++ drop (n % block_rows + length run) b ≡ drop (n % block_rows) b → run ++ drop (n + length run) (joined bs) ≡ drop n (joined bs)
+      run-joined run e =
+          let at = n % block_rows in
+          let i = n / block_rows in
+          let long = ap (λ (l : List X). length l) e in
+          let reach : at + length run ≤ length b = omega (arith, long, length-append run (drop (at + length run) b), length-drop (at + length run) b, length-drop at b, inside) in
+          ap (λ (l : List X). run ++ l) (drop-at bs i at n b below is its_spot whole (at + length run) (n + length run) reach (omega (arith, whole)))
+          ∙ sym (append_assoc run (drop (at + length run) b) (joined (drop (i + 1) bs)))
+          ∙ ap (λ (l : List X). l ++ joined (drop (i + 1) bs)) e
+          ∙ sym (drop-at bs i at n b below is its_spot whole at n (omega (arith, inside)) whole)
 
       -- another row there
       module _ (c : List X) (x : X) (e : c ≡ set b (n % block_rows) x) where

@@ -81,6 +81,14 @@ pub taken-le : (places : Places) (rs : List Row) → AreKept places rs → taken
 taken-le places [] h = omega arith
 taken-le places (r ∷ rs) h = let c = h.0.chunks in let more = taken-le places rs h.1 in omega (arith, c, more)
 
+-- each row has a chunk at least
+pub rows-weigh : (places : Places) (rs : List Row) → AreKept places rs → length rs ≤ weights row_weight rs
+rows-weigh places [] h = omega arith
+rows-weigh places (r ∷ rs) h =
+    let more = rows-weigh places rs h.1 in
+    let one = h.0.chunks in
+    omega (arith, more, one)
+
 pub record-kept : (places : Places) (r : Row) → IsKept places r → record_of (item_of places r) ≡ r.record
 record-kept places r h = ap (λ (n : ℕ). record { at = r.record.at; rv = r.record.rv; born = r.record.born; weight = r.record.weight; len = n }) h.len
 

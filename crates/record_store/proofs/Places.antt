@@ -1,11 +1,11 @@
 -- What a place among keys says of the things by key.
-use Rattle.std.proofs.Common.{◌≡◌, ℕ, zero, suc, ◌<◌, ◌≤◌, List, [], ◌∷◌, length, get_or, set, map, Option, Some, None, Result, Ok, Err, Ordering, Less, Equal, Greater, false, subst, ap, sym, refl, ◌∙◌, arith}
+use Rattle.std.proofs.Common.{◌≡◌, ℕ, zero, suc, ◌<◌, ◌≤◌, List, [], ◌∷◌, length, get_or, set, map, drop, Option, Some, None, Result, Ok, Err, Ordering, Less, Equal, Greater, false, subst, ap, sym, refl, ◌∙◌, arith}
 use Rattle.std.specs.Prelude.{find as first, insert, remove, not, slice_get}
 use Rattle.std.specs.Ordering.{match_ordering, is_gt}
 use Rattle.kube_meta.specs.Key.{KeyView, key_cmp}
 use Rattle.kube_meta.specs.KeyOrder.{key_cmp_total}
 use Rattle.kube_meta.specs.Plan.{Start, After, passed}
-use Rattle.record_store.specs.ByKey.{IsBelowFirst, KeysRise, find, put, without, next, place}
+use Rattle.record_store.specs.ByKey.{IsBelowFirst, KeysRise, all_behind, find, put, without, next, place, place_behind}
 use Rattle.record_store.proofs.Search.{reversed}
 
 module _ {F : Type 0} (key : F → KeyView) where
@@ -24,6 +24,7 @@ module _ {F : Type 0} (key : F → KeyView) where
     pub replaced : (g : F) → key g ≡ k → set fs i g ≡ put key g fs
     pub removed : remove fs i ≡ without key k fs
     pub later : KeysRise (map key fs) → slice_get fs (suc i) ≡ behind k fs
+    pub beyond : KeysRise (map key fs) → drop (suc i) fs ≡ all_behind key (Some k) fs
 
   -- what a miss at i says
   pub record Misses (k : KeyView) (fs : List F) (i : ℕ) : Type 0 where
@@ -32,6 +33,7 @@ module _ {F : Type 0} (key : F → KeyView) where
     pub inserted : (g : F) → key g ≡ k → insert fs i g ≡ put key g fs
     pub removed : without key k fs ≡ fs
     pub later : slice_get fs i ≡ behind k fs
+    pub beyond : KeysRise (map key fs) → drop i fs ≡ all_behind key (Some k) fs
 
   abbrev Found : KeyView → List F → Result ℕ ℕ → Type 0
   Found k fs (Ok i) = Hits k fs i
@@ -56,6 +58,32 @@ module _ {F : Type 0} (key : F → KeyView) where
       let less : key_cmp k (key g) ≡ Less = key_cmp_total.congr k (key f) (key g) q ∙ h.0 in
       sym (skipped_equal k f (g ∷ gs) q ∙ not_passed k g gs less)
 
+  -- ---- all that is behind
+
+  -- behind a key that comes before the first one stand all
+  all-kept : (k : KeyView) (fs : List F) → IsBelowFirst k (map key fs) → KeysRise (map key fs) → fs ≡ all_behind key (Some k) fs
+  all-kept k [] p h = refl
+  all-kept k (f ∷ fs) p h =
+      let e : key_cmp (key f) k ≡ Greater = reversed k (key f) Less p in
+      rw e (ap (λ (r : List F). f ∷ r) (all-kept k fs (below-rest k f fs p h) h.1))
+    where
+      below-rest : (k : KeyView) (f : F) (fs : List F) → key_cmp k (key f) ≡ Less → KeysRise (map key (f ∷ fs)) → IsBelowFirst k (map key fs)
+      below-rest k f [] p h = tt
+      below-rest k f (g ∷ fs) p h = key_cmp_total.trans k (key f) (key g) p h.0
+
+  dropped : (k : KeyView) (f : F) (fs : List F) → is_gt (key_cmp (key f) k) ≡ false → all_behind key (Some k) (f ∷ fs) ≡ all_behind key (Some k) fs
+  dropped k f fs q = rw q refl
+
+  dropped_equal : (k : KeyView) (f : F) (fs : List F) → key_cmp k (key f) ≡ Equal → all_behind key (Some k) (f ∷ fs) ≡ all_behind key (Some k) fs
+  dropped_equal k f fs q = let e : key_cmp (key f) k ≡ Equal = reversed k (key f) Equal q in dropped k f fs (rw e refl)
+
+  dropped_greater : (k : KeyView) (f : F) (fs : List F) → key_cmp k (key f) ≡ Greater → all_behind key (Some k) (f ∷ fs) ≡ all_behind key (Some k) fs
+  dropped_greater k f fs q = let e : key_cmp (key f) k ≡ Less = reversed k (key f) Greater q in dropped k f fs (rw e refl)
+
+  below_equal : (k : KeyView) (f : F) (fs : List F) → key_cmp k (key f) ≡ Equal → IsBelowFirst (key f) (map key fs) → IsBelowFirst k (map key fs)
+  below_equal k f [] q h = tt
+  below_equal k f (g ∷ fs) q h = key_cmp_total.congr k (key f) (key g) q ∙ h
+
   found_past : (k : KeyView) (f : F) (fs : List F) (r : Result ℕ ℕ) → key_cmp k (key f) ≡ Greater → Found k fs r → Found k (f ∷ fs) (next r)
   found_past k f fs (Ok i) q h = record {
     within = omega (arith, h.within);
@@ -63,6 +91,7 @@ module _ {F : Type 0} (key : F → KeyView) where
     replaced = λ g e. replaced_past g (rw e q) (h.replaced g e);
     removed = rw q (ap (λ (r : List F). f ∷ r) h.removed);
     later = λ s. h.later s.1 ∙ sym (skipped_greater k f fs q);
+    beyond = λ s. h.beyond s.1 ∙ sym (dropped_greater k f fs q);
   }
     where
       replaced_past : (g : F) → key_cmp (key g) (key f) ≡ Greater → set fs i g ≡ put key g fs → set (f ∷ fs) (suc i) g ≡ put key g (f ∷ fs)
@@ -73,6 +102,7 @@ module _ {F : Type 0} (key : F → KeyView) where
     inserted = λ g e. inserted_past g (rw e q) (h.inserted g e);
     removed = rw q (ap (λ (r : List F). f ∷ r) h.removed);
     later = h.later ∙ sym (skipped_greater k f fs q);
+    beyond = λ s. h.beyond s.1 ∙ sym (dropped_greater k f fs q);
   }
     where
       inserted_past : (g : F) → key_cmp (key g) (key f) ≡ Greater → insert fs i g ≡ put key g fs → insert (f ∷ fs) (suc i) g ≡ put key g (f ∷ fs)
@@ -85,6 +115,7 @@ module _ {F : Type 0} (key : F → KeyView) where
     inserted = λ g e. refl;
     removed = refl;
     later = refl;
+    beyond = λ s. refl;
   }
   found k (f ∷ fs) = by_order (found k fs) (key_cmp k (key f)) refl
     where
@@ -95,6 +126,7 @@ module _ {F : Type 0} (key : F → KeyView) where
         inserted = λ g e. let below : key_cmp (key g) (key f) ≡ Less = ap (λ (l : KeyView). key_cmp l (key f)) e ∙ q in rw below refl;
         removed = rw q refl;
         later = sym (not_passed k f fs q);
+        beyond = λ s. all-kept k (f ∷ fs) q s;
       }
       by_order h Equal q = record {
         within = omega arith;
@@ -102,6 +134,7 @@ module _ {F : Type 0} (key : F → KeyView) where
         replaced = λ g e. let same : key_cmp (key g) (key f) ≡ Equal = ap (λ (l : KeyView). key_cmp l (key f)) e ∙ q in rw same refl;
         removed = rw q refl;
         later = λ s. next_behind k f fs q s;
+        beyond = λ s. all-kept k fs (below_equal k f fs q s.0) s.1 ∙ sym (dropped_equal k f fs q);
       }
       by_order h Greater q = found_past k f fs _ q h
 
@@ -120,6 +153,23 @@ module _ {F : Type 0} (key : F → KeyView) where
   pub miss_of : (k : KeyView) (ns name : List ℕ) (xs fs : List F) (i : ℕ) → ns ≡ k.ns → name ≡ k.name → xs ≡ fs → Err i ≡ place (record { ns = ns; name = name }) (map key xs) → Misses k fs i
   miss_of k ns name xs fs i e f same h =
       miss k xs fs i same (h ∙ ap (λ (n : List ℕ). place (record { ns = n; name = name }) (map key xs)) e ∙ ap (λ (n : List ℕ). place (record { ns = k.ns; name = n }) (map key xs)) f)
+
+  pub none-behind : (fs : List F) → fs ≡ all_behind key None fs
+  none-behind [] = refl
+  none-behind (f ∷ fs) = ap (λ (r : List F). f ∷ r) (none-behind fs)
+
+  -- where the things behind a key begin
+  pub record IsBegin (k : KeyView) (fs : List F) (n : ℕ) : Type 0 where
+    pub within : n ≤ length fs
+    pub rows : drop n fs ≡ all_behind key (Some k) fs
+
+  pub begins : (k : KeyView) (ns name : List ℕ) (fs : List F) (r : Result ℕ ℕ) → ns ≡ k.ns → name ≡ k.name → KeysRise (map key fs) → r ≡ place (record { ns = ns; name = name }) (map key fs) → IsBegin k fs (place_behind r)
+  begins k ns name fs (Ok i) e f rise is =
+      let h = hit_of k ns name fs fs i e f refl is in
+      record { within = h.within; rows = h.beyond rise }
+  begins k ns name fs (Err i) e f rise is =
+      let h = miss_of k ns name fs fs i e f refl is in
+      record { within = h.within; rows = h.beyond rise }
 
   -- ---- keys go on rising
 

@@ -1,12 +1,13 @@
 -- The steps of the walks that gather a page and copy it.
-use Rattle.std.proofs.Common.{◌≡◌, ◌≢◌, ℕ, zero, suc, ◌+◌, ◌-◌, ◌<◌, ◌≤◌, List, [], ◌∷◌, ◌++◌, length, map, take, drop, get_or, drop-cons, Bool, true, false, Ordering, Less, Equal, Greater, Option, Some, None, subst, ap, ap₂, sym, refl, ◌∙◌, arith, cond, nat_eq, nat_lt, append_assoc, append-nil}
+use Rattle.std.proofs.Common.{◌≡◌, ℕ, zero, suc, ◌+◌, ◌-◌, ◌<◌, ◌≤◌, List, [], ◌∷◌, ◌++◌, length, map, take, drop, get_or, drop-cons, Bool, true, false, Ordering, Less, Equal, Greater, Option, Some, None, subst, ap, ap₂, sym, refl, ◌∙◌, arith, cond, nat_eq, append_assoc, append-nil}
+use Rattle.std.proofs.Math.Seq.{take-nil}
 use Rattle.std.proofs.lemmas.Bool.Decides.{nat_tests}
-use Rattle.std.proofs.lemmas.List.{drop_all, take_all, take-map, length-map, map-append}
+use Rattle.std.proofs.lemmas.List.{drop_all, take-map, length-append, length-map}
 use Rattle.std.proofs.lemmas.List.Elements.{filter-append}
 use Rattle.std.specs.Prelude.{not, ◌&&◌, nat_le, slice_get, if◌then◌else◌}
 use Rattle.std.specs.List.{AllByRecursion as Each}
 use Rattle.std.specs.Ordering.{match_ordering}
-use Rattle.kube_meta.specs.Key.{KeyView, key_cmp}
+use Rattle.kube_meta.specs.Key.{key_cmp}
 use Rattle.kube_meta.specs.Page.{bound_after, in_namespace, listed, page_of}
 use Rattle.kube_meta.specs.Plan.{passed}
 use Rattle.record_store.specs.ByKey.{put}
@@ -15,7 +16,7 @@ use Rattle.record_store.specs.declared.row.Row.{Row}
 use Rattle.record_store.specs.declared.past.Past.{Past}
 use Rattle.record_store.specs.declared.page.Pick.{Pick}
 use Rattle.record_store.specs.View.{Item}
-use Rattle.record_store.specs.Picked.{pick_row, pick_key, rows_in, standing, stood, superseded, merge_into, merged}
+use Rattle.record_store.specs.Picked.{Shown, pick_row, pick_key, rows_in, no_rows, standing, stood, superseded, merge_into, merged, with_more}
 use Rattle.record_store.proofs.Mapped.{put-seen}
 
 module _ {X : Type 0} where
@@ -57,69 +58,59 @@ put_out r w done isnt = ap (λ (b : Bool). if b then put row_key w.row (rows_in 
 
 -- ---- what is listed
 
-module _ (ns : Option (List ℕ)) (after : Option KeyView) where
+module _ (ns : Option (List ℕ)) where
   abbrev asked : Row → Bool
-  asked r = in_namespace ns r.key && not (passed (bound_after after) r.key)
+  asked r = in_namespace ns r.key && not (passed (bound_after None) r.key)
 
   abbrev shows : List Row → List Row
-  shows rows = listed row_key ns after rows
+  shows rows = listed row_key ns None rows
 
-  pub offered_in : (ps : List Pick) (p : Pick) → asked (pick_row p) ≡ true → rows_in (ps ++ p ∷ []) ≡ rows_in ps ++ shows (pick_row p ∷ [])
-  offered_in ps p e =
-      map-append pick_row ps (p ∷ []) ∙ ap (λ (b : Bool). rows_in ps ++ cond b (pick_row p ∷ []) []) (sym e)
+  -- one row was offered: what the page comes to then with more rows is what it came to with the row before them
+  module _ (done new : List Row → Shown) (all : Shown) where
+    one : (rows : List Row) (r : Row) → ((rest : List Row) → new rest ≡ done (shows (r ∷ []) ++ rest)) → done (shows (r ∷ rows)) ≡ all → new (shows rows) ≡ all
+    one rows r e h = e (shows rows) ∙ ap done (sym (filter-append asked (r ∷ []) rows)) ∙ h
 
-  pub offered_out : (ps : List Pick) (p : Pick) → asked (pick_row p) ≡ false → rows_in ps ≡ rows_in ps ++ shows (pick_row p ∷ [])
-  offered_out ps p e =
-      sym (append-nil (rows_in ps)) ∙ ap (λ (b : Bool). rows_in ps ++ cond b (pick_row p ∷ []) []) (sym e)
+    module _ (x z : Row) (rest : List Row → List Row) (zs : List Row) where
+      chosen : (o : Ordering) → key_cmp (row_key z) (row_key x) ≡ o → done (shows (merge_into row_key x rest (z ∷ zs))) ≡ all
+          → done (shows (match_ordering o (z ∷ merge_into row_key x rest zs) (z ∷ rest zs) (x ∷ rest (z ∷ zs)))) ≡ all
+      chosen o q h = ap (λ (u : Ordering). done (shows (match_ordering u (z ∷ merge_into row_key x rest zs) (z ∷ rest zs) (x ∷ rest (z ∷ zs))))) (sym q) ∙ h
 
-  -- one row was offered
-  pub one : (done new all rows : List Row) (r : Row) → new ≡ done ++ shows (r ∷ []) → done ++ shows (r ∷ rows) ≡ all → new ++ shows rows ≡ all
-  one done new all rows r e h =
-      ap (λ (l : List Row). l ++ shows rows) e ∙ append_assoc done (shows (r ∷ [])) (shows rows)
-      ∙ ap (λ (l : List Row). done ++ l) (sym (filter-append asked (r ∷ []) rows)) ∙ h
+      before : key_cmp (row_key z) (row_key x) ≡ Less → ((more : List Row) → new more ≡ done (shows (z ∷ []) ++ more)) → done (shows (merge_into row_key x rest (z ∷ zs))) ≡ all → new (shows (merge_into row_key x rest zs)) ≡ all
+      before q e h = one (merge_into row_key x rest zs) z e (chosen Less q h)
 
-  module _ (x z : Row) (rest : List Row → List Row) (zs done new all : List Row) where
-    chosen : (o : Ordering) → key_cmp (row_key z) (row_key x) ≡ o → done ++ shows (merge_into row_key x rest (z ∷ zs)) ≡ all
-        → done ++ shows (match_ordering o (z ∷ merge_into row_key x rest zs) (z ∷ rest zs) (x ∷ rest (z ∷ zs))) ≡ all
-    chosen o q h = ap (λ (u : Ordering). done ++ shows (match_ordering u (z ∷ merge_into row_key x rest zs) (z ∷ rest zs) (x ∷ rest (z ∷ zs)))) (sym q) ∙ h
+      instead : key_cmp (row_key z) (row_key x) ≡ Equal → ((more : List Row) → new more ≡ done (shows (z ∷ []) ++ more)) → done (shows (merge_into row_key x rest (z ∷ zs))) ≡ all → new (shows (rest zs)) ≡ all
+      instead q e h = one (rest zs) z e (chosen Equal q h)
 
-    pub before : key_cmp (row_key z) (row_key x) ≡ Less → new ≡ done ++ shows (z ∷ []) → done ++ shows (merge_into row_key x rest (z ∷ zs)) ≡ all → new ++ shows (merge_into row_key x rest zs) ≡ all
-    before q e h = one done new all (merge_into row_key x rest zs) z e (chosen Less q h)
+      behind : key_cmp (row_key z) (row_key x) ≡ Greater → ((more : List Row) → new more ≡ done (shows (x ∷ []) ++ more)) → done (shows (merge_into row_key x rest (z ∷ zs))) ≡ all → new (shows (rest (z ∷ zs))) ≡ all
+      behind q e h = one (rest (z ∷ zs)) x e (chosen Greater q h)
 
-    pub instead : key_cmp (row_key z) (row_key x) ≡ Equal → new ≡ done ++ shows (z ∷ []) → done ++ shows (merge_into row_key x rest (z ∷ zs)) ≡ all → new ++ shows (rest zs) ≡ all
-    instead q e h = one done new all (rest zs) z e (chosen Equal q h)
+    module _ (olds : List Pick) (i : ℕ) (p : Pick) (within : i < length olds) (is : p ≡ get_or olds i p) where
+      pub offered_at : ((more : List Row) → new more ≡ done (shows (pick_row p ∷ []) ++ more)) → done (shows (rows_in (drop i olds))) ≡ all → new (shows (rows_in (drop (i + 1) olds))) ≡ all
+      offered_at e h =
+          one (rows_in (drop (i + 1) olds)) (pick_row p) e (ap (λ (ps : List Pick). done (shows (rows_in ps))) (sym (next_at olds i p within is)) ∙ h)
 
-    pub behind : key_cmp (row_key z) (row_key x) ≡ Greater → new ≡ done ++ shows (x ∷ []) → done ++ shows (merge_into row_key x rest (z ∷ zs)) ≡ all → new ++ shows (rest (z ∷ zs)) ≡ all
-    behind q e h = one done new all (rest (z ∷ zs)) x e (chosen Greater q h)
+      module _ (x : Row) (rest : List Row → List Row) (h : done (shows (merge_into row_key x rest (rows_in (drop i olds)))) ≡ all) where
+        at_front : done (shows (merge_into row_key x rest (pick_row p ∷ rows_in (drop (i + 1) olds)))) ≡ all
+        at_front = ap (λ (ps : List Pick). done (shows (merge_into row_key x rest (rows_in ps)))) (sym (next_at olds i p within is)) ∙ h
 
-  module _ (olds : List Pick) (i : ℕ) (p : Pick) (within : i < length olds) (is : p ≡ get_or olds i p) (done new all : List Row) where
-    pub offered_at : new ≡ done ++ shows (pick_row p ∷ []) → done ++ shows (rows_in (drop i olds)) ≡ all → new ++ shows (rows_in (drop (i + 1) olds)) ≡ all
-    offered_at e h =
-        one done new all (rows_in (drop (i + 1) olds)) (pick_row p) e (ap (λ (ps : List Pick). done ++ shows (rows_in ps)) (sym (next_at olds i p within is)) ∙ h)
+        pub merged_before : key_cmp (pick_key p) (row_key x) ≡ Less → ((more : List Row) → new more ≡ done (shows (pick_row p ∷ []) ++ more)) → new (shows (merge_into row_key x rest (rows_in (drop (i + 1) olds)))) ≡ all
+        merged_before q e = before x (pick_row p) rest (rows_in (drop (i + 1) olds)) q e at_front
 
-    module _ (x : Row) (rest : List Row → List Row) (h : done ++ shows (merge_into row_key x rest (rows_in (drop i olds))) ≡ all) where
-      at_front : done ++ shows (merge_into row_key x rest (pick_row p ∷ rows_in (drop (i + 1) olds))) ≡ all
-      at_front = ap (λ (ps : List Pick). done ++ shows (merge_into row_key x rest (rows_in ps))) (sym (next_at olds i p within is)) ∙ h
+        pub merged_instead : key_cmp (pick_key p) (row_key x) ≡ Equal → ((more : List Row) → new more ≡ done (shows (pick_row p ∷ []) ++ more)) → new (shows (rest (rows_in (drop (i + 1) olds)))) ≡ all
+        merged_instead q e = instead x (pick_row p) rest (rows_in (drop (i + 1) olds)) q e at_front
 
-      pub merged_before : key_cmp (pick_key p) (row_key x) ≡ Less → new ≡ done ++ shows (pick_row p ∷ []) → new ++ shows (merge_into row_key x rest (rows_in (drop (i + 1) olds))) ≡ all
-      merged_before q e = before x (pick_row p) rest (rows_in (drop (i + 1) olds)) done new all q e at_front
+        pub merged_behind : key_cmp (pick_key p) (row_key x) ≡ Greater → ((more : List Row) → new more ≡ done (shows (x ∷ []) ++ more)) → new (shows (rest (rows_in (drop i olds)))) ≡ all
+        merged_behind q e =
+            ap (λ (ps : List Pick). new (shows (rest (rows_in ps)))) (next_at olds i p within is) ∙ behind x (pick_row p) rest (rows_in (drop (i + 1) olds)) q e at_front
 
-      pub merged_instead : key_cmp (pick_key p) (row_key x) ≡ Equal → new ≡ done ++ shows (pick_row p ∷ []) → new ++ shows (rest (rows_in (drop (i + 1) olds))) ≡ all
-      merged_instead q e = instead x (pick_row p) rest (rows_in (drop (i + 1) olds)) done new all q e at_front
+    pub merged_last : (olds : List Pick) (i n : ℕ) (x : Row) (rest : List Row → List Row) → length olds ≤ i → length olds ≤ n → ((more : List Row) → new more ≡ done (shows (x ∷ []) ++ more))
+        → done (shows (merge_into row_key x rest (rows_in (drop i olds)))) ≡ all → new (shows (rest (rows_in (drop n olds)))) ≡ all
+    merged_last olds i n x rest end end_n e h =
+        ap (λ (ps : List Pick). new (shows (rest (rows_in ps)))) (drop_all n olds end_n)
+        ∙ one (rest []) x e (ap (λ (ps : List Pick). done (shows (merge_into row_key x rest (rows_in ps)))) (sym (drop_all i olds end)) ∙ h)
 
-      pub merged_behind : key_cmp (pick_key p) (row_key x) ≡ Greater → new ≡ done ++ shows (x ∷ []) → new ++ shows (rest (rows_in (drop i olds))) ≡ all
-      merged_behind q e =
-          ap (λ (ps : List Pick). new ++ shows (rest (rows_in ps))) (next_at olds i p within is) ∙ behind x (pick_row p) rest (rows_in (drop (i + 1) olds)) done new all q e at_front
-
-  pub offered_all : (olds : List Pick) (i : ℕ) (done all : List Row) → length olds ≤ i → done ++ shows (rows_in (drop i olds)) ≡ all → done ≡ all
-  offered_all olds i done all end h =
-      sym (append-nil done) ∙ ap (λ (ps : List Pick). done ++ shows (rows_in ps)) (sym (drop_all i olds end)) ∙ h
-
-  pub merged_last : (olds : List Pick) (i n : ℕ) (x : Row) (rest : List Row → List Row) (done new all : List Row) → length olds ≤ i → length olds ≤ n → new ≡ done ++ shows (x ∷ [])
-      → done ++ shows (merge_into row_key x rest (rows_in (drop i olds))) ≡ all → new ++ shows (rest (rows_in (drop n olds))) ≡ all
-  merged_last olds i n x rest done new all end end_n e h =
-      ap (λ (ps : List Pick). new ++ shows (rest (rows_in ps))) (drop_all n olds end_n)
-      ∙ one done new all (rest []) x e (ap (λ (ps : List Pick). done ++ shows (merge_into row_key x rest (rows_in ps))) (sym (drop_all i olds end)) ∙ h)
+  pub offered_all : (done : List Row → Shown) (all : Shown) (olds : List Pick) (i : ℕ) → length olds ≤ i → done (shows (rows_in (drop i olds))) ≡ all → done [] ≡ all
+  offered_all done all olds i end h = ap (λ (ps : List Pick). done (shows (rows_in ps))) (sym (drop_all i olds end)) ∙ h
 
 -- ---- the rows that stand
 
@@ -129,19 +120,109 @@ standing_in r x xs zs e = ap (λ (b : Bool). merged row_key (cond b (x ∷ stand
 pub standing_out : (r : ℕ) (x : Row) (xs zs : List Row) → nat_le x.record.rv r ≡ false → merged row_key (standing r (x ∷ xs)) zs ≡ merged row_key (standing r xs) zs
 standing_out r x xs zs e = ap (λ (b : Bool). merged row_key (cond b (x ∷ standing r xs) (standing r xs)) zs) e
 
-module _ (ns : Option (List ℕ)) (after : Option KeyView) (r : ℕ) where
+module _ (ns : Option (List ℕ)) (r : ℕ) where
   abbrev lists : List Row → List Row
-  lists rs = listed row_key ns after rs
+  lists rs = listed row_key ns None rs
 
   -- the next row was merged
-  pub row_next : (rows : List Row) (zs later : List Row) (i : ℕ) (x : Row) (done new all : List Row) → i < length rows → x ≡ get_or rows i x
-      → ((rest : List Row) → new ++ lists (merged row_key (standing r rest) later) ≡ done ++ lists (merged row_key (standing r (x ∷ rest)) zs))
-      → done ++ lists (merged row_key (standing r (drop i rows)) zs) ≡ all → new ++ lists (merged row_key (standing r (drop (i + 1) rows)) later) ≡ all
-  row_next rows zs later i x done new all within is step h =
-      step (drop (i + 1) rows) ∙ ap (λ (rs : List Row). done ++ lists (merged row_key (standing r rs) zs)) (sym (next_at rows i x within is)) ∙ h
+  pub row_next : (done new : List Row → Shown) (all : Shown) (rows : List Row) (zs later : List Row) (i : ℕ) (x : Row) → i < length rows → x ≡ get_or rows i x
+      → ((rest : List Row) → new (lists (merged row_key (standing r rest) later)) ≡ done (lists (merged row_key (standing r (x ∷ rest)) zs)))
+      → done (lists (merged row_key (standing r (drop i rows)) zs)) ≡ all → new (lists (merged row_key (standing r (drop (i + 1) rows)) later)) ≡ all
+  row_next done new all rows zs later i x within is step h =
+      step (drop (i + 1) rows) ∙ ap (λ (rs : List Row). done (lists (merged row_key (standing r rs) zs))) (sym (next_at rows i x within is)) ∙ h
 
-  pub rows_end : (rows zs : List Row) (i : ℕ) (done all : List Row) → length rows ≤ i → done ++ lists (merged row_key (standing r (drop i rows)) zs) ≡ all → done ++ lists zs ≡ all
-  rows_end rows zs i done all end h = ap (λ (rs : List Row). done ++ lists (merged row_key (standing r rs) zs)) (sym (drop_all i rows end)) ∙ h
+  pub rows_end : (done : List Row → Shown) (all : Shown) (rows zs : List Row) (i : ℕ) → length rows ≤ i → done (lists (merged row_key (standing r (drop i rows)) zs)) ≡ all → done (lists zs) ≡ all
+  rows_end done all rows zs i end h = ap (λ (rs : List Row). done (lists (merged row_key (standing r rs) zs))) (sym (drop_all i rows end)) ∙ h
+
+-- ---- a row that is offered
+
+module _ (limit : ℕ) (p : Shown) (x : Row) (xs : List Row) where
+  -- the page is full
+  more-behind : nat_eq limit 0 ≡ false → limit ≤ length p.rows → with_more limit (record { rows = p.rows; behind = p.behind + 1 }) xs ≡ with_more limit p (x ∷ xs)
+  more-behind e le =
+      let none : limit - length p.rows ≡ zero = omega (arith, le) in
+      let count : p.behind + 1 + (length xs - zero) ≡ p.behind + (length (x ∷ xs) - zero) = omega arith in
+      rw (e, none) (ap (λ (n : ℕ). record { rows = p.rows ++ []; behind = n }) count)
+
+  no-limit : nat_eq limit 0 ≡ true → with_more limit (record p { rows = p.rows ++ x ∷ [] }) xs ≡ with_more limit p (x ∷ xs)
+  no-limit e = rw e (ap (λ (rs : List Row). record { rows = rs; behind = p.behind }) (append_assoc p.rows (x ∷ []) xs))
+
+  more-shown : nat_eq limit 0 ≡ false → length p.rows < limit → with_more limit (record p { rows = p.rows ++ x ∷ [] }) xs ≡ with_more limit p (x ∷ xs)
+  more-shown e lt =
+      let m = limit - (length p.rows + 1) in
+      let here : limit - length p.rows ≡ suc m = omega (arith, lt) in
+      let less : limit - length (p.rows ++ x ∷ []) ≡ m = omega (arith, length-append p.rows (x ∷ [])) in
+      let count : p.behind + (length xs - m) ≡ p.behind + (length (x ∷ xs) - suc m) = omega arith in
+      rw (e, here, less) (ap₂ (λ (rs : List Row) (n : ℕ). record { rows = rs; behind = n }) (append_assoc p.rows (x ∷ []) (take m xs)) count)
+
+  more-open : not (nat_eq limit 0) && nat_le limit (length p.rows) ≡ false → with_more limit (record p { rows = p.rows ++ x ∷ [] }) xs ≡ with_more limit p (x ∷ xs)
+  more-open is = by (nat_eq limit 0) refl is
+    where
+      by : (b : Bool) → nat_eq limit 0 ≡ b → not b && nat_le limit (length p.rows) ≡ false → with_more limit (record p { rows = p.rows ++ x ∷ [] }) xs ≡ with_more limit p (x ∷ xs)
+      by true e is = no-limit e
+      by false e is = more-shown e (grind (arith, nat_tests))
+
+  more-full : not (nat_eq limit 0) && nat_le limit (length p.rows) ≡ true → with_more limit (record { rows = p.rows; behind = p.behind + 1 }) xs ≡ with_more limit p (x ∷ xs)
+  more-full is = by (nat_eq limit 0) refl is
+    where
+      by : (b : Bool) → nat_eq limit 0 ≡ b → not b && nat_le limit (length p.rows) ≡ true → with_more limit (record { rows = p.rows; behind = p.behind + 1 }) xs ≡ with_more limit p (x ∷ xs)
+      by true e is = absurd (cc)
+      by false e is = more-behind e (grind (arith, nat_tests))
+
+module _ (ns : Option (List ℕ)) (p : Pick) (limit : ℕ) (shown : Shown) (rest : List Row) where
+  -- it is of another namespace
+  pub offered_out : in_namespace ns (pick_key p) ≡ false → with_more limit shown rest ≡ with_more limit shown (listed row_key ns None (pick_row p ∷ []) ++ rest)
+  offered_out e = ap (λ (b : Bool). with_more limit shown (cond (b && true) (pick_row p ∷ []) [] ++ rest)) (sym e)
+
+  its-more : in_namespace ns (pick_key p) ≡ true → with_more limit shown (pick_row p ∷ rest) ≡ with_more limit shown (listed row_key ns None (pick_row p ∷ []) ++ rest)
+  its-more e = ap (λ (b : Bool). with_more limit shown (cond (b && true) (pick_row p ∷ []) [] ++ rest)) (sym e)
+
+  pub offered_behind : in_namespace ns (pick_key p) ≡ true → not (nat_eq limit 0) && nat_le limit (length shown.rows) ≡ true
+      → with_more limit (record { rows = shown.rows; behind = shown.behind + 1 }) rest ≡ with_more limit shown (listed row_key ns None (pick_row p ∷ []) ++ rest)
+  offered_behind here is = more-full limit shown (pick_row p) rest is ∙ its-more here
+
+  pub offered_in : in_namespace ns (pick_key p) ≡ true → not (nat_eq limit 0) && nat_le limit (length shown.rows) ≡ false
+      → with_more limit (record { rows = shown.rows ++ pick_row p ∷ []; behind = shown.behind }) rest ≡ with_more limit shown (listed row_key ns None (pick_row p ∷ []) ++ rest)
+  offered_in here is = more-open limit shown (pick_row p) rest is ∙ its-more here
+
+-- ---- the page
+
+pub with_more-nothing : (limit : ℕ) (p : Shown) → with_more limit p [] ≡ p
+with_more-nothing limit p = by (nat_eq limit 0) refl
+  where
+    by : (b : Bool) → nat_eq limit 0 ≡ b → with_more limit p [] ≡ p
+    by true e = rw e (ap (λ (rs : List Row). record { rows = rs; behind = p.behind }) (append-nil p.rows))
+    by false e =
+        rw e (ap₂ (λ (rs : List Row) (n : ℕ). record { rows = rs; behind = n }) (ap (λ (rs : List Row). p.rows ++ rs) (take-nil (limit - length p.rows)) ∙ append-nil p.rows) (omega arith))
+
+each-take : (P : Row → Type 0) (n : ℕ) (rows : List Row) → Each P rows → Each P (take n rows)
+each-take P zero rows h = tt
+each-take P (suc n) [] h = tt
+each-take P (suc n) (r ∷ rows) h = (h.0, each-take P n rows h.1)
+
+pub each-shown : (P : Row → Type 0) (limit : ℕ) (rows : List Row) → Each P rows → Each P (with_more limit no_rows rows).rows
+each-shown P limit rows h = by (nat_eq limit 0) refl
+  where
+    by : (b : Bool) → nat_eq limit 0 ≡ b → Each P (with_more limit no_rows rows).rows
+    by true e = rw e h
+    by false e = rw e (each-take P (limit - length no_rows.rows) rows h)
+
+module _ (f : Row → Item) (number limit : ℕ) (rows : List Row) where
+  pub page-items : map f (with_more limit no_rows rows).rows ≡ (page_of number limit (map f rows)).items
+  page-items = by (nat_eq limit 0) refl
+    where
+      by : (b : Bool) → nat_eq limit 0 ≡ b → map f (with_more limit no_rows rows).rows ≡ (page_of number limit (map f rows)).items
+      by true e = rw e refl
+      by false e =
+          let whole : limit - length no_rows.rows ≡ limit = omega arith in
+          rw (e, whole) (sym (take-map f limit rows))
+
+  pub page-behind : (with_more limit no_rows rows).behind ≡ (page_of number limit (map f rows)).remaining
+  page-behind = by (nat_eq limit 0) refl
+    where
+      by : (b : Bool) → nat_eq limit 0 ≡ b → (with_more limit no_rows rows).behind ≡ (page_of number limit (map f rows)).remaining
+      by true e = rw e refl
+      by false e = rw e (omega (arith, length-map rows f))
 
 -- ---- copies
 
@@ -154,56 +235,3 @@ copied_next f picks i p done new all x within is same e h =
 
 pub each_next : (P : Row → Type 0) (picks : List Pick) (i : ℕ) (p : Pick) → i < length picks → p ≡ get_or picks i p → Each P (rows_in (drop i picks)) → P (pick_row p) × Each P (rows_in (drop (i + 1) picks))
 each_next P picks i p within is h = subst (λ (ps : List Pick). Each P (rows_in ps)) (next_at picks i p within is) h
-
--- ---- the page
-
-pub each-take : (P : Row → Type 0) (n : ℕ) (ps : List Pick) → Each P (rows_in ps) → Each P (rows_in (take n ps))
-each-take P zero ps h = tt
-each-take P (suc n) [] h = tt
-each-take P (suc n) (p ∷ ps) h = (h.0, each-take P n ps h.1)
-
-pub record IsShown (f : Row → Item) (number limit n : ℕ) (ps : List Pick) : Type 0 where
-  pub items : map f (rows_in (take n ps)) ≡ (page_of number limit (map f (rows_in ps))).items
-  pub remaining : length ps - n ≡ (page_of number limit (map f (rows_in ps))).remaining
-
-module _ (f : Row → Item) (number limit n : ℕ) (ps : List Pick) where
-  count : length (map f (rows_in ps)) ≡ length ps
-  count = length-map (rows_in ps) f ∙ length-map ps pick_row
-
-  whole : n ≡ length ps → map f (rows_in (take n ps)) ≡ map f (rows_in ps)
-  whole e = ap (λ (qs : List Pick). map f (rows_in qs)) (take_all n ps (omega (arith, e)))
-
-  paged_none : nat_eq limit 0 ≡ true → n ≡ length ps → IsShown f number limit n ps
-  paged_none e w = record {
-    items = rw e (whole w);
-    remaining = rw e (omega (arith, w));
-  }
-
-  paged_few : nat_eq limit 0 ≡ false → length ps ≤ limit → n ≡ length ps → IsShown f number limit n ps
-  paged_few e fits w =
-      let counted = count in
-      record {
-        items = rw e (whole w ∙ sym (take_all limit (map f (rows_in ps)) (omega (arith, fits, counted))));
-        remaining = rw e (omega (arith, w, counted, fits));
-      }
-
-  paged_some : nat_eq limit 0 ≡ false → limit < length ps → n ≡ limit → IsShown f number limit n ps
-  paged_some e below w =
-      let counted = count in
-      record {
-        items = rw e (ap (λ (m : ℕ). map f (rows_in (take m ps))) w ∙ sym (take-map f limit (rows_in ps) ∙ ap (map f) (take-map pick_row limit ps)));
-        remaining = rw e (omega (arith, w, counted));
-      }
-
-  pub paged : (limit ≡ 0 → n ≡ length ps) → (length ps ≤ limit → n ≡ length ps) → (limit ≢ 0 → limit < length ps → n ≡ limit) → IsShown f number limit n ps
-  paged none few some = by (nat_eq limit 0) refl (nat_lt limit (length ps)) refl
-    where
-      by : (b : Bool) → nat_eq limit 0 ≡ b → (c : Bool) → nat_lt limit (length ps) ≡ c → IsShown f number limit n ps
-      by true e c g = let no_limit : limit ≡ 0 = grind (arith, nat_tests) in paged_none e (none no_limit)
-      by false e true g =
-          let limited : limit ≢ 0 = λ z. (let k : nat_eq limit 0 ≡ true = grind (arith, nat_tests) in cc) in
-          let below : limit < length ps = grind (arith, nat_tests) in
-          paged_some e below (some limited below)
-      by false e false g =
-          let fits : length ps ≤ limit = grind (arith, nat_tests) in
-          paged_few e fits (few fits)

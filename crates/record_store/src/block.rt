@@ -1,5 +1,5 @@
 //! A block of rows.
-ghost use Rattle.std.specs.Prelude.{◌≡◌, ◌==◌, ◌+◌, ◌<◌, ◌≤◌, [], ◌∷◌, ◌++◌, IfOk, IfNone, IfSome, Some, insert, length, option_to_list, remove, slice_get, slice_set};
+ghost use Rattle.std.specs.Prelude.{◌≡◌, ◌==◌, ◌+◌, ◌<◌, ◌≤◌, [], ◌∷◌, ◌++◌, IfOk, IfNone, IfSome, Some, drop, insert, length, option_to_list, remove, slice_get, slice_set};
 ghost use Rattle.record_store.specs.Blocks.{block_rows};
 ghost use Rattle.record_store.specs.declared.row.Row.{Row as RowView};
 
@@ -55,6 +55,19 @@ impl Block {
         ensures { slice_get self.now place ≡ Some result.now }
     {
         &self.rows[place]
+    }
+
+    /// The rows from a place on, as far as they lie side by side.
+    pub fn run(&self, place: usize) -> &[Row]
+        requires within { place < length self.now }
+        ensures some { 0 < length result.now }
+        ensures rows { result.now ++ drop (place + length result.now) self.now ≡ drop place self.now }
+    {
+        let (front, back) = self.rows.as_slices();
+        if place < front.len() {
+            return &front[place..];
+        }
+        &back[place - front.len()..]
     }
 
     /// Puts a row in the place of another, and answers that one.

@@ -1,10 +1,11 @@
 //! The rows by key.
-ghost use Rattle.std.specs.Prelude.{◌≡◌, ◌<◌, ◌≤◌, ◌^◌, [], Ok, Some, None, find as first, length, map, not, option_map, option_copied, slice_get, slice_set, IfOk};
+ghost use Rattle.std.specs.Prelude.{◌≡◌, ◌+◌, ◌<◌, ◌≤◌, ◌^◌, ◌++◌, [], Ok, Some, None, drop, find as first, length, map, not, option_map, option_copied, slice_get, slice_set, IfOk};
 ghost use Rattle.kube_meta.specs.Page.{bound_after};
 ghost use Rattle.kube_meta.specs.Plan.{passed};
-ghost use Rattle.record_store.specs.ByKey.{KeysRise, find, place as place_of, put, without};
+ghost use Rattle.record_store.specs.ByKey.{KeysRise, all_behind, find, place as place_of, put, without};
 ghost use Rattle.record_store.specs.declared.row.Row.{Row as RowView};
 
+use crate::lookup::place_behind;
 use crate::row::{Record, Row};
 use crate::row_list::RowList;
 use kj_value::NoMemory;
@@ -60,6 +61,15 @@ impl Index {
         self.rows.at(place)
     }
 
+    /// The rows from a place on, as far as they lie side by side.
+    pub fn run(&self, place: usize) -> &[Row]
+        requires within { place < length self.now.rows }
+        ensures some { 0 < length result.now }
+        ensures rows { result.now ++ drop (place + length result.now) self.now.rows ≡ drop place self.now.rows }
+    {
+        self.rows.run(place)
+    }
+
     /// Where the key of this namespace and name stands, or else where it would go.
     pub fn seek(&self, ns: &str, name: &str) -> Result<usize, usize>
         ensures place { result ≡ place_of (record { ns = ns.now; name = name.now }) (map row_key self.now.rows) }
@@ -87,6 +97,17 @@ impl Index {
         match self.seek(key.ns(), key.name()) {
             Ok(i) => Some(self.rows.at(i)),
             Err(_) => None,
+        }
+    }
+
+    /// The place of the first row behind a key, or of the first of all.
+    pub fn first_behind(&self, after: Option<&Key>) -> usize
+        ensures within { result ≤ length self.now.rows }
+        ensures rows { drop result self.now.rows ≡ all_behind row_key (option_copied after.entry) self.now.rows }
+    {
+        match after {
+            Some(key) => place_behind(self.seek(key.ns(), key.name())),
+            None => 0,
         }
     }
 

@@ -1,7 +1,7 @@
 //! Look-ups by key.
-ghost use Rattle.std.specs.Prelude.{◌≡◌, map};
+ghost use Rattle.std.specs.Prelude.{◌≡◌, ◌<◌, ◌^◌, map};
 ghost use Rattle.kube_meta.specs.Key.{KeyView, key_cmp};
-ghost use Rattle.record_store.specs.ByKey.{KeysRise, place};
+ghost use Rattle.record_store.specs.ByKey.{KeysRise, place, place_behind};
 
 use kube_meta::Key;
 use std::cmp::Ordering;
@@ -13,6 +13,17 @@ pub trait Keyed {
     /// The key. It takes no memory.
     fn key(&self) -> &Key
         ensures { result.now ≡ key_of self.now };
+}
+
+/// How many keys are at or before the one whose place this is.
+pub fn place_behind(place: Result<usize, usize>) -> usize
+    requires { place_behind place < 2 ^ 64 }
+    ensures { result ≡ place_behind place }
+{
+    match place {
+        Ok(i) => i + 1,
+        Err(i) => i,
+    }
 }
 
 /// Where the key of this namespace and name stands among things whose keys strictly rise, or else

@@ -1,16 +1,15 @@
 //! The records of a page: those that stood at a number, from the index and from the window, by key.
-ghost use Rattle.std.specs.Prelude.{◌≡◌, ◌≢◌, ◌<◌, ◌≤◌, ◌++◌, ◌&&◌, ℕ, List, [], ◌∷◌, IfOk, OnOk, drop, length, map, if◌then◌else◌, nat_le, not, option_copied};
-ghost use Rattle.kube_meta.specs.Page.{bound_after, in_namespace, listed};
-ghost use Rattle.kube_meta.specs.Plan.{passed};
-ghost use Rattle.record_store.specs.ByKey.{KeysRise, put};
+ghost use Rattle.std.specs.Prelude.{◌≡◌, ◌+◌, ◌<◌, ◌≤◌, ◌^◌, ◌++◌, ◌&&◌, ℕ, List, [], ◌∷◌, None, IfOk, OnOk, drop, length, map, if◌then◌else◌, nat_eq, nat_le, not, option_copied};
+ghost use Rattle.kube_meta.specs.Page.{in_namespace, listed};
+ghost use Rattle.record_store.specs.ByKey.{KeysRise, all_behind, put};
 ghost use Rattle.record_store.specs.Rows.{row_key};
 ghost use Rattle.record_store.specs.declared.row.Row.{Row as RowView};
 ghost use Rattle.record_store.specs.Copies.{copied};
 ghost use Rattle.record_store.specs.Inside.{AreKept, IsKept, item_of};
-ghost use Rattle.record_store.specs.Picked.{merge_into, merged, pick_key, rows_in, standing, stood, superseded};
+ghost use Rattle.record_store.specs.Picked.{ends, merge_into, merged, no_rows, pick_key, rows_in, shown_in, standing, stood, superseded, with_more};
 
 use crate::index::Index;
-use crate::lookup::{Keyed, seek};
+use crate::lookup::{Keyed, place_behind, seek};
 use crate::past::Past;
 use crate::record::StoredRecord;
 use crate::row::Row;
@@ -42,7 +41,8 @@ pub(crate) fn superseded<'a>(
     window: &'a Window,
     rv: u64,
 ) -> Result<Vec<Pick<'a>>, NoMemory>
-    ensures { IfOk result (λ picks. rows_in picks.items ≡ superseded rv window.now.items) }
+    ensures rows { IfOk result (λ picks. rows_in picks.items ≡ superseded rv window.now.items) }
+    ensures order { IfOk result (λ picks. KeysRise (map pick_key picks.items)) }
 {
     let mut picks = Vec::new(alloc);
     let mut place = window.len();
@@ -94,8 +94,17 @@ fn stood(past: &Past, rv: u64) -> bool
     past.by > rv && past.row.record.rv <= rv
 }
 
-/// The rows of a namespace behind a key, of those that stand since a number and those that were
-/// superseded since, by key.
+/// The rows of a page, and how many are left behind them.
+#[derive(Drop)]
+pub(crate) struct Listing<'a> {
+    pub(crate) picks: Vec<Pick<'a>>,
+    pub(crate) behind: u64,
+    limit: u64,
+}
+
+/// A page of the rows of a namespace behind a key, of those that stand since a number and those that were
+/// superseded since, by key, up to a limit, where limit 0 means none. Rows up to the key aren't looked at, and those behind
+/// the page are counted.
 pub(crate) fn listed<'a>(
     alloc: Global,
     index: &'a Index,
@@ -103,39 +112,86 @@ pub(crate) fn listed<'a>(
     rv: u64,
     ns: Option<&str>,
     after: Option<&Key>,
-) -> Result<Vec<Pick<'a>>, NoMemory>
-    ensures { IfOk result (λ picks. rows_in picks.items
-        ≡ listed row_key (option_copied ns.entry) (option_copied after.entry) (merged row_key (standing rv index.now.rows) (rows_in olds.now))) }
+    limit: u64,
+) -> Result<Listing<'a>, NoMemory>
+    requires order { KeysRise (map pick_key olds.now) }
+    requires few { length index.now.rows < 2 ^ 32 }
+    ensures { IfOk result (λ listing. shown_in listing ≡ with_more limit no_rows
+        (listed row_key (option_copied ns.entry) (option_copied after.entry) (merged row_key (standing rv index.now.rows) (rows_in olds.now)))) }
 {
-    let mut picks = Vec::new(alloc);
-    let mut from = 0;
-    for i in 0..index.len() {
-        from = merge_standing(&mut picks, index.at(i), olds, from, rv, ns, after)?;
+    let mut listing = Listing {
+        picks: Vec::new(alloc),
+        behind: 0,
+        limit,
+    };
+    let mut from = first_behind(olds, after);
+    let mut place = index.first_behind(after);
+    while place < index.len() {
+        let run = index.run(place);
+        from = merge_run(&mut listing, run, olds, from, rv, ns)?;
+        place += run.len();
     }
-    offer_all(&mut picks, olds, from, ns, after)?;
-    Ok(picks)
+    offer_all(&mut listing, olds, from, ns)?;
+    Ok(listing)
+}
+
+// The place of the first row behind a key.
+fn first_behind(picks: &[Pick], after: Option<&Key>) -> usize
+    requires { KeysRise (map pick_key picks.now) }
+    ensures within { result ≤ length picks.now }
+    ensures rows { drop result picks.now ≡ all_behind pick_key (option_copied after.entry) picks.now }
+{
+    match after {
+        Some(key) => place_behind(seek(picks, key.ns(), key.name())),
+        None => 0,
+    }
+}
+
+// The same as `merge_standing`, for rows one behind another.
+fn merge_run<'a>(
+    listing: &mut Listing<'a>,
+    rows: &'a [Row],
+    olds: &[Pick<'a>],
+    from: usize,
+    rv: u64,
+    ns: Option<&str>,
+) -> Result<usize, NoMemory>
+    requires from { from ≤ length olds.now }
+    requires few { listing.old.behind + length rows.now + length olds.now < 2 ^ 64 + from }
+    ensures within { IfOk result (λ next. next ≤ length olds.now) }
+    ensures counted { IfOk result (λ next. listing.new.behind + from ≤ listing.old.behind + next + length rows.now) }
+    ensures merged { IfOk result (λ next. (rest : List RowView) →
+        ends listing.new (listed row_key (option_copied ns.entry) None (merged row_key (standing rv rest) (rows_in (drop next olds.now))))
+        ≡ ends listing.old (listed row_key (option_copied ns.entry) None (merged row_key (standing rv (rows.now ++ rest)) (rows_in (drop from olds.now))))) }
+{
+    let mut next = from;
+    for row in rows {
+        next = merge_standing(listing, row, olds, next, rv, ns)?;
+    }
+    Ok(next)
 }
 
 // The same as `merge`, for a row that stands since the number, and nothing for another.
 fn merge_standing<'a>(
-    picks: &mut Vec<Pick<'a>>,
+    listing: &mut Listing<'a>,
     row: &'a Row,
     olds: &[Pick<'a>],
     from: usize,
     rv: u64,
     ns: Option<&str>,
-    after: Option<&Key>,
 ) -> Result<usize, NoMemory>
-    requires { from ≤ length olds.now }
+    requires from { from ≤ length olds.now }
+    requires few { listing.old.behind + length olds.now + 1 < 2 ^ 64 + from }
     ensures within { IfOk result (λ next. next ≤ length olds.now) }
+    ensures counted { IfOk result (λ next. listing.new.behind + from ≤ listing.old.behind + next + 1) }
     ensures merged { IfOk result (λ next. (rest : List RowView) →
-        rows_in picks.new.items ++ listed row_key (option_copied ns.entry) (option_copied after.entry) (merged row_key (standing rv rest) (rows_in (drop next olds.now)))
-        ≡ rows_in picks.old.items ++ listed row_key (option_copied ns.entry) (option_copied after.entry) (merged row_key (standing rv (row.now ∷ rest)) (rows_in (drop from olds.now)))) }
+        ends listing.new (listed row_key (option_copied ns.entry) None (merged row_key (standing rv rest) (rows_in (drop next olds.now))))
+        ≡ ends listing.old (listed row_key (option_copied ns.entry) None (merged row_key (standing rv (row.now ∷ rest)) (rows_in (drop from olds.now))))) }
 {
     if !stands(row, rv) {
         return Ok(from);
     }
-    let next = merge(picks, row, olds, from, ns, after)?;
+    let next = merge(listing, row, olds, from, ns)?;
     Ok(next)
 }
 
@@ -148,75 +204,76 @@ fn stands(row: &Row, rv: u64) -> bool
 // Offers a row, and before it the older ones from a place on that go before it. One under its key goes
 // in its place. It answers the place of those behind.
 fn merge<'a>(
-    picks: &mut Vec<Pick<'a>>,
+    listing: &mut Listing<'a>,
     row: &'a Row,
     olds: &[Pick<'a>],
     from: usize,
     ns: Option<&str>,
-    after: Option<&Key>,
 ) -> Result<usize, NoMemory>
-    requires { from ≤ length olds.now }
+    requires from { from ≤ length olds.now }
+    requires few { listing.old.behind + length olds.now + 1 < 2 ^ 64 + from }
     ensures within { IfOk result (λ next. next ≤ length olds.now) }
+    ensures counted { IfOk result (λ next. listing.new.behind + from ≤ listing.old.behind + next + 1) }
     ensures merged { IfOk result (λ next. (rest : List RowView → List RowView) →
-        rows_in picks.new.items ++ listed row_key (option_copied ns.entry) (option_copied after.entry) (rest (rows_in (drop next olds.now)))
-        ≡ rows_in picks.old.items ++ listed row_key (option_copied ns.entry) (option_copied after.entry) (merge_into row_key row.now rest (rows_in (drop from olds.now)))) }
+        ends listing.new (listed row_key (option_copied ns.entry) None (rest (rows_in (drop next olds.now))))
+        ≡ ends listing.old (listed row_key (option_copied ns.entry) None (merge_into row_key row.now rest (rows_in (drop from olds.now))))) }
 {
     for place in from..olds.len() {
         let old = olds[place];
         match old.row.key.compare(&row.key) {
-            Ordering::Less => offer(picks, old, ns, after)?,
+            Ordering::Less => offer(listing, old, ns)?,
             Ordering::Equal => {
-                offer(picks, old, ns, after)?;
+                offer(listing, old, ns)?;
                 return Ok(place + 1);
             }
             Ordering::Greater => {
-                offer(picks, Pick { row }, ns, after)?;
+                offer(listing, Pick { row }, ns)?;
                 return Ok(place);
             }
         }
     }
-    offer(picks, Pick { row }, ns, after)?;
+    offer(listing, Pick { row }, ns)?;
     Ok(olds.len())
 }
 
 fn offer_all<'a>(
-    picks: &mut Vec<Pick<'a>>,
+    listing: &mut Listing<'a>,
     olds: &[Pick<'a>],
     from: usize,
     ns: Option<&str>,
-    after: Option<&Key>,
 ) -> Result<(), NoMemory>
-    requires { from ≤ length olds.now }
-    ensures { OnOk result (rows_in picks.new.items
-        ≡ rows_in picks.old.items ++ listed row_key (option_copied ns.entry) (option_copied after.entry) (rows_in (drop from olds.now))) }
+    requires from { from ≤ length olds.now }
+    requires few { listing.old.behind + length olds.now + 1 < 2 ^ 64 + from }
+    ensures { OnOk result (ends listing.new [] ≡ ends listing.old (listed row_key (option_copied ns.entry) None (rows_in (drop from olds.now)))) }
 {
     for place in from..olds.len() {
-        offer(picks, olds[place], ns, after)?;
+        offer(listing, olds[place], ns)?;
     }
     Ok(())
 }
 
-// Adds a row, if it is of the namespace and behind the key.
-fn offer<'a>(
-    picks: &mut Vec<Pick<'a>>,
-    pick: Pick<'a>,
-    ns: Option<&str>,
-    after: Option<&Key>,
-) -> Result<(), NoMemory>
-    ensures { OnOk result (rows_in picks.new.items
-        ≡ rows_in picks.old.items ++ listed row_key (option_copied ns.entry) (option_copied after.entry) (pick.entry.row.now ∷ [])) }
+// Adds a row if it is of the namespace, or counts it where the page is full.
+fn offer<'a>(listing: &mut Listing<'a>, pick: Pick<'a>, ns: Option<&str>) -> Result<(), NoMemory>
+    requires few { listing.old.behind + 1 < 2 ^ 64 }
+    ensures counted { OnOk result (listing.new.behind ≤ listing.old.behind + 1) }
+    ensures offered { OnOk result ((rest : List RowView) → ends listing.new rest
+        ≡ ends listing.old (listed row_key (option_copied ns.entry) None (pick.entry.row.now ∷ []) ++ rest)) }
 {
-    if !is_listed(&pick.row.key, ns, after) {
+    if !is_in(&pick.row.key, ns) {
         return Ok(());
     }
-    picks.push(pick)?;
+    if is_full(listing) {
+        listing.behind += 1;
+        return Ok(());
+    }
+    listing.picks.push(pick)?;
     Ok(())
 }
 
-fn is_listed(key: &Key, ns: Option<&str>, after: Option<&Key>) -> bool
-    ensures { result ≡ (in_namespace (option_copied ns.entry) key.now && not (passed (bound_after (option_copied after.entry)) key.now)) }
+fn is_full(listing: &Listing) -> bool
+    ensures { result ≡ (not (nat_eq listing.now.limit 0) && nat_le listing.now.limit (length listing.now.picks.items)) }
 {
-    is_in(key, ns) && is_behind(key, after)
+    listing.limit != 0 && listing.limit <= listing.picks.len() as u64
 }
 
 fn is_in(key: &Key, ns: Option<&str>) -> bool
@@ -225,29 +282,6 @@ fn is_in(key: &Key, ns: Option<&str>) -> bool
     match ns {
         Some(ns) => ns == key.ns(),
         None => true,
-    }
-}
-
-fn is_behind(key: &Key, after: Option<&Key>) -> bool
-    ensures { result ≡ not (passed (bound_after (option_copied after.entry)) key.now) }
-{
-    match after {
-        Some(after) => key.compare(after) == Ordering::Greater,
-        None => true,
-    }
-}
-
-/// How many of these a page shows. Limit 0 means no limit.
-pub(crate) fn shown(count: usize, limit: u64) -> usize
-    ensures within { result ≤ count }
-    ensures all { limit ≡ 0 → result ≡ count }
-    ensures few { count ≤ limit → result ≡ count }
-    ensures some { limit ≢ 0 → limit < count → result ≡ limit }
-{
-    if limit == 0 || count as u64 <= limit {
-        count
-    } else {
-        limit as usize
     }
 }
 

@@ -1,5 +1,5 @@
 //! Rows in order, in blocks: a row that comes or goes moves the rows of its block, and one row of each block behind it.
-ghost use Rattle.std.specs.Prelude.{◌≡◌, ◌*◌, ◌<◌, ◌≤◌, [], IfOk, Some, drop, insert, length, remove, slice_get, slice_set, take};
+ghost use Rattle.std.specs.Prelude.{◌≡◌, ◌+◌, ◌*◌, ◌<◌, ◌≤◌, ◌++◌, [], IfOk, Some, drop, insert, length, remove, slice_get, slice_set, take};
 ghost use Rattle.std.specs.List.{AllByRecursion as Each};
 ghost use Rattle.record_store.specs.Blocks.{IsFull, IsGapped, IsPacked, block_rows, joined};
 ghost use Rattle.record_store.specs.declared.row.Row.{Row as RowView};
@@ -60,6 +60,15 @@ impl RowList {
         ensures { slice_get self.now.rows place ≡ Some result.now }
     {
         self.blocks[place / BLOCK_ROWS].at(place % BLOCK_ROWS)
+    }
+
+    /// The rows from a place on, as far as they lie side by side.
+    pub fn run(&self, place: usize) -> &[Row]
+        requires within { place < length self.now.rows }
+        ensures some { 0 < length result.now }
+        ensures rows { result.now ++ drop (place + length result.now) self.now.rows ≡ drop place self.now.rows }
+    {
+        self.blocks[place / BLOCK_ROWS].run(place % BLOCK_ROWS)
     }
 
     /// Puts a row in the place of another, and answers that one.

@@ -12,7 +12,7 @@ ghost use Rattle.record_store.specs.View.{IsStore, item_key, item_weight, items_
 use crate::answer::PutEnd;
 use crate::held_versions::first_among;
 use crate::index::Index;
-use crate::page::{copies, listed, shown, superseded};
+use crate::page::{copies, listed, superseded};
 use crate::past::Past;
 use crate::record::{NewRecord, StorePage};
 use crate::row::{Record, Row};
@@ -152,12 +152,11 @@ impl Store {
         ensures present { self.now.last ≤ rv → items_at rv self.now ≡ self.now.items }
     {
         let olds = superseded(alloc, &self.window, rv)?;
-        let picks = listed(alloc, &self.index, olds.as_slice(), rv, ns, after)?;
-        let count = shown(picks.len(), limit);
-        let items = copies(alloc, &self.region, &picks[..count])?;
+        let listing = listed(alloc, &self.index, olds.as_slice(), rv, ns, after, limit)?;
+        let items = copies(alloc, &self.region, listing.picks.as_slice())?;
         Ok(StorePage {
             items,
-            remaining: (picks.len() - count) as u64,
+            remaining: listing.behind,
         })
     }
 

@@ -1,12 +1,17 @@
-use Rattle.std.proofs.Common.{◌≡◌, ◌≤◌, ◌++◌, length, drop}
+use Rattle.std.proofs.Common.{◌≡◌, ◌+◌, ◌-◌, ◌≤◌, None, length, drop}
 use Rattle.std.specs.Prelude.{option_copied}
 use Rattle.kube_meta.specs.Page.{listed}
 use Rattle.record_store.specs.Rows.{row_key}
-use Rattle.record_store.specs.Picked.{merged, rows_in, standing}
+use Rattle.record_store.specs.Picked.{ends, merged, no_rows, rows_in, standing, with_more}
 use Rattle.record_store.proofs.page.listed.Given as goal
 
-abbrev pub invariant-loop-i : goal.invariant-loop-i
-invariant-loop-i l = record {
+abbrev pub invariant-loop-place : goal.invariant-loop-place
+invariant-loop-place l = record {
   within : l.from ≤ length l.olds;
-  rows : rows_in l.picks.items ++ listed row_key (option_copied l.ns) (option_copied l.after) (merged row_key (standing l.rv (drop l.i l.index.rows)) (rows_in (drop l.from l.olds))) ≡ listed row_key (option_copied l.ns) (option_copied l.after) (merged row_key (standing l.rv l.index.rows) (rows_in l.olds));
+  inside : l.place ≤ length l.index.rows;
+  counted : l.listing.behind ≤ l.place + l.from;
+  rows : ends l.listing (listed row_key (option_copied l.ns) None (merged row_key (standing l.rv (drop l.place l.index.rows)) (rows_in (drop l.from l.olds)))) ≡ with_more l.limit no_rows (listed row_key (option_copied l.ns) (option_copied l.after) (merged row_key (standing l.rv l.index.rows) (rows_in l.olds)));
 }
+
+abbrev pub decreases-loop-place : goal.decreases-loop-place
+decreases-loop-place l = length l.index.rows - l.place

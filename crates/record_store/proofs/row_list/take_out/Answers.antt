@@ -1,4 +1,4 @@
-use Rattle.std.proofs.Common.{◌/◌, ◌∙◌, length, get_or, arith}
+use Rattle.std.proofs.Common.{◌/◌, ◌∙◌, get_or, arith}
 use Rattle.std.proofs.lemmas.List.{length-set}
 use Rattle.record_store.proofs.Packed.{below, got, inside, removed-front, removed-gap, removed-rows, same_there}
 use Rattle.record_store.proofs.row_list.take_out.Goals as goal

@@ -3,8 +3,7 @@ use Rattle.std.specs.Prelude.{slice_get, option_copied, find as first, not}
 use Rattle.kube_meta.specs.Key.{KeyView}
 use Rattle.kube_meta.specs.Page.{bound_after}
 use Rattle.kube_meta.specs.Plan.{passed}
-use Rattle.record_store.specs.ByKey.{KeysRise}
-use Rattle.record_store.specs.Rows.{Rows, row_key}
+use Rattle.record_store.specs.Rows.{row_key}
 use Rattle.record_store.specs.declared.row.Row.{Row}
 use Rattle.record_store.proofs.Places.{hit_of, miss_of, first_of_all}
 use Rattle.record_store.proofs.index.Index.next_from.Goals as goal

@@ -1,5 +1,4 @@
-use Rattle.std.proofs.Common.{◌≡◌, ◌∙◌, List, ap, sym}
-use Rattle.record_store.specs.declared.row.Row.{Row}
+use Rattle.std.proofs.Common.{◌∙◌, ap, sym}
 use Rattle.record_store.specs.View.{StoreView, item_key}
 use Rattle.record_store.specs.Inside.{item_of}
 use Rattle.record_store.specs.Standing.{first_held, item_at}

@@ -1,0 +1,14 @@
+use Rattle.std.proofs.Common.{◌≡◌, ◌+◌, ◌≤◌, ◌++◌, List, None, length, drop}
+use Rattle.std.specs.Prelude.{option_copied}
+use Rattle.kube_meta.specs.Page.{listed}
+use Rattle.record_store.specs.Rows.{row_key}
+use Rattle.record_store.specs.declared.row.Row.{Row}
+use Rattle.record_store.specs.Picked.{ends, merged, rows_in, standing}
+use Rattle.record_store.proofs.page.merge_run.Given as goal
+
+abbrev pub invariant-loop-row : goal.invariant-loop-row
+invariant-loop-row l = record {
+  within : l.next ≤ length l.olds;
+  counted : l.listing.behind + l.fn.from ≤ l.initial.listing.behind + l.next + l.row-index;
+  rows : (rest : List Row) → ends l.listing (listed row_key (option_copied l.ns) None (merged row_key (standing l.rv (drop l.row-index l.rows ++ rest)) (rows_in (drop l.next l.olds)))) ≡ ends l.initial.listing (listed row_key (option_copied l.ns) None (merged row_key (standing l.rv (l.rows ++ rest)) (rows_in (drop l.fn.from l.olds))));
+}
