@@ -105,22 +105,12 @@ module _ {X : Type 0} (at : X → ℕ) (key : X → KeyView) where
   first_held-map f (v ∷ vs) ys = rw (first_at-map f v ys, first_held-map f vs ys) refl
 
   -- a turn of the walk over the records
-  pub held-turn_found : (vs : List ℕ) (left : ℕ) (xs : List X) (i : ℕ) (x : X) (place : ℕ) (found all : Pick) → i < length xs → x ≡ get_or xs i x
-      → place ≤ left → position (λ v. nat_eq v (at x)) (take left vs) ≡ Some place
-      → option_or (first_held at key (take left vs) (drop i xs)) found ≡ all
-      → option_or (first_held at key (take place vs) (drop (i + 1) xs)) (Some (at x, key x)) ≡ all
-  held-turn_found vs left xs i x place found all inside is within at_place so_far =
-      let split : drop i xs ≡ x ∷ drop (i + 1) xs = drop_more xs i x inside ∙ ap (λ (y : X). y ∷ drop (i + 1) xs) (sym is) in
-      let fewer : take place (take left vs) ≡ take place vs = take-take place left vs within in
-      let before = subst (λ (ys : List X). option_or (first_held at key (take left vs) ys) found ≡ all) split so_far in
-      ap (λ (ws : List ℕ). option_or (first_held at key ws (drop (i + 1) xs)) (Some (at x, key x))) (sym fewer)
-      ∙ sym (held-found (take left vs) x (drop (i + 1) xs) place found at_place) ∙ before
+  pub turn_found : (vs : List ℕ) (left : ℕ) (x : X) (xs : List X) (place : ℕ) (found all : Pick) → place ≤ left → position (λ v. nat_eq v (at x)) (take left vs) ≡ Some place
+      → option_or (first_held at key (take left vs) (x ∷ xs)) found ≡ all → option_or (first_held at key (take place vs) xs) (Some (at x, key x)) ≡ all
+  turn_found vs left x xs place found all within at_place so_far =
+      ap (λ (ws : List ℕ). option_or (first_held at key ws xs) (Some (at x, key x))) (sym (take-take place left vs within))
+      ∙ sym (held-found (take left vs) x xs place found at_place) ∙ so_far
 
-  pub held-turn_none : (vs : List ℕ) (xs : List X) (i : ℕ) (x : X) (found all : Pick) → i < length xs → x ≡ get_or xs i x
-      → position (λ v. nat_eq v (at x)) vs ≡ None
-      → option_or (first_held at key vs (drop i xs)) found ≡ all
-      → option_or (first_held at key vs (drop (i + 1) xs)) found ≡ all
-  held-turn_none vs xs i x found all inside is none so_far =
-      let split : drop i xs ≡ x ∷ drop (i + 1) xs = drop_more xs i x inside ∙ ap (λ (y : X). y ∷ drop (i + 1) xs) (sym is) in
-      let before = subst (λ (ys : List X). option_or (first_held at key vs ys) found ≡ all) split so_far in
-      sym (held-none vs x (drop (i + 1) xs) found none) ∙ before
+  pub turn_none : (vs : List ℕ) (x : X) (xs : List X) (found all : Pick) → position (λ v. nat_eq v (at x)) vs ≡ None
+      → option_or (first_held at key vs (x ∷ xs)) found ≡ all → option_or (first_held at key vs xs) found ≡ all
+  turn_none vs x xs found all none so_far = sym (held-none vs x xs found none) ∙ so_far
