@@ -12,7 +12,7 @@ use Rattle.record_store.specs.declared.row.Row.{Row}
 use Rattle.record_store.specs.Picked.{merge_into, merged, standing}
 use Rattle.record_store.proofs.Search.{reversed}
 
-abbrev is_behind : Option KeyView → KeyView → Bool
+abbrev pub is_behind : Option KeyView → KeyView → Bool
 is_behind after x = not (passed (bound_after after) x)
 
 -- what isn't behind comes before what is
@@ -81,7 +81,7 @@ module _ {X : Type 0} (key : X → KeyView) (after : Option KeyView) where
       by false e h = merge-dropped x (merged key xs) (merged key (filter b xs)) h e zs
 
 module _ {X : Type 0} where
-  filter-both : (p q : X → Bool) (xs : List X) → filter (λ x. p x && q x) xs ≡ filter (λ x. p x && true) (filter q xs)
+  pub filter-both : (p q : X → Bool) (xs : List X) → filter (λ x. p x && q x) xs ≡ filter (λ x. p x && true) (filter q xs)
   filter-both p q [] = refl
   filter-both p q (x ∷ xs) = by (p x) refl (q x) (filter-both p q xs)
     where

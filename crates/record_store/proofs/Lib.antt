@@ -13,6 +13,7 @@ pub mod Opened
 pub mod Sorted
 pub mod Merged
 pub mod Beyond
+pub mod Stretched
 pub mod Paged
 pub mod Steps
 pub mod Overwritten

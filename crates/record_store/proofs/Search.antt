@@ -92,6 +92,12 @@ module _ {F : Type 0} (key : F → KeyView) where
   pub here : (k : KeyView) (fs : List F) (i : ℕ) (f : F) → KeysRise (map key fs) → slice_get fs i ≡ Some f → key_cmp (key f) k ≡ Equal → Ok i ≡ place k (map key fs)
   here k fs i f h got e = at_hit k fs i h (slice_get_within fs i f got) (λ d. ap (λ (g : F). key_cmp (key g) k) (get_or_from_slice_get fs i f d got) ∙ e)
 
+  pub earlier : (fs : List F) (i j : ℕ) (d : F) → KeysRise (map key fs) → j < i → i < length fs → key_cmp (key (get_or fs j d)) (key (get_or fs i d)) ≡ Less
+  earlier [] i j d h q p = absurd (omega (arith, p))
+  earlier (f ∷ fs) zero j d h q p = absurd (omega (arith, q))
+  earlier (f ∷ fs) (suc i) zero d h q p = below_later (key f) fs i d h.0 h.1 (omega (arith, p))
+  earlier (f ∷ fs) (suc i) (suc j) d h q p = earlier fs i j d h.1 (omega (arith, q)) (omega (arith, p))
+
   pub searched : (k : KeyView) (fs : List F) (r : Result ℕ ℕ) → KeysRise (map key fs) → IsSearchInRange r (length fs) → IsBinarySearchResult (λ f. key_cmp (key f) k) fs r → r ≡ place k (map key fs)
   searched k fs (Ok i) h within found = at_hit k fs i h within found
   searched k fs (Err i) h within found =

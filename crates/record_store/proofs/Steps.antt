@@ -1,8 +1,9 @@
 -- The steps of the walks that gather a page and copy it.
-use Rattle.std.proofs.Common.{◌≡◌, ℕ, zero, suc, ◌+◌, ◌-◌, ◌<◌, ◌≤◌, List, [], ◌∷◌, ◌++◌, length, map, take, drop, get_or, drop-cons, Bool, true, false, Ordering, Less, Equal, Greater, Option, Some, None, subst, ap, ap₂, sym, refl, ◌∙◌, arith, cond, nat_eq, append_assoc, append-nil}
+use Rattle.std.proofs.Common.{◌≡◌, ◌≢◌, ℕ, zero, suc, ◌+◌, ◌-◌, ◌<◌, ◌≤◌, List, [], ◌∷◌, ◌++◌, length, map, take, drop, get_or, drop-cons, Bool, true, false, Ordering, Less, Equal, Greater, Option, Some, None, subst, ap, ap₂, sym, refl, ◌∙◌, arith, cond, nat_eq, nat_lt, append_assoc, append-nil}
 use Rattle.std.proofs.Math.Seq.{take-nil}
 use Rattle.std.proofs.lemmas.Bool.Decides.{nat_tests}
-use Rattle.std.proofs.lemmas.List.{drop_all, take-map, length-append, length-map}
+use Rattle.std.proofs.lemmas.List.{drop_all, get_or-drop, take-map, take_all, take_more, length-append, length-drop, length-map, map-append}
+use Rattle.std.proofs.lemmas.Option.{get_or_from_slice_get, slice_get_within}
 use Rattle.std.proofs.lemmas.List.Elements.{filter-append}
 use Rattle.std.specs.Prelude.{not, ◌&&◌, nat_le, slice_get, if◌then◌else◌}
 use Rattle.std.specs.List.{AllByRecursion as Each}
@@ -235,3 +236,63 @@ copied_next f picks i p done new all x within is same e h =
 
 pub each_next : (P : Row → Type 0) (picks : List Pick) (i : ℕ) (p : Pick) → i < length picks → p ≡ get_or picks i p → Each P (rows_in (drop i picks)) → P (pick_row p) × Each P (rows_in (drop (i + 1) picks))
 each_next P picks i p within is h = subst (λ (ps : List Pick). Each P (rows_in ps)) (next_at picks i p within is) h
+
+-- ---- rows from a place on
+
+pub each-got : (P : Row → Type 0) (rows : List Row) (i : ℕ) (r : Row) → Each P rows → slice_get rows i ≡ Some r → P r
+each-got P [] i r h e = absurd (cc)
+each-got P (x ∷ rows) zero r h e = let same : x ≡ r = cc in subst P same h.0
+each-got P (x ∷ rows) (suc i) r h e = each-got P rows i r h.1 e
+
+pub one-more : (f : Row → Item) (rows : List Row) (from i : ℕ) (r : Row) (x : Item) (done new : List Item) → slice_get rows (from + i) ≡ Some r → x ≡ f r → new ≡ done ++ x ∷ [] → done ≡ map f (take i (drop from rows))
+    → new ≡ map f (take (i + 1) (drop from rows))
+one-more f rows from i r x done new got same e h =
+    let inside = slice_get_within rows (from + i) r got in
+    let here : get_or (drop from rows) i r ≡ r = get_or-drop from rows i r ∙ get_or_from_slice_get rows (from + i) r r got in
+    e ∙ ap₂ (λ (l : List Item) (y : Item). l ++ y ∷ []) h (same ∙ ap f (sym here))
+    ∙ sym (map-append f (take i (drop from rows)) (get_or (drop from rows) i r ∷ []))
+    ∙ ap (map f) (sym (take_more (drop from rows) i r (omega (arith, inside, length-drop from rows))))
+
+-- the first of some rows as a page
+pub record IsPage (f : Row → Item) (number limit n : ℕ) (rows : List Row) : Type 0 where
+  pub items : map f (take n rows) ≡ (page_of number limit (map f rows)).items
+  pub remaining : length rows - n ≡ (page_of number limit (map f rows)).remaining
+
+module _ (f : Row → Item) (number limit n : ℕ) (rows : List Row) where
+  whole : n ≡ length rows → map f (take n rows) ≡ map f rows
+  whole e = ap (map f) (take_all n rows (omega (arith, e)))
+
+  paged_none : nat_eq limit 0 ≡ true → n ≡ length rows → IsPage f number limit n rows
+  paged_none e w = record {
+    items = rw e (whole w);
+    remaining = rw e (omega (arith, w));
+  }
+
+  paged_few : nat_eq limit 0 ≡ false → length rows ≤ limit → n ≡ length rows → IsPage f number limit n rows
+  paged_few e fits w =
+      let counted = length-map rows f in
+      record {
+        items = rw e (whole w ∙ sym (take_all limit (map f rows) (omega (arith, fits, counted))));
+        remaining = rw e (omega (arith, w, counted, fits));
+      }
+
+  paged_some : nat_eq limit 0 ≡ false → limit < length rows → n ≡ limit → IsPage f number limit n rows
+  paged_some e below w =
+      let counted = length-map rows f in
+      record {
+        items = rw e (ap (λ (m : ℕ). map f (take m rows)) w ∙ sym (take-map f limit rows));
+        remaining = rw e (omega (arith, w, counted));
+      }
+
+  pub paged : (limit ≡ 0 → n ≡ length rows) → (length rows ≤ limit → n ≡ length rows) → (limit ≢ 0 → limit < length rows → n ≡ limit) → IsPage f number limit n rows
+  paged none few some = by (nat_eq limit 0) refl (nat_lt limit (length rows)) refl
+    where
+      by : (b : Bool) → nat_eq limit 0 ≡ b → (c : Bool) → nat_lt limit (length rows) ≡ c → IsPage f number limit n rows
+      by true e c g = let no_limit : limit ≡ 0 = grind (arith, nat_tests) in paged_none e (none no_limit)
+      by false e true g =
+          let limited : limit ≢ 0 = λ z. (let k : nat_eq limit 0 ≡ true = grind (arith, nat_tests) in cc) in
+          let below : limit < length rows = grind (arith, nat_tests) in
+          paged_some e below (some limited below)
+      by false e false g =
+          let fits : length rows ≤ limit = grind (arith, nat_tests) in
+          paged_few e fits (few fits)

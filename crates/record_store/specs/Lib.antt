@@ -1,6 +1,7 @@
 pub mod ByKey
 pub mod Rows
 pub mod Blocks
+pub mod Stretches
 pub mod Pasts
 pub mod Held
 pub mod View

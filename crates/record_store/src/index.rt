@@ -1,8 +1,9 @@
 //! The rows by key.
-ghost use Rattle.std.specs.Prelude.{◌≡◌, ◌+◌, ◌<◌, ◌≤◌, ◌^◌, ◌++◌, [], Ok, Some, None, drop, find as first, length, map, not, option_map, option_copied, slice_get, slice_set, IfOk};
-ghost use Rattle.kube_meta.specs.Page.{bound_after};
+ghost use Rattle.std.specs.Prelude.{◌≡◌, ◌+◌, ◌<◌, ◌≤◌, ◌^◌, ◌++◌, [], Ok, Some, None, drop, find as first, length, map, not, option_map, option_copied, slice_get, slice_set, IfOk, ◌-◌, ℕ, Bool, true, false, take, slice_index_or};
+ghost use Rattle.kube_meta.specs.Page.{bound_after, listed};
 ghost use Rattle.kube_meta.specs.Plan.{passed};
 ghost use Rattle.record_store.specs.ByKey.{KeysRise, all_behind, find, place as place_of, put, without};
+ghost use Rattle.record_store.specs.Stretches.{comes_before};
 ghost use Rattle.record_store.specs.declared.row.Row.{Row as RowView};
 
 use crate::lookup::place_behind;
@@ -14,6 +15,13 @@ use record_region::Piece;
 use std::alloc::Global;
 use std::cmp::Ordering;
 use std::marker::Model;
+
+/// Some rows that stand one behind another: those from a place on, up to another place.
+#[derive(Clone, Copy, Drop)]
+pub struct Stretch {
+    pub from: usize,
+    pub to: usize,
+}
 
 /// The rows of a store by strictly rising key. It takes its memory when it is opened, and none later.
 #[derive(Drop)]
@@ -111,6 +119,48 @@ impl Index {
         }
     }
 
+    /// The places of the rows of a namespace that stand behind a key. No namespace asks for all.
+    pub fn stretch(&self, ns: Option<&str>, after: Option<&Key>) -> Stretch
+        ensures order { result.from ≤ result.to }
+        ensures within { result.to ≤ length self.now.rows }
+        ensures rows { listed row_key (option_copied ns.entry) (option_copied after.entry) self.now.rows
+            ≡ take (result.to - result.from) (drop result.from self.now.rows) }
+    {
+        let behind = self.first_behind(after);
+        match ns {
+            Some(ns) => {
+                let from = behind.max(self.edge(ns, false));
+                Stretch {
+                    from,
+                    to: from.max(self.edge(ns, true)),
+                }
+            }
+            None => Stretch {
+                from: behind,
+                to: self.len(),
+            },
+        }
+    }
+
+    // How many rows come before those of a namespace, or, with them, before those of later ones.
+    fn edge(&self, ns: &str, with_them: bool) -> usize
+        ensures within { result ≤ length self.now.rows }
+        ensures before { (j : ℕ) (d : RowView) → j < result → comes_before with_them ns.now (row_key (slice_index_or self.now.rows j d)) ≡ true }
+        ensures behind { (j : ℕ) (d : RowView) → result ≤ j → j < length self.now.rows → comes_before with_them ns.now (row_key (slice_index_or self.now.rows j d)) ≡ false }
+        ensures order { KeysRise (map row_key self.now.rows) }
+    {
+        let mut low = 0;
+        let mut high = self.rows.len();
+        while low < high {
+            let middle = low + (high - low) / 2;
+            match comes_before(&self.rows.at(middle).key, ns, with_them) {
+                true => low = middle + 1,
+                false => high = middle,
+            }
+        }
+        low
+    }
+
     /// The row of the least key after this one, or of the least of all.
     pub fn next_from(&self, after: Option<&KeySpot>) -> Option<&Row>
         ensures { option_copied result ≡ first (λ r. not (passed (bound_after (option_copied after.entry)) r.key)) self.now.rows }
@@ -187,5 +237,15 @@ impl Index {
             Ok(i) => Some(self.rows.remove(i)),
             Err(_) => None,
         }
+    }
+}
+
+fn comes_before(key: &Key, ns: &str, with_them: bool) -> bool
+    ensures { result ≡ comes_before with_them ns.now key.now }
+{
+    match key.ns().cmp(ns) {
+        Ordering::Less => true,
+        Ordering::Equal => with_them,
+        Ordering::Greater => false,
     }
 }

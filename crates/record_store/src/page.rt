@@ -1,5 +1,5 @@
 //! The records of a page: those that stood at a number, from the index and from the window, by key.
-ghost use Rattle.std.specs.Prelude.{◌≡◌, ◌+◌, ◌<◌, ◌≤◌, ◌^◌, ◌++◌, ◌&&◌, ℕ, List, [], ◌∷◌, None, IfOk, OnOk, drop, length, map, if◌then◌else◌, nat_eq, nat_le, not, option_copied};
+ghost use Rattle.std.specs.Prelude.{◌≡◌, ◌+◌, ◌<◌, ◌≤◌, ◌^◌, ◌++◌, ◌&&◌, ℕ, List, [], ◌∷◌, None, IfOk, OnOk, drop, length, map, if◌then◌else◌, nat_eq, nat_le, not, option_copied, ◌≢◌, take};
 ghost use Rattle.kube_meta.specs.Page.{in_namespace, listed};
 ghost use Rattle.record_store.specs.ByKey.{KeysRise, all_behind, put};
 ghost use Rattle.record_store.specs.Rows.{row_key};
@@ -283,6 +283,40 @@ fn is_in(key: &Key, ns: Option<&str>) -> bool
         Some(ns) => ns == key.ns(),
         None => true,
     }
+}
+
+/// How many of these a page shows. Limit 0 means no limit.
+pub(crate) fn shown(count: usize, limit: u64) -> usize
+    ensures within { result ≤ count }
+    ensures all { limit ≡ 0 → result ≡ count }
+    ensures few { count ≤ limit → result ≡ count }
+    ensures some { limit ≢ 0 → limit < count → result ≡ limit }
+{
+    if limit == 0 || count as u64 <= limit {
+        count
+    } else {
+        limit as usize
+    }
+}
+
+/// Copies of so many rows from a place on, with their texts.
+pub(crate) fn copies_from(
+    alloc: Global,
+    region: &Region,
+    index: &Index,
+    from: usize,
+    count: usize,
+) -> Result<Vec<StoredRecord>, NoMemory>
+    requires kept { AreKept region.now index.now.rows }
+    requires counted { from + count < 2 ^ 64 }
+    requires within { from + count ≤ length index.now.rows }
+    ensures { IfOk result (λ items. map copied items.items ≡ map (item_of region.now) (take count (drop from index.now.rows))) }
+{
+    let mut items = Vec::with_capacity(alloc, count)?;
+    for i in 0..count {
+        items.push(copy(alloc, region, index.at(from + i))?)?;
+    }
+    Ok(items)
 }
 
 /// Copies of rows with their texts.

@@ -11,8 +11,8 @@ ghost use Rattle.record_store.specs.View.{IsStore, item_key, item_weight, items_
 
 use crate::answer::PutEnd;
 use crate::held_versions::first_among;
-use crate::index::Index;
-use crate::page::{copies, listed, superseded};
+use crate::index::{Index, Stretch};
+use crate::page::{copies, copies_from, listed, shown, superseded};
 use crate::past::Past;
 use crate::record::{NewRecord, StorePage};
 use crate::row::{Record, Row};
@@ -151,12 +151,36 @@ impl Store {
             (page_of rv limit (listed item_key (option_copied ns.entry) (option_copied after.entry) (items_at rv self.now)))) }
         ensures present { self.now.last ≤ rv → items_at rv self.now ≡ self.now.items }
     {
+        if self.last <= rv {
+            return self.page_now(alloc, ns, after, rv, limit);
+        }
         let olds = superseded(alloc, &self.window, rv)?;
         let listing = listed(alloc, &self.index, olds.as_slice(), rv, ns, after, limit)?;
         let items = copies(alloc, &self.region, listing.picks.as_slice())?;
         Ok(StorePage {
             items,
             remaining: listing.behind,
+        })
+    }
+
+    // A page of the records that stand. None of those behind it is looked at.
+    fn page_now(
+        &self,
+        alloc: Global,
+        ns: Option<&str>,
+        after: Option<&Key>,
+        rv: u64,
+        limit: u64,
+    ) -> Result<StorePage, NoMemory>
+        ensures { IfOk result (λ page. ShowsCopies page
+            (page_of rv limit (listed item_key (option_copied ns.entry) (option_copied after.entry) self.now.items))) }
+    {
+        let Stretch { from, to } = self.index.stretch(ns, after);
+        let count = shown(to - from, limit);
+        let items = copies_from(alloc, &self.region, &self.index, from, count)?;
+        Ok(StorePage {
+            items,
+            remaining: (to - from - count) as u64,
         })
     }
 

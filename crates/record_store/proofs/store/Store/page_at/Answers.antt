@@ -1,17 +1,30 @@
 use Rattle.std.proofs.Common.{◌≡◌, ◌≤◌, List, ap, sym, subst, refl, map, ◌∙◌, arith}
-use Rattle.std.specs.Prelude.{option_copied}
+use Rattle.std.specs.Prelude.{IfOk, option_copied}
 use Rattle.kube_meta.specs.Page.{listed, page_of}
 use Rattle.record_store.specs.ByKey.{KeysRise}
 use Rattle.record_store.specs.Rows.{row_key}
 use Rattle.record_store.specs.declared.row.Row.{Row}
 use Rattle.record_store.specs.View.{Item, StoreView, item_key, items_at}
 use Rattle.record_store.specs.Inside.{AreKept, IsKept, item_of}
+use Rattle.record_store.specs.Copies.{ShowsCopies}
 use Rattle.record_store.specs.declared.page.Pick.{Pick}
+use Rattle.record_store.specs.declared.record.StorePage.{StorePage}
 use Rattle.record_store.specs.Picked.{Shown, merged, no_rows, pick_key, rows_in, standing, superseded, with_more}
 use Rattle.record_store.proofs.Paged.{present_seen, page_seen, picks_kept}
 use Rattle.record_store.proofs.Pieces.{rows-weigh}
 use Rattle.record_store.proofs.Steps.{each-shown, page-items, page-behind}
 use Rattle.record_store.proofs.store.Store.page_at.Goals as goal
+
+pub returns-then-self-rv-clause-page : goal.returns-then-self-rv-clause-page
+returns-then-self-rv-clause-page c =
+    let present =
+    subst (λ (v : StoreView). items_at c.args.rv v ≡ v.items) c.self.view_is
+    (present_seen c.self.inside.limits c.self.inside.index c.self.inside.window c.self.inside.region c.self.inside.live c.self.inside.last c.args.rv c.self.invariant (omega arith)) in
+    subst (λ (xs : List Item). IfOk c.page_now.result (λ (page : StorePage). ShowsCopies page (page_of c.args.rv c.args.limit (listed item_key (option_copied c.args.ns) (option_copied c.args.after) xs)))) (sym present) c.page_now.ensures
+
+pub returns-then-self-rv-clause-present : goal.returns-then-self-rv-clause-present
+returns-then-self-rv-clause-present c =
+    subst (λ (v : StoreView). v.last ≤ c.args.rv → items_at c.args.rv v ≡ v.items) c.self.view_is (present_seen c.self.inside.limits c.self.inside.index c.self.inside.window c.self.inside.region c.self.inside.live c.self.inside.last c.args.rv c.self.invariant)
 
 pub listed-requires-clause-order : goal.listed-requires-clause-order
 listed-requires-clause-order c = subst (λ (ps : List Pick). KeysRise (map pick_key ps)) (sym c.as_slice.ensures.value) c.in_ok-olds.ensures.order
