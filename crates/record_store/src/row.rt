@@ -1,5 +1,4 @@
 //! A record as it stands under its key.
-use crate::lookup::Keyed;
 use kube_meta::Key;
 use record_region::Piece;
 
@@ -24,12 +23,4 @@ pub struct Row {
     pub key: Key,
     pub record: Record,
     pub piece: Piece,
-}
-
-impl Keyed for Row {
-    ghost key_of = { λ r. r.key };
-
-    fn key(&self) -> &Key {
-        &self.key
-    }
 }
