@@ -4,9 +4,9 @@
 
 Prints how many a second, what one takes, and how many times as long that is as at the fewest records. A new record costs
 a little more with the records: it moves rows of its block of 256, and one row of each block behind that one, and the
-same again where it goes; a write over a record or a touch moves none. A page copies the first 500 records and counts
-those behind them. All is processor time, so that what else runs counts little; the time of a run that only fills the
-store is taken off."""
+same again where it goes; a write over a record or a touch moves none. A page of the present copies the first 500 records
+and tells how many are behind them by a difference. All is processor time, so that what else runs counts little; the time
+of a run that only fills the store is taken off."""
 
 from programs import built, each_of, parser_of
 
