@@ -12,8 +12,8 @@ pub mod Answered
 pub mod Opened
 pub mod Sorted
 pub mod Merged
-pub mod Beyond
 pub mod Stretched
+pub mod Among
 pub mod Paged
 pub mod Steps
 pub mod Overwritten

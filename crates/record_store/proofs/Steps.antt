@@ -2,16 +2,16 @@
 use Rattle.std.proofs.Common.{◌≡◌, ◌≢◌, ℕ, zero, suc, ◌+◌, ◌-◌, ◌<◌, ◌≤◌, List, [], ◌∷◌, ◌++◌, length, map, take, drop, get_or, drop-cons, Bool, true, false, Ordering, Less, Equal, Greater, Option, Some, None, subst, ap, ap₂, sym, refl, ◌∙◌, arith, cond, nat_eq, nat_lt, append_assoc, append-nil}
 use Rattle.std.proofs.Math.Seq.{take-nil}
 use Rattle.std.proofs.lemmas.Bool.Decides.{nat_tests}
-use Rattle.std.proofs.lemmas.List.{drop_all, get_or-drop, take-map, take_all, take_more, length-append, length-drop, length-map, map-append}
+use Rattle.std.proofs.lemmas.List.{drop-drop, drop_all, get_or-drop, take-map, take_all, take_more, length-append, length-drop, length-map, map-append}
 use Rattle.std.proofs.lemmas.Option.{get_or_from_slice_get, slice_get_within}
 use Rattle.std.proofs.lemmas.List.Elements.{filter-append}
 use Rattle.std.specs.Prelude.{not, ◌&&◌, nat_le, slice_get, if◌then◌else◌}
 use Rattle.std.specs.List.{AllByRecursion as Each}
 use Rattle.std.specs.Ordering.{match_ordering}
-use Rattle.kube_meta.specs.Key.{key_cmp}
+use Rattle.kube_meta.specs.Key.{KeyView, key_cmp}
 use Rattle.kube_meta.specs.Page.{bound_after, in_namespace, listed, page_of}
 use Rattle.kube_meta.specs.Plan.{passed}
-use Rattle.record_store.specs.ByKey.{put}
+use Rattle.record_store.specs.ByKey.{KeysRise, put}
 use Rattle.record_store.specs.Rows.{row_key}
 use Rattle.record_store.specs.declared.row.Row.{Row}
 use Rattle.record_store.specs.declared.past.Past.{Past}
@@ -56,6 +56,57 @@ put_in r w p done new is row e =
 
 pub put_out : (r : ℕ) (w : Past) (done : List Pick) → stood r w ≡ false → rows_in done ≡ (if stood r w then put row_key w.row (rows_in done) else rows_in done)
 put_out r w done isnt = ap (λ (b : Bool). if b then put row_key w.row (rows_in done) else rows_in done) (sym isnt)
+
+-- ---- those of a namespace behind a key
+
+module _ (ns : Option (List ℕ)) (after : Option KeyView) where
+  abbrev is_asked : Row → Bool
+  is_asked r = in_namespace ns r.key && not (passed (bound_after after) r.key)
+
+  pub kept_in : (ps : List Pick) (p : Pick) → is_asked (pick_row p) ≡ true → rows_in (ps ++ p ∷ []) ≡ rows_in ps ++ listed row_key ns after (pick_row p ∷ [])
+  kept_in ps p e = map-append pick_row ps (p ∷ []) ∙ ap (λ (b : Bool). rows_in ps ++ cond b (pick_row p ∷ []) []) (sym e)
+
+  pub kept_out : (ps : List Pick) (p : Pick) → is_asked (pick_row p) ≡ false → rows_in ps ≡ rows_in ps ++ listed row_key ns after (pick_row p ∷ [])
+  kept_out ps p e = sym (append-nil (rows_in ps)) ∙ ap (λ (b : Bool). rows_in ps ++ cond b (pick_row p ∷ []) []) (sym e)
+
+  pub kept_at : (done new all : List Row) (picks : List Pick) (i : ℕ) (p : Pick) → i < length picks → p ≡ get_or picks i p → new ≡ done ++ listed row_key ns after (pick_row p ∷ [])
+      → done ++ listed row_key ns after (rows_in (drop i picks)) ≡ all → new ++ listed row_key ns after (rows_in (drop (i + 1) picks)) ≡ all
+  kept_at done new all picks i p within is e h =
+      let rest = rows_in (drop (i + 1) picks) in
+      ap (λ (l : List Row). l ++ listed row_key ns after rest) e ∙ append_assoc done (listed row_key ns after (pick_row p ∷ [])) (listed row_key ns after rest)
+      ∙ ap (λ (l : List Row). done ++ l) (sym (filter-append is_asked (pick_row p ∷ []) rest))
+      ∙ ap (λ (ps : List Pick). done ++ listed row_key ns after (rows_in ps)) (sym (next_at picks i p within is)) ∙ h
+
+  pub kept_all : (done all : List Row) (picks : List Pick) (i : ℕ) → length picks ≤ i → done ++ listed row_key ns after (rows_in (drop i picks)) ≡ all → done ≡ all
+  kept_all done all picks i end h = sym (append-nil done) ∙ ap (λ (ps : List Pick). done ++ listed row_key ns after (rows_in ps)) (sym (drop_all i picks end)) ∙ h
+
+pub rows-rise : (ps : List Pick) → KeysRise (map pick_key ps) → KeysRise (map row_key (rows_in ps))
+rows-rise [] h = tt
+rows-rise (p ∷ []) h = (tt, tt)
+rows-rise (p ∷ q ∷ ps) h = (h.0, rows-rise (q ∷ ps) h.1)
+
+-- ---- a run of rows, cut where the page ends
+
+pub cut-run : (run rows : List Row) (place count to : ℕ) → run ++ drop (place + length run) rows ≡ drop place rows → count ≤ length run → place + count ≤ to
+    → take count run ++ take (to - (place + count)) (drop (place + count) rows) ≡ take (to - place) (drop place rows)
+cut-run run rows place count to e le upto =
+    let d = drop place rows in
+    let whole : to - place ≡ count + (to - (place + count)) = omega (arith, upto) in
+    let front : take count run ≡ take count d = sym (take-within run (drop (place + length run) rows) count le) ∙ ap (λ (l : List Row). take count l) e in
+    ap₂ (λ (l m : List Row). l ++ take (to - (place + count)) m) front (sym (drop-drop count place rows))
+    ∙ sym (take-sum count (to - (place + count)) d) ∙ ap (λ (n : ℕ). take n d) (sym whole)
+  where
+    take-within : (xs ys : List Row) (n : ℕ) → n ≤ length xs → take n (xs ++ ys) ≡ take n xs
+    take-within xs ys zero p = refl
+    take-within [] ys (suc n) p = absurd (omega (arith, p))
+    take-within (x ∷ xs) ys (suc n) p = ap (λ (l : List Row). x ∷ l) (take-within xs ys n (omega (arith, p)))
+
+    take-sum : (n m : ℕ) (xs : List Row) → take (n + m) xs ≡ take n xs ++ take m (drop n xs)
+    take-sum zero m xs = let same : zero + m ≡ m = omega arith in ap (λ (k : ℕ). take k xs) same
+    take-sum (suc n) m [] = let same : suc n + m ≡ suc (n + m) = omega arith in ap (λ (k : ℕ). take k []) same ∙ sym (take-nil m)
+    take-sum (suc n) m (x ∷ xs) =
+        let same : suc n + m ≡ suc (n + m) = omega arith in
+        ap (λ (k : ℕ). take k (x ∷ xs)) same ∙ ap (λ (l : List Row). x ∷ l) (take-sum n m xs)
 
 -- ---- what is listed
 

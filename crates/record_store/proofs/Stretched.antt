@@ -10,13 +10,16 @@ use Rattle.std.specs.Prelude.{◌&&◌, max, not, slice_get}
 use Rattle.std.specs.Ordering.{is_eq, is_gt, is_lt, nat_cmp, ordering_reverse, ordering_then}
 use Rattle.std.specs.Cmp.Lexicographic.{slice_cmp}
 use Rattle.kube_meta.specs.Key.{KeyView, key_cmp}
-use Rattle.kube_meta.specs.Page.{in_namespace, listed}
+use Rattle.kube_meta.specs.Page.{bound_after, in_namespace, listed}
 use Rattle.record_store.specs.ByKey.{KeysRise, all_behind}
 use Rattle.record_store.specs.Stretches.{comes_before}
-use Rattle.record_store.proofs.Beyond.{filter-both, is_behind}
+use Rattle.kube_meta.specs.Plan.{passed}
 use Rattle.record_store.proofs.Search.{earlier}
 
-abbrev names_cmp : List ℕ → List ℕ → Ordering
+abbrev pub is_behind : Option KeyView → KeyView → Bool
+is_behind after x = not (passed (bound_after after) x)
+
+abbrev pub names_cmp : List ℕ → List ℕ → Ordering
 names_cmp a b = slice_cmp nat_cmp a b
 
 turned : (a b : List ℕ) (o : Ordering) → names_cmp a b ≡ o → names_cmp b a ≡ ordering_reverse o
@@ -38,7 +41,7 @@ module _ (with_them : Bool) (ns : List ℕ) where
       by true h = let k : comes_before true ns x ≡ false = rw e refl in cc
       by false h = let k : comes_before false ns x ≡ false = rw e refl in cc
 
-  falls : (x y : KeyView) → key_cmp x y ≡ Less → comes_before with_them ns y ≡ true → comes_before with_them ns x ≡ true
+  pub falls : (x y : KeyView) → key_cmp x y ≡ Less → comes_before with_them ns y ≡ true → comes_before with_them ns x ≡ true
   falls x y e h = by (names_cmp x.ns y.ns) refl e
     where
       lower : (o : Ordering) → names_cmp y.ns ns ≡ o → names_cmp x.ns y.ns ≡ Less → comes_before with_them ns x ≡ true
@@ -85,7 +88,7 @@ module _ (with_them : Bool) (ns : List ℕ) where
 
 -- ---- a namespace
 
-in-of : (ns : List ℕ) (k : KeyView) (o : Ordering) → names_cmp k.ns ns ≡ o → in_namespace (Some ns) k ≡ is_eq o
+pub in-of : (ns : List ℕ) (k : KeyView) (o : Ordering) → names_cmp k.ns ns ≡ o → in_namespace (Some ns) k ≡ is_eq o
 in-of ns k o e = sym (is_eq-slice_cmp ns k.ns) ∙ ap is_eq (turned k.ns ns o e) ∙ by o
   where
     by : (o : Ordering) → is_eq (ordering_reverse o) ≡ is_eq o
@@ -109,13 +112,25 @@ behind-them ns k h = by (names_cmp k.ns ns) refl h
     by Equal e h = absurd (cc)
     by Greater e h = in-of ns k Greater e
 
-among-them : (ns : List ℕ) (k : KeyView) → comes_before false ns k ≡ false → comes_before true ns k ≡ true → in_namespace (Some ns) k ≡ true
+pub among-them : (ns : List ℕ) (k : KeyView) → comes_before false ns k ≡ false → comes_before true ns k ≡ true → in_namespace (Some ns) k ≡ true
 among-them ns k h g = by (names_cmp k.ns ns) refl h g
   where
     by : (o : Ordering) → names_cmp k.ns ns ≡ o → is_lt o ≡ false → not (is_gt o) ≡ true → in_namespace (Some ns) k ≡ true
     by Less e h g = absurd (cc)
     by Equal e h g = in-of ns k Equal e
     by Greater e h g = absurd (cc)
+
+module _ {X : Type 0} where
+  filter-both : (p q : X → Bool) (xs : List X) → filter (λ x. p x && q x) xs ≡ filter (λ x. p x && true) (filter q xs)
+  filter-both p q [] = refl
+  filter-both p q (x ∷ xs) = by (p x) refl (q x) (filter-both p q xs)
+    where
+      by : (s : Bool) → p x ≡ s → (t : Bool) → filter (λ x. p x && q x) xs ≡ filter (λ x. p x && true) (filter q xs)
+          → cond (s && t) (x ∷ filter (λ x. p x && q x) xs) (filter (λ x. p x && q x) xs) ≡ filter (λ x. p x && true) (cond t (x ∷ filter q xs) (filter q xs))
+      by true e true more = rw e (ap (λ (l : List X). x ∷ l) more)
+      by true e false more = more
+      by false e true more = rw e more
+      by false e false more = more
 
 -- ---- what passes a test from a place on, up to another
 

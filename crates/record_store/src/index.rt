@@ -123,6 +123,7 @@ impl Index {
     pub fn stretch(&self, ns: Option<&str>, after: Option<&Key>) -> Stretch
         ensures order { result.from ≤ result.to }
         ensures within { result.to ≤ length self.now.rows }
+        ensures rising { KeysRise (map row_key self.now.rows) }
         ensures rows { listed row_key (option_copied ns.entry) (option_copied after.entry) self.now.rows
             ≡ take (result.to - result.from) (drop result.from self.now.rows) }
     {

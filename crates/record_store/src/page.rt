@@ -1,15 +1,16 @@
 //! The records of a page: those that stood at a number, from the index and from the window, by key.
 ghost use Rattle.std.specs.Prelude.{◌≡◌, ◌+◌, ◌<◌, ◌≤◌, ◌^◌, ◌++◌, ◌&&◌, ℕ, List, [], ◌∷◌, None, IfOk, OnOk, drop, length, map, if◌then◌else◌, nat_eq, nat_le, not, option_copied, ◌≢◌, take};
-ghost use Rattle.kube_meta.specs.Page.{in_namespace, listed};
-ghost use Rattle.record_store.specs.ByKey.{KeysRise, all_behind, put};
+ghost use Rattle.kube_meta.specs.Page.{bound_after, in_namespace, listed};
+ghost use Rattle.kube_meta.specs.Plan.{passed};
+ghost use Rattle.record_store.specs.ByKey.{KeysRise, put};
 ghost use Rattle.record_store.specs.Rows.{row_key};
 ghost use Rattle.record_store.specs.declared.row.Row.{Row as RowView};
 ghost use Rattle.record_store.specs.Copies.{copied};
 ghost use Rattle.record_store.specs.Inside.{AreKept, IsKept, item_of};
 ghost use Rattle.record_store.specs.Picked.{ends, merge_into, merged, no_rows, pick_key, rows_in, shown_in, standing, stood, superseded, with_more};
 
-use crate::index::Index;
-use crate::lookup::{Keyed, place_behind, seek};
+use crate::index::{Index, Stretch};
+use crate::lookup::{Keyed, seek};
 use crate::past::Past;
 use crate::record::StoredRecord;
 use crate::row::Row;
@@ -103,8 +104,8 @@ pub(crate) struct Listing<'a> {
 }
 
 /// A page of the rows of a namespace behind a key, of those that stand since a number and those that were
-/// superseded since, by key, up to a limit, where limit 0 means none. Rows up to the key aren't looked at, and those behind
-/// the page are counted.
+/// superseded since, by key, up to a limit, where limit 0 means none. Rows behind the page are counted, and others aren't looked
+/// at.
 pub(crate) fn listed<'a>(
     alloc: Global,
     index: &'a Index,
@@ -124,26 +125,66 @@ pub(crate) fn listed<'a>(
         behind: 0,
         limit,
     };
-    let mut from = first_behind(olds, after);
-    let mut place = index.first_behind(after);
-    while place < index.len() {
+    let olds = among(alloc, olds, ns, after)?;
+    let mut from = 0;
+    let Stretch {
+        from: mut place,
+        to,
+    } = index.stretch(ns, after);
+    while place < to {
         let run = index.run(place);
-        from = merge_run(&mut listing, run, olds, from, rv, ns)?;
-        place += run.len();
+        let count = run.len().min(to - place);
+        from = merge_run(&mut listing, &run[..count], olds.as_slice(), from, rv, None)?;
+        place += count;
     }
-    offer_all(&mut listing, olds, from, ns)?;
+    offer_all(&mut listing, olds.as_slice(), from, None)?;
     Ok(listing)
 }
 
-// The place of the first row behind a key.
-fn first_behind(picks: &[Pick], after: Option<&Key>) -> usize
-    requires { KeysRise (map pick_key picks.now) }
-    ensures within { result ≤ length picks.now }
-    ensures rows { drop result picks.now ≡ all_behind pick_key (option_copied after.entry) picks.now }
+// Those of a namespace behind a key.
+fn among<'a>(
+    alloc: Global,
+    picks: &[Pick<'a>],
+    ns: Option<&str>,
+    after: Option<&Key>,
+) -> Result<Vec<Pick<'a>>, NoMemory>
+    ensures { IfOk result (λ left. rows_in left.items ≡ listed row_key (option_copied ns.entry) (option_copied after.entry) (rows_in picks.now)) }
+{
+    let mut left = Vec::new(alloc);
+    for pick in picks {
+        keep_asked(&mut left, *pick, ns, after)?;
+    }
+    Ok(left)
+}
+
+fn keep_asked<'a>(
+    left: &mut Vec<Pick<'a>>,
+    pick: Pick<'a>,
+    ns: Option<&str>,
+    after: Option<&Key>,
+) -> Result<(), NoMemory>
+    ensures { OnOk result (rows_in left.new.items
+        ≡ rows_in left.old.items ++ listed row_key (option_copied ns.entry) (option_copied after.entry) (pick.entry.row.now ∷ [])) }
+{
+    if !is_listed(&pick.row.key, ns, after) {
+        return Ok(());
+    }
+    left.push(pick)?;
+    Ok(())
+}
+
+fn is_listed(key: &Key, ns: Option<&str>, after: Option<&Key>) -> bool
+    ensures { result ≡ (in_namespace (option_copied ns.entry) key.now && not (passed (bound_after (option_copied after.entry)) key.now)) }
+{
+    is_in(key, ns) && is_behind(key, after)
+}
+
+fn is_behind(key: &Key, after: Option<&Key>) -> bool
+    ensures { result ≡ not (passed (bound_after (option_copied after.entry)) key.now) }
 {
     match after {
-        Some(key) => place_behind(seek(picks, key.ns(), key.name())),
-        None => 0,
+        Some(after) => key.compare(after) == Ordering::Greater,
+        None => true,
     }
 }
 

@@ -1,27 +1,64 @@
-use Rattle.std.proofs.Common.{List, None, drop, ap, sym, ◌∙◌, arith}
-use Rattle.std.specs.Prelude.{not, option_copied}
-use Rattle.kube_meta.specs.Page.{bound_after, listed}
-use Rattle.kube_meta.specs.Plan.{passed}
+use Rattle.std.proofs.Common.{◌≡◌, ◌+◌, ◌-◌, ◌≤◌, ◌++◌, ℕ, zero, List, None, length, take, drop, ap, ap₂, sym, subst, ◌∙◌, arith}
+use Rattle.std.proofs.lemmas.List.{length-take}
+use Rattle.std.specs.Prelude.{option_copied}
+use Rattle.kube_meta.specs.Page.{listed}
 use Rattle.record_store.specs.Rows.{row_key}
+use Rattle.record_store.specs.declared.row.Row.{Row}
 use Rattle.record_store.specs.declared.page.Pick.{Pick}
-use Rattle.record_store.specs.Picked.{merged, no_rows, pick_row, rows_in, standing, with_more}
-use Rattle.record_store.proofs.Beyond.{from_behind}
-use Rattle.record_store.proofs.Paged.{filter-seen}
+use Rattle.record_store.specs.Picked.{ends, merged, no_rows, rows_in, shown_in, standing, with_more}
+use Rattle.record_store.proofs.Among.{all-listed, among-merged}
+use Rattle.record_store.proofs.Steps.{cut-run, rows-rise, with_more-nothing}
 use Rattle.record_store.proofs.page.listed.Goals as goal
 
 pub loop-place-init : goal.loop-place-init
 loop-place-init c =
+    let ns = option_copied c.args.ns in
     let after = option_copied c.args.after in
     let rows = c.args.index.now.rows in
-    let olds = c.args.olds.now in
-    let rows_left = drop c.first_behind-place.result rows in
-    let olds_left = rows_in (drop c.first_behind-from.result olds) in
-    let seen = ap rows_in c.first_behind-from.ensures.rows ∙ sym (filter-seen pick_row (λ r. not (passed (bound_after after) (row_key r))) olds) in
+    let part = take (c.stretch-place.result.to - c.stretch-place.result.from) (drop c.stretch-place.result.from rows) in
+    let olds = rows_in c.in_ok-olds.olds.items in
     record {
-      within = c.first_behind-from.ensures.within;
-      inside = c.first_behind-place.ensures.within;
+      within = omega arith;
+      inside = c.stretch-place.ensures.order;
       counted = omega arith;
       rows =
-          ap (λ (ps : List Pick). with_more c.args.limit (record { rows = rows_in ps; behind = 0 }) (listed row_key (option_copied c.args.ns) None (merged row_key (standing c.args.rv rows_left) olds_left))) c.new.ensures.items
-          ∙ ap (with_more c.args.limit no_rows) (from_behind (option_copied c.args.ns) after c.args.rv rows (rows_in olds) rows_left olds_left c.first_behind-place.ensures.rows seen);
+          ap (λ (ps : List Pick). with_more c.args.limit (record { rows = rows_in ps; behind = 0 }) (listed row_key None None (merged row_key (standing c.args.rv part) olds))) c.new.ensures.items
+          ∙ ap (with_more c.args.limit no_rows)
+          (all-listed (merged row_key (standing c.args.rv part) olds) ∙ ap₂ (λ (l m : List Row). merged row_key (standing c.args.rv l) m) (sym c.stretch-place.ensures.rows) c.in_ok-olds.ensures
+          ∙ among-merged ns after c.args.rv rows (rows_in c.args.olds.now) c.stretch-place.ensures.rising (rows-rise c.args.olds.now c.requires.order));
     }
+
+pub loop-place-preserved : goal.loop-place-preserved
+loop-place-preserved c =
+    let rows = c.args.index.now.rows in
+    let olds = c.in_ok-olds.olds.items in
+    let run = c.run-run.result.now in
+    let count = c.min-count.result in
+    let to = c.stretch-place.result.to in
+    let place = c.loop-place.place in
+    let short : c.min-count.result ≤ length c.run-run.result.now = omega (arith, c.min-count.ensures) in
+    let upto : c.loop-place.place + c.min-count.result ≤ c.stretch-place.result.to = omega (arith, c.min-count.ensures, c.loop-place.invariant.inside) in
+    let long = ap (λ (ps : List Pick). length ps) c.as_slice.ensures.value in
+    let step =
+    subst (λ (ps : List Pick).
+    (rest : List Row) → ends c.merge_run.new.listing (listed row_key None None (merged row_key (standing c.args.rv rest) (rows_in (drop c.in_ok-from.from ps))))
+    ≡ ends c.loop-place.listing (listed row_key None None (merged row_key (standing c.args.rv (take c.min-count.result c.run-run.result.now ++ rest)) (rows_in (drop c.loop-place.from ps))))) c.as_slice.ensures.value c.in_ok-from.ensures.merged in
+    record {
+      within = omega (arith, c.in_ok-from.ensures.within, long);
+      inside = upto;
+      counted = omega (arith, c.in_ok-from.ensures.counted, c.loop-place.invariant.counted, length-take c.min-count.result c.run-run.result.now);
+      rows =
+          step (take (to - (place + count)) (drop (place + count) rows))
+          ∙ ap (λ (l : List Row). ends c.loop-place.listing (listed row_key None None (merged row_key (standing c.args.rv l) (rows_in (drop c.loop-place.from olds))))) (cut-run run rows place count to c.run-run.ensures.rows short upto)
+          ∙ c.loop-place.invariant.rows;
+    }
+
+pub returns : goal.returns
+returns c =
+    let rows = c.args.index.now.rows in
+    let none : zero ≡ c.stretch-place.result.to - c.loop-place.place = omega arith in
+    sym (with_more-nothing c.offer_all.new.listing.limit (shown_in c.offer_all.new.listing))
+    ∙ c.in_ok-offer_all.ensures
+    ∙ ap (λ (ps : List Pick). ends c.loop-place.listing (listed row_key None None (rows_in (drop c.loop-place.from ps)))) c.as_slice-2.ensures.value
+    ∙ ap (λ (n : ℕ). ends c.loop-place.listing (listed row_key None None (merged row_key (standing c.args.rv (take n (drop c.loop-place.place rows))) (rows_in (drop c.loop-place.from c.in_ok-olds.olds.items))))) none
+    ∙ c.loop-place.invariant.rows
