@@ -178,7 +178,3 @@ pub among-merged : (ns : Option (List ℕ)) (after : Option KeyView) (r : ℕ) (
 among-merged ns after r rows olds rise rise_olds =
     ap (λ (l : List Row). merged row_key l (listed row_key ns after olds)) (filter-turned (λ x. nat_le x.record.rv r) (λ x. asked ns after (row_key x)) rows)
     ∙ sym (filter-merged row_key (asked ns after) (between ns after) (standing r rows) olds (rise-filter row_key (λ x. nat_le x.record.rv r) rows rise) rise_olds)
-
-pub all-listed : (rows : List Row) → listed row_key None None rows ≡ rows
-all-listed [] = refl
-all-listed (r ∷ rows) = ap (λ (l : List Row). r ∷ l) (all-listed rows)

@@ -108,61 +108,42 @@ cut-run run rows place count to e le upto =
         let same : suc n + m ≡ suc (n + m) = omega arith in
         ap (λ (k : ℕ). take k (x ∷ xs)) same ∙ ap (λ (l : List Row). x ∷ l) (take-sum n m xs)
 
--- ---- what is listed
+-- ---- one row was offered: what the page comes to then with more rows is what it came to with the row before them
 
-module _ (ns : Option (List ℕ)) where
-  abbrev asked : Row → Bool
-  asked r = in_namespace ns r.key && not (passed (bound_after None) r.key)
+module _ (done new : List Row → Shown) (all : Shown) where
+  one : (rows : List Row) (r : Row) → ((rest : List Row) → new rest ≡ done (r ∷ rest)) → done (r ∷ rows) ≡ all → new rows ≡ all
+  one rows r e h = e rows ∙ h
 
-  abbrev shows : List Row → List Row
-  shows rows = listed row_key ns None rows
+  module _ (olds : List Pick) (i : ℕ) (p : Pick) (within : i < length olds) (is : p ≡ get_or olds i p) where
+    pub offered_at : ((rest : List Row) → new rest ≡ done (pick_row p ∷ rest)) → done (rows_in (drop i olds)) ≡ all → new (rows_in (drop (i + 1) olds)) ≡ all
+    offered_at e h = one (rows_in (drop (i + 1) olds)) (pick_row p) e (ap (λ (ps : List Pick). done (rows_in ps)) (sym (next_at olds i p within is)) ∙ h)
 
-  -- one row was offered: what the page comes to then with more rows is what it came to with the row before them
-  module _ (done new : List Row → Shown) (all : Shown) where
-    one : (rows : List Row) (r : Row) → ((rest : List Row) → new rest ≡ done (shows (r ∷ []) ++ rest)) → done (shows (r ∷ rows)) ≡ all → new (shows rows) ≡ all
-    one rows r e h = e (shows rows) ∙ ap done (sym (filter-append asked (r ∷ []) rows)) ∙ h
+    module _ (x : Row) (rest : List Row → List Row) (h : done (merge_into row_key x rest (rows_in (drop i olds))) ≡ all) where
+      abbrev zs : List Row
+      zs = rows_in (drop (i + 1) olds)
 
-    module _ (x z : Row) (rest : List Row → List Row) (zs : List Row) where
-      chosen : (o : Ordering) → key_cmp (row_key z) (row_key x) ≡ o → done (shows (merge_into row_key x rest (z ∷ zs))) ≡ all
-          → done (shows (match_ordering o (z ∷ merge_into row_key x rest zs) (z ∷ rest zs) (x ∷ rest (z ∷ zs)))) ≡ all
-      chosen o q h = ap (λ (u : Ordering). done (shows (match_ordering u (z ∷ merge_into row_key x rest zs) (z ∷ rest zs) (x ∷ rest (z ∷ zs))))) (sym q) ∙ h
+      chosen : (o : Ordering) → key_cmp (pick_key p) (row_key x) ≡ o → done (match_ordering o (pick_row p ∷ merge_into row_key x rest zs) (pick_row p ∷ rest zs) (x ∷ rest (pick_row p ∷ zs))) ≡ all
+      chosen o q =
+          ap (λ (u : Ordering). done (match_ordering u (pick_row p ∷ merge_into row_key x rest zs) (pick_row p ∷ rest zs) (x ∷ rest (pick_row p ∷ zs)))) (sym q)
+          ∙ ap (λ (ps : List Pick). done (merge_into row_key x rest (rows_in ps))) (sym (next_at olds i p within is)) ∙ h
 
-      before : key_cmp (row_key z) (row_key x) ≡ Less → ((more : List Row) → new more ≡ done (shows (z ∷ []) ++ more)) → done (shows (merge_into row_key x rest (z ∷ zs))) ≡ all → new (shows (merge_into row_key x rest zs)) ≡ all
-      before q e h = one (merge_into row_key x rest zs) z e (chosen Less q h)
+      pub merged_before : key_cmp (pick_key p) (row_key x) ≡ Less → ((more : List Row) → new more ≡ done (pick_row p ∷ more)) → new (merge_into row_key x rest (rows_in (drop (i + 1) olds))) ≡ all
+      merged_before q e = one (merge_into row_key x rest zs) (pick_row p) e (chosen Less q)
 
-      instead : key_cmp (row_key z) (row_key x) ≡ Equal → ((more : List Row) → new more ≡ done (shows (z ∷ []) ++ more)) → done (shows (merge_into row_key x rest (z ∷ zs))) ≡ all → new (shows (rest zs)) ≡ all
-      instead q e h = one (rest zs) z e (chosen Equal q h)
+      pub merged_instead : key_cmp (pick_key p) (row_key x) ≡ Equal → ((more : List Row) → new more ≡ done (pick_row p ∷ more)) → new (rest (rows_in (drop (i + 1) olds))) ≡ all
+      merged_instead q e = one (rest zs) (pick_row p) e (chosen Equal q)
 
-      behind : key_cmp (row_key z) (row_key x) ≡ Greater → ((more : List Row) → new more ≡ done (shows (x ∷ []) ++ more)) → done (shows (merge_into row_key x rest (z ∷ zs))) ≡ all → new (shows (rest (z ∷ zs))) ≡ all
-      behind q e h = one (rest (z ∷ zs)) x e (chosen Greater q h)
+      pub merged_behind : key_cmp (pick_key p) (row_key x) ≡ Greater → ((more : List Row) → new more ≡ done (x ∷ more)) → new (rest (rows_in (drop i olds))) ≡ all
+      merged_behind q e = ap (λ (ps : List Pick). new (rest (rows_in ps))) (next_at olds i p within is) ∙ one (rest (pick_row p ∷ zs)) x e (chosen Greater q)
 
-    module _ (olds : List Pick) (i : ℕ) (p : Pick) (within : i < length olds) (is : p ≡ get_or olds i p) where
-      pub offered_at : ((more : List Row) → new more ≡ done (shows (pick_row p ∷ []) ++ more)) → done (shows (rows_in (drop i olds))) ≡ all → new (shows (rows_in (drop (i + 1) olds))) ≡ all
-      offered_at e h =
-          one (rows_in (drop (i + 1) olds)) (pick_row p) e (ap (λ (ps : List Pick). done (shows (rows_in ps))) (sym (next_at olds i p within is)) ∙ h)
+  pub merged_last : (olds : List Pick) (i n : ℕ) (x : Row) (rest : List Row → List Row) → length olds ≤ i → length olds ≤ n → ((more : List Row) → new more ≡ done (x ∷ more))
+      → done (merge_into row_key x rest (rows_in (drop i olds))) ≡ all → new (rest (rows_in (drop n olds))) ≡ all
+  merged_last olds i n x rest end end_n e h =
+      ap (λ (ps : List Pick). new (rest (rows_in ps))) (drop_all n olds end_n)
+      ∙ one (rest []) x e (ap (λ (ps : List Pick). done (merge_into row_key x rest (rows_in ps))) (sym (drop_all i olds end)) ∙ h)
 
-      module _ (x : Row) (rest : List Row → List Row) (h : done (shows (merge_into row_key x rest (rows_in (drop i olds)))) ≡ all) where
-        at_front : done (shows (merge_into row_key x rest (pick_row p ∷ rows_in (drop (i + 1) olds)))) ≡ all
-        at_front = ap (λ (ps : List Pick). done (shows (merge_into row_key x rest (rows_in ps)))) (sym (next_at olds i p within is)) ∙ h
-
-        pub merged_before : key_cmp (pick_key p) (row_key x) ≡ Less → ((more : List Row) → new more ≡ done (shows (pick_row p ∷ []) ++ more)) → new (shows (merge_into row_key x rest (rows_in (drop (i + 1) olds)))) ≡ all
-        merged_before q e = before x (pick_row p) rest (rows_in (drop (i + 1) olds)) q e at_front
-
-        pub merged_instead : key_cmp (pick_key p) (row_key x) ≡ Equal → ((more : List Row) → new more ≡ done (shows (pick_row p ∷ []) ++ more)) → new (shows (rest (rows_in (drop (i + 1) olds)))) ≡ all
-        merged_instead q e = instead x (pick_row p) rest (rows_in (drop (i + 1) olds)) q e at_front
-
-        pub merged_behind : key_cmp (pick_key p) (row_key x) ≡ Greater → ((more : List Row) → new more ≡ done (shows (x ∷ []) ++ more)) → new (shows (rest (rows_in (drop i olds)))) ≡ all
-        merged_behind q e =
-            ap (λ (ps : List Pick). new (shows (rest (rows_in ps)))) (next_at olds i p within is) ∙ behind x (pick_row p) rest (rows_in (drop (i + 1) olds)) q e at_front
-
-    pub merged_last : (olds : List Pick) (i n : ℕ) (x : Row) (rest : List Row → List Row) → length olds ≤ i → length olds ≤ n → ((more : List Row) → new more ≡ done (shows (x ∷ []) ++ more))
-        → done (shows (merge_into row_key x rest (rows_in (drop i olds)))) ≡ all → new (shows (rest (rows_in (drop n olds)))) ≡ all
-    merged_last olds i n x rest end end_n e h =
-        ap (λ (ps : List Pick). new (shows (rest (rows_in ps)))) (drop_all n olds end_n)
-        ∙ one (rest []) x e (ap (λ (ps : List Pick). done (shows (merge_into row_key x rest (rows_in ps)))) (sym (drop_all i olds end)) ∙ h)
-
-  pub offered_all : (done : List Row → Shown) (all : Shown) (olds : List Pick) (i : ℕ) → length olds ≤ i → done (shows (rows_in (drop i olds))) ≡ all → done [] ≡ all
-  offered_all done all olds i end h = ap (λ (ps : List Pick). done (shows (rows_in ps))) (sym (drop_all i olds end)) ∙ h
+pub offered_all : (done : List Row → Shown) (all : Shown) (olds : List Pick) (i : ℕ) → length olds ≤ i → done (rows_in (drop i olds)) ≡ all → done [] ≡ all
+offered_all done all olds i end h = ap (λ (ps : List Pick). done (rows_in ps)) (sym (drop_all i olds end)) ∙ h
 
 -- ---- the rows that stand
 
@@ -172,21 +153,7 @@ standing_in r x xs zs e = ap (λ (b : Bool). merged row_key (cond b (x ∷ stand
 pub standing_out : (r : ℕ) (x : Row) (xs zs : List Row) → nat_le x.record.rv r ≡ false → merged row_key (standing r (x ∷ xs)) zs ≡ merged row_key (standing r xs) zs
 standing_out r x xs zs e = ap (λ (b : Bool). merged row_key (cond b (x ∷ standing r xs) (standing r xs)) zs) e
 
-module _ (ns : Option (List ℕ)) (r : ℕ) where
-  abbrev lists : List Row → List Row
-  lists rs = listed row_key ns None rs
-
-  -- the next row was merged
-  pub row_next : (done new : List Row → Shown) (all : Shown) (rows : List Row) (zs later : List Row) (i : ℕ) (x : Row) → i < length rows → x ≡ get_or rows i x
-      → ((rest : List Row) → new (lists (merged row_key (standing r rest) later)) ≡ done (lists (merged row_key (standing r (x ∷ rest)) zs)))
-      → done (lists (merged row_key (standing r (drop i rows)) zs)) ≡ all → new (lists (merged row_key (standing r (drop (i + 1) rows)) later)) ≡ all
-  row_next done new all rows zs later i x within is step h =
-      step (drop (i + 1) rows) ∙ ap (λ (rs : List Row). done (lists (merged row_key (standing r rs) zs))) (sym (next_at rows i x within is)) ∙ h
-
-  pub rows_end : (done : List Row → Shown) (all : Shown) (rows zs : List Row) (i : ℕ) → length rows ≤ i → done (lists (merged row_key (standing r (drop i rows)) zs)) ≡ all → done (lists zs) ≡ all
-  rows_end done all rows zs i end h = ap (λ (rs : List Row). done (lists (merged row_key (standing r rs) zs))) (sym (drop_all i rows end)) ∙ h
-
--- ---- a row that is offered
+-- ---- a row goes on a page, or is counted
 
 module _ (limit : ℕ) (p : Shown) (x : Row) (xs : List Row) where
   -- the page is full
@@ -207,35 +174,19 @@ module _ (limit : ℕ) (p : Shown) (x : Row) (xs : List Row) where
       let count : p.behind + (length xs - m) ≡ p.behind + (length (x ∷ xs) - suc m) = omega arith in
       rw (e, here, less) (ap₂ (λ (rs : List Row) (n : ℕ). record { rows = rs; behind = n }) (append_assoc p.rows (x ∷ []) (take m xs)) count)
 
-  more-open : not (nat_eq limit 0) && nat_le limit (length p.rows) ≡ false → with_more limit (record p { rows = p.rows ++ x ∷ [] }) xs ≡ with_more limit p (x ∷ xs)
+  pub more-open : not (nat_eq limit 0) && nat_le limit (length p.rows) ≡ false → with_more limit (record p { rows = p.rows ++ x ∷ [] }) xs ≡ with_more limit p (x ∷ xs)
   more-open is = by (nat_eq limit 0) refl is
     where
       by : (b : Bool) → nat_eq limit 0 ≡ b → not b && nat_le limit (length p.rows) ≡ false → with_more limit (record p { rows = p.rows ++ x ∷ [] }) xs ≡ with_more limit p (x ∷ xs)
       by true e is = no-limit e
       by false e is = more-shown e (grind (arith, nat_tests))
 
-  more-full : not (nat_eq limit 0) && nat_le limit (length p.rows) ≡ true → with_more limit (record { rows = p.rows; behind = p.behind + 1 }) xs ≡ with_more limit p (x ∷ xs)
+  pub more-full : not (nat_eq limit 0) && nat_le limit (length p.rows) ≡ true → with_more limit (record { rows = p.rows; behind = p.behind + 1 }) xs ≡ with_more limit p (x ∷ xs)
   more-full is = by (nat_eq limit 0) refl is
     where
       by : (b : Bool) → nat_eq limit 0 ≡ b → not b && nat_le limit (length p.rows) ≡ true → with_more limit (record { rows = p.rows; behind = p.behind + 1 }) xs ≡ with_more limit p (x ∷ xs)
       by true e is = absurd (cc)
       by false e is = more-behind e (grind (arith, nat_tests))
-
-module _ (ns : Option (List ℕ)) (p : Pick) (limit : ℕ) (shown : Shown) (rest : List Row) where
-  -- it is of another namespace
-  pub offered_out : in_namespace ns (pick_key p) ≡ false → with_more limit shown rest ≡ with_more limit shown (listed row_key ns None (pick_row p ∷ []) ++ rest)
-  offered_out e = ap (λ (b : Bool). with_more limit shown (cond (b && true) (pick_row p ∷ []) [] ++ rest)) (sym e)
-
-  its-more : in_namespace ns (pick_key p) ≡ true → with_more limit shown (pick_row p ∷ rest) ≡ with_more limit shown (listed row_key ns None (pick_row p ∷ []) ++ rest)
-  its-more e = ap (λ (b : Bool). with_more limit shown (cond (b && true) (pick_row p ∷ []) [] ++ rest)) (sym e)
-
-  pub offered_behind : in_namespace ns (pick_key p) ≡ true → not (nat_eq limit 0) && nat_le limit (length shown.rows) ≡ true
-      → with_more limit (record { rows = shown.rows; behind = shown.behind + 1 }) rest ≡ with_more limit shown (listed row_key ns None (pick_row p ∷ []) ++ rest)
-  offered_behind here is = more-full limit shown (pick_row p) rest is ∙ its-more here
-
-  pub offered_in : in_namespace ns (pick_key p) ≡ true → not (nat_eq limit 0) && nat_le limit (length shown.rows) ≡ false
-      → with_more limit (record { rows = shown.rows ++ pick_row p ∷ []; behind = shown.behind }) rest ≡ with_more limit shown (listed row_key ns None (pick_row p ∷ []) ++ rest)
-  offered_in here is = more-open limit shown (pick_row p) rest is ∙ its-more here
 
 -- ---- the page
 

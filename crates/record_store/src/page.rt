@@ -134,10 +134,10 @@ pub(crate) fn listed<'a>(
     while place < to {
         let run = index.run(place);
         let count = run.len().min(to - place);
-        from = merge_run(&mut listing, &run[..count], olds.as_slice(), from, rv, None)?;
+        from = merge_run(&mut listing, &run[..count], olds.as_slice(), from, rv)?;
         place += count;
     }
-    offer_all(&mut listing, olds.as_slice(), from, None)?;
+    offer_all(&mut listing, olds.as_slice(), from)?;
     Ok(listing)
 }
 
@@ -179,6 +179,15 @@ fn is_listed(key: &Key, ns: Option<&str>, after: Option<&Key>) -> bool
     is_in(key, ns) && is_behind(key, after)
 }
 
+fn is_in(key: &Key, ns: Option<&str>) -> bool
+    ensures { result ≡ in_namespace (option_copied ns.entry) key.now }
+{
+    match ns {
+        Some(ns) => ns == key.ns(),
+        None => true,
+    }
+}
+
 fn is_behind(key: &Key, after: Option<&Key>) -> bool
     ensures { result ≡ not (passed (bound_after (option_copied after.entry)) key.now) }
 {
@@ -195,19 +204,18 @@ fn merge_run<'a>(
     olds: &[Pick<'a>],
     from: usize,
     rv: u64,
-    ns: Option<&str>,
 ) -> Result<usize, NoMemory>
     requires from { from ≤ length olds.now }
     requires few { listing.old.behind + length rows.now + length olds.now < 2 ^ 64 + from }
     ensures within { IfOk result (λ next. next ≤ length olds.now) }
     ensures counted { IfOk result (λ next. listing.new.behind + from ≤ listing.old.behind + next + length rows.now) }
     ensures merged { IfOk result (λ next. (rest : List RowView) →
-        ends listing.new (listed row_key (option_copied ns.entry) None (merged row_key (standing rv rest) (rows_in (drop next olds.now))))
-        ≡ ends listing.old (listed row_key (option_copied ns.entry) None (merged row_key (standing rv (rows.now ++ rest)) (rows_in (drop from olds.now))))) }
+        ends listing.new (merged row_key (standing rv rest) (rows_in (drop next olds.now)))
+        ≡ ends listing.old (merged row_key (standing rv (rows.now ++ rest)) (rows_in (drop from olds.now)))) }
 {
     let mut next = from;
     for row in rows {
-        next = merge_standing(listing, row, olds, next, rv, ns)?;
+        next = merge_standing(listing, row, olds, next, rv)?;
     }
     Ok(next)
 }
@@ -219,20 +227,19 @@ fn merge_standing<'a>(
     olds: &[Pick<'a>],
     from: usize,
     rv: u64,
-    ns: Option<&str>,
 ) -> Result<usize, NoMemory>
     requires from { from ≤ length olds.now }
     requires few { listing.old.behind + length olds.now + 1 < 2 ^ 64 + from }
     ensures within { IfOk result (λ next. next ≤ length olds.now) }
     ensures counted { IfOk result (λ next. listing.new.behind + from ≤ listing.old.behind + next + 1) }
     ensures merged { IfOk result (λ next. (rest : List RowView) →
-        ends listing.new (listed row_key (option_copied ns.entry) None (merged row_key (standing rv rest) (rows_in (drop next olds.now))))
-        ≡ ends listing.old (listed row_key (option_copied ns.entry) None (merged row_key (standing rv (row.now ∷ rest)) (rows_in (drop from olds.now))))) }
+        ends listing.new (merged row_key (standing rv rest) (rows_in (drop next olds.now)))
+        ≡ ends listing.old (merged row_key (standing rv (row.now ∷ rest)) (rows_in (drop from olds.now)))) }
 {
     if !stands(row, rv) {
         return Ok(from);
     }
-    let next = merge(listing, row, olds, from, ns)?;
+    let next = merge(listing, row, olds, from)?;
     Ok(next)
 }
 
@@ -249,60 +256,51 @@ fn merge<'a>(
     row: &'a Row,
     olds: &[Pick<'a>],
     from: usize,
-    ns: Option<&str>,
 ) -> Result<usize, NoMemory>
     requires from { from ≤ length olds.now }
     requires few { listing.old.behind + length olds.now + 1 < 2 ^ 64 + from }
     ensures within { IfOk result (λ next. next ≤ length olds.now) }
     ensures counted { IfOk result (λ next. listing.new.behind + from ≤ listing.old.behind + next + 1) }
     ensures merged { IfOk result (λ next. (rest : List RowView → List RowView) →
-        ends listing.new (listed row_key (option_copied ns.entry) None (rest (rows_in (drop next olds.now))))
-        ≡ ends listing.old (listed row_key (option_copied ns.entry) None (merge_into row_key row.now rest (rows_in (drop from olds.now))))) }
+        ends listing.new (rest (rows_in (drop next olds.now)))
+        ≡ ends listing.old (merge_into row_key row.now rest (rows_in (drop from olds.now)))) }
 {
     for place in from..olds.len() {
         let old = olds[place];
         match old.row.key.compare(&row.key) {
-            Ordering::Less => offer(listing, old, ns)?,
+            Ordering::Less => offer(listing, old)?,
             Ordering::Equal => {
-                offer(listing, old, ns)?;
+                offer(listing, old)?;
                 return Ok(place + 1);
             }
             Ordering::Greater => {
-                offer(listing, Pick { row }, ns)?;
+                offer(listing, Pick { row })?;
                 return Ok(place);
             }
         }
     }
-    offer(listing, Pick { row }, ns)?;
+    offer(listing, Pick { row })?;
     Ok(olds.len())
 }
 
-fn offer_all<'a>(
-    listing: &mut Listing<'a>,
-    olds: &[Pick<'a>],
-    from: usize,
-    ns: Option<&str>,
-) -> Result<(), NoMemory>
+fn offer_all<'a>(listing: &mut Listing<'a>, olds: &[Pick<'a>], from: usize) -> Result<(), NoMemory>
     requires from { from ≤ length olds.now }
     requires few { listing.old.behind + length olds.now + 1 < 2 ^ 64 + from }
-    ensures { OnOk result (ends listing.new [] ≡ ends listing.old (listed row_key (option_copied ns.entry) None (rows_in (drop from olds.now)))) }
+    ensures { OnOk result (ends listing.new [] ≡ ends listing.old (rows_in (drop from olds.now))) }
 {
     for place in from..olds.len() {
-        offer(listing, olds[place], ns)?;
+        offer(listing, olds[place])?;
     }
     Ok(())
 }
 
-// Adds a row if it is of the namespace, or counts it where the page is full.
-fn offer<'a>(listing: &mut Listing<'a>, pick: Pick<'a>, ns: Option<&str>) -> Result<(), NoMemory>
+// Adds a row, or counts it where the page is full.
+fn offer<'a>(listing: &mut Listing<'a>, pick: Pick<'a>) -> Result<(), NoMemory>
     requires few { listing.old.behind + 1 < 2 ^ 64 }
     ensures counted { OnOk result (listing.new.behind ≤ listing.old.behind + 1) }
     ensures offered { OnOk result ((rest : List RowView) → ends listing.new rest
-        ≡ ends listing.old (listed row_key (option_copied ns.entry) None (pick.entry.row.now ∷ []) ++ rest)) }
+        ≡ ends listing.old (pick.entry.row.now ∷ rest)) }
 {
-    if !is_in(&pick.row.key, ns) {
-        return Ok(());
-    }
     if is_full(listing) {
         listing.behind += 1;
         return Ok(());
@@ -315,15 +313,6 @@ fn is_full(listing: &Listing) -> bool
     ensures { result ≡ (not (nat_eq listing.now.limit 0) && nat_le listing.now.limit (length listing.now.picks.items)) }
 {
     listing.limit != 0 && listing.limit <= listing.picks.len() as u64
-}
-
-fn is_in(key: &Key, ns: Option<&str>) -> bool
-    ensures { result ≡ in_namespace (option_copied ns.entry) key.now }
-{
-    match ns {
-        Some(ns) => ns == key.ns(),
-        None => true,
-    }
 }
 
 /// How many of these a page shows. Limit 0 means no limit.

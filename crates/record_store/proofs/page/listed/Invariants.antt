@@ -1,4 +1,4 @@
-use Rattle.std.proofs.Common.{◌≡◌, ◌+◌, ◌-◌, ◌≤◌, None, length, take, drop}
+use Rattle.std.proofs.Common.{◌≡◌, ◌+◌, ◌-◌, ◌≤◌, length, take, drop}
 use Rattle.std.specs.Prelude.{option_copied}
 use Rattle.kube_meta.specs.Page.{listed}
 use Rattle.record_store.specs.Rows.{row_key}
@@ -10,7 +10,7 @@ invariant-loop-place l = record {
   within : l.from ≤ length l.olds.items;
   inside : l.place ≤ l.to;
   counted : l.listing.behind ≤ l.place + l.from;
-  rows : ends l.listing (listed row_key None None (merged row_key (standing l.rv (take (l.to - l.place) (drop l.place l.index.rows))) (rows_in (drop l.from l.olds.items)))) ≡ with_more l.limit no_rows (listed row_key (option_copied l.ns) (option_copied l.after) (merged row_key (standing l.rv l.index.rows) (rows_in l.fn.olds)));
+  rows : ends l.listing (merged row_key (standing l.rv (take (l.to - l.place) (drop l.place l.index.rows))) (rows_in (drop l.from l.olds.items))) ≡ with_more l.limit no_rows (listed row_key (option_copied l.ns) (option_copied l.after) (merged row_key (standing l.rv l.index.rows) (rows_in l.fn.olds)));
 }
 
 abbrev pub decreases-loop-place : goal.decreases-loop-place

@@ -1,6 +1,4 @@
-use Rattle.std.proofs.Common.{◌≡◌, ◌+◌, ◌≤◌, List, None, drop}
-use Rattle.std.specs.Prelude.{option_copied}
-use Rattle.kube_meta.specs.Page.{listed}
+use Rattle.std.proofs.Common.{◌≡◌, ◌+◌, ◌≤◌, List, drop}
 use Rattle.record_store.specs.Rows.{row_key}
 use Rattle.record_store.specs.declared.row.Row.{Row}
 use Rattle.record_store.specs.Picked.{ends, merge_into, rows_in}
@@ -9,5 +7,5 @@ use Rattle.record_store.proofs.page.merge.Given as goal
 abbrev pub invariant-loop-place : goal.invariant-loop-place
 invariant-loop-place l = record {
   counted : l.listing.behind + l.fn.from ≤ l.initial.listing.behind + l.place;
-  rows : (rest : List Row → List Row) → ends l.listing (listed row_key (option_copied l.ns) None (merge_into row_key l.row rest (rows_in (drop l.place l.olds)))) ≡ ends l.initial.listing (listed row_key (option_copied l.ns) None (merge_into row_key l.row rest (rows_in (drop l.fn.from l.olds))));
+  rows : (rest : List Row → List Row) → ends l.listing (merge_into row_key l.row rest (rows_in (drop l.place l.olds))) ≡ ends l.initial.listing (merge_into row_key l.row rest (rows_in (drop l.fn.from l.olds)));
 }

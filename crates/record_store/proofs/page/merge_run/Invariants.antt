@@ -1,6 +1,4 @@
-use Rattle.std.proofs.Common.{◌≡◌, ◌+◌, ◌≤◌, ◌++◌, List, None, length, drop}
-use Rattle.std.specs.Prelude.{option_copied}
-use Rattle.kube_meta.specs.Page.{listed}
+use Rattle.std.proofs.Common.{◌≡◌, ◌+◌, ◌≤◌, ◌++◌, List, length, drop}
 use Rattle.record_store.specs.Rows.{row_key}
 use Rattle.record_store.specs.declared.row.Row.{Row}
 use Rattle.record_store.specs.Picked.{ends, merged, rows_in, standing}
@@ -10,5 +8,5 @@ abbrev pub invariant-loop-row : goal.invariant-loop-row
 invariant-loop-row l = record {
   within : l.next ≤ length l.olds;
   counted : l.listing.behind + l.fn.from ≤ l.initial.listing.behind + l.next + l.row-index;
-  rows : (rest : List Row) → ends l.listing (listed row_key (option_copied l.ns) None (merged row_key (standing l.rv (drop l.row-index l.rows ++ rest)) (rows_in (drop l.next l.olds)))) ≡ ends l.initial.listing (listed row_key (option_copied l.ns) None (merged row_key (standing l.rv (l.rows ++ rest)) (rows_in (drop l.fn.from l.olds))));
+  rows : (rest : List Row) → ends l.listing (merged row_key (standing l.rv (drop l.row-index l.rows ++ rest)) (rows_in (drop l.next l.olds))) ≡ ends l.initial.listing (merged row_key (standing l.rv (l.rows ++ rest)) (rows_in (drop l.fn.from l.olds)));
 }

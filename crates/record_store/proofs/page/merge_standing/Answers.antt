@@ -1,6 +1,5 @@
-use Rattle.std.proofs.Common.{sym, ap, List, None, ◌∙◌}
-use Rattle.std.specs.Prelude.{option_copied, drop}
-use Rattle.kube_meta.specs.Page.{listed}
+use Rattle.std.proofs.Common.{sym, ap, List, ◌∙◌}
+use Rattle.std.specs.Prelude.{drop}
 use Rattle.record_store.specs.Rows.{row_key}
 use Rattle.record_store.specs.declared.row.Row.{Row}
 use Rattle.record_store.specs.Picked.{ends, rows_in, merged, standing}
@@ -9,9 +8,9 @@ use Rattle.record_store.proofs.page.merge_standing.Goals as goal
 
 pub returns-then-not-stands-clause-merged : goal.returns-then-not-stands-clause-merged
 returns-then-not-stands-clause-merged c = λ rest.
-    ap (λ (l : List Row). ends c.args.listing.now (listed row_key (option_copied c.args.ns) None l)) (sym (standing_out c.args.rv c.args.row.now rest (rows_in (drop c.args.from c.args.olds.now)) (sym c.stands.ensures ∙ c.if-not-stands.true)))
+    ap (λ (l : List Row). ends c.args.listing.now l) (sym (standing_out c.args.rv c.args.row.now rest (rows_in (drop c.args.from c.args.olds.now)) (sym c.stands.ensures ∙ c.if-not-stands.true)))
 
 pub returns-clause-merged : goal.returns-clause-merged
 returns-clause-merged c = λ rest.
     c.in_ok-next.ensures.merged (merged row_key (standing c.args.rv rest))
-    ∙ ap (λ (l : List Row). ends c.args.listing.now (listed row_key (option_copied c.args.ns) None l)) (sym (standing_in c.args.rv c.args.row.now rest (rows_in (drop c.args.from c.args.olds.now)) (sym c.stands.ensures ∙ c.if-not-stands.false)))
+    ∙ ap (λ (l : List Row). ends c.args.listing.now l) (sym (standing_in c.args.rv c.args.row.now rest (rows_in (drop c.args.from c.args.olds.now)) (sym c.stands.ensures ∙ c.if-not-stands.false)))
