@@ -67,3 +67,28 @@ module _ {F : Type 0} (name : F → List ℕ) where
   searched k fs (Err i) h within found =
       let parts = found (rises k fs h) in
       at_miss k fs i within (λ j d q. parts.0 j d (omega arith) q) parts.1
+
+  -- ---- the end, looked at first
+
+  same_at : (fs : List F) (i : ℕ) (d e : F) → i < length fs → get_or fs i d ≡ get_or fs i e
+  same_at [] i d e p = absurd (omega arith)
+  same_at (f ∷ fs) zero d e p = refl
+  same_at (f ∷ fs) (suc i) d e p = same_at fs i d e (omega arith)
+
+  -- the name comes after the last one
+  pub last_miss : (k : List ℕ) (fs : List F) (i : ℕ) (d : F) → NamesRise (map name fs) → suc i ≡ length fs → slice_cmp nat_cmp (name (get_or fs i d)) k ≡ Less → Err (length fs) ≡ seek k (map name fs)
+  last_miss k [] i d h p e = absurd (omega (arith, p))
+  last_miss k (f ∷ []) zero d h p e =
+      let above : slice_cmp nat_cmp k (name f) ≡ Greater = reversed (name f) k Less e in
+      rw above refl
+  last_miss k (f ∷ []) (suc i) d h p e = absurd (omega (arith, p))
+  last_miss k (f ∷ g ∷ fs) zero d h p e = absurd (omega (arith, p))
+  last_miss k (f ∷ g ∷ fs) (suc i) d h p e =
+      let later : slice_cmp nat_cmp (name f) (name (get_or (g ∷ fs) i d)) ≡ Less = below_later (name f) (g ∷ fs) i d h.0 h.1 (omega (arith, p)) in
+      let above : slice_cmp nat_cmp k (name f) ≡ Greater = reversed (name f) k Less (nat_list_cmp_total.trans (name f) (name (get_or (g ∷ fs) i d)) k later e) in
+      rw above (ap next (last_miss k (g ∷ fs) i d h.1 (omega (arith, p)) e))
+
+  -- the name is the last one
+  pub last_hit : (k : List ℕ) (fs : List F) (i : ℕ) (d : F) → NamesRise (map name fs) → i < length fs → slice_cmp nat_cmp (name (get_or fs i d)) k ≡ Equal → Ok i ≡ seek k (map name fs)
+  last_hit k fs i d h p e =
+      at_hit k fs i h p (λ x. ap (λ (f : F). slice_cmp nat_cmp (name f) k) (same_at fs i x d p) ∙ e)

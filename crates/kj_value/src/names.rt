@@ -26,3 +26,20 @@ pub fn seek<F: Named>(fields: &[F], name: &str) -> Result<usize, usize>
         { f.name().cmp(name) },
     )
 }
+
+/// The same, where the end is looked at first: one comparison tells that the name goes behind all others, or is the last.
+/// It takes no memory.
+pub(crate) fn seek_last<F: Named>(fields: &[F], name: &str) -> Result<usize, usize>
+    requires { NamesRise (map F.Named.name_of fields.now) }
+    ensures { result ≡ seek name.now (map F.Named.name_of fields.now) }
+{
+    let count = fields.len();
+    if count == 0 {
+        return Err(0);
+    }
+    match fields[count - 1].name().cmp(name) {
+        Ordering::Less => Err(count),
+        Ordering::Equal => Ok(count - 1),
+        Ordering::Greater => seek(fields, name),
+    }
+}

@@ -1,10 +1,10 @@
 //! Lists and maps of texts.
-ghost use Rattle.std.specs.Prelude.{◌≡◌, [], ◌∷◌, ◌++◌, length, map, slice_get, option_map, OnOk, OnErr};
+ghost use Rattle.std.specs.Prelude.{◌≡◌, [], ◌∷◌, ◌++◌, length, map, slice_get, option_map, IfOk, OnOk, OnErr};
 ghost use Rattle.kj_value.specs.Fields.{AreInOrder};
 ghost use Rattle.kj_value.specs.Texts.{bytes_of, text_pair};
 
 use crate::error::NoMemory;
-use crate::names::{Named, seek};
+use crate::names::{Named, seek, seek_last};
 use crate::txt::Txt;
 use std::alloc::Global;
 use std::marker::Model;
@@ -32,6 +32,15 @@ impl TextList {
         TextList {
             texts: Vec::new(alloc),
         }
+    }
+
+    /// The empty list, with memory for so many texts.
+    pub fn with_room(alloc: Global, texts: usize) -> Result<TextList, NoMemory>
+        ensures { IfOk result (λ ts. ts ≡ []) }
+    {
+        Ok(TextList {
+            texts: Vec::with_capacity(alloc, texts)?,
+        })
     }
 
     /// How many texts there are.
@@ -118,6 +127,15 @@ impl TextMap {
         }
     }
 
+    /// The empty map, with memory for so many names.
+    pub fn with_room(alloc: Global, names: usize) -> Result<TextMap, NoMemory>
+        ensures { IfOk result (λ ts. ts ≡ []) }
+    {
+        Ok(TextMap {
+            fields: Vec::with_capacity(alloc, names)?,
+        })
+    }
+
     /// How many names there are.
     pub fn len(&self) -> usize
         ensures len { result ≡ length self.now }
@@ -167,7 +185,7 @@ impl TextMap {
         ensures ok { OnOk result (self.new ≡ with_field name.bytes v.bytes self.old) }
         ensures err { OnErr result (self.new ≡ self.old) }
     {
-        match seek(self.fields.as_slice(), name.as_str()) {
+        match seek_last(self.fields.as_slice(), name.as_str()) {
             Ok(i) => {
                 self.fields[i].value = v;
                 Ok(())
@@ -184,7 +202,7 @@ impl TextMap {
         ensures value { option_map (λ t. t.bytes) result ≡ field name.now self.old }
         ensures fields { self.new ≡ without_field name.now self.old }
     {
-        match seek(self.fields.as_slice(), name) {
+        match seek_last(self.fields.as_slice(), name) {
             Ok(i) => {
                 let TextField { name: _, value } = self.fields.remove(i);
                 Some(value)

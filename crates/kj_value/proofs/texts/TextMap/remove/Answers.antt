@@ -6,8 +6,8 @@ use Rattle.kj_value.proofs.Order.{order_names, order-without}
 use Rattle.kj_value.proofs.Places.{hit, miss}
 use Rattle.kj_value.proofs.texts.TextMap.remove.Goals as goal
 
-pub seek-requires : goal.seek-requires
-seek-requires c = rw c.as_slice.ensures.value (order_names text_pair _ c.self.invariant)
+pub seek_last-requires : goal.seek_last-requires
+seek_last-requires c = rw c.as_slice.ensures.value (order_names text_pair _ c.self.invariant)
 
 pub remove-value-requires : goal.remove-value-requires
 remove-value-requires c =

@@ -5,8 +5,8 @@ use Rattle.kj_value.proofs.Order.{order_names, order-with}
 use Rattle.kj_value.proofs.Places.{hit, miss, replaced_at, inserted_at}
 use Rattle.kj_value.proofs.texts.TextMap.set.Goals as goal
 
-pub seek-requires : goal.seek-requires
-seek-requires c = rw c.as_slice.ensures.value (order_names text_pair _ c.self.invariant)
+pub seek_last-requires : goal.seek_last-requires
+seek_last-requires c = rw c.as_slice.ensures.value (order_names text_pair _ c.self.invariant)
 
 pub index_mut-requires : goal.index_mut-requires
 index_mut-requires c =
