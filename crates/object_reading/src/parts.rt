@@ -110,17 +110,18 @@ fn meta_of(alloc: Global, mut fields: JFields) -> Result<Meta, NoMemory>
     ensures whole { IfSome (meta_in fields).created IsMoment → IfSome (meta_in fields).deleted IsMoment
         → IfOk result (λ m. meta_of m ≡ meta_in fields) }
 {
-    let annotations = texts_of(alloc, fields.remove("annotations"))?;
-    let created = stamp_of(fields.remove("creationTimestamp"));
-    let deleted = stamp_of(fields.remove("deletionTimestamp"));
-    let finalizers = text_items_of(alloc, fields.remove("finalizers"))?;
-    let generation = number_of(fields.remove("generation"));
-    let labels = texts_of(alloc, fields.remove("labels"))?;
-    let name = text_or_empty(alloc, fields.remove("name"));
-    let namespace = text_or_empty(alloc, fields.remove("namespace"));
-    let owners = items_of(alloc, fields.remove("ownerReferences"));
-    let resource_version = text_of(fields.remove("resourceVersion"));
+    // From the last name on, so that nothing which stays stands behind what is taken out.
     let uid = text_of(fields.remove("uid"));
+    let resource_version = text_of(fields.remove("resourceVersion"));
+    let owners = items_of(alloc, fields.remove("ownerReferences"));
+    let namespace = text_or_empty(alloc, fields.remove("namespace"));
+    let name = text_or_empty(alloc, fields.remove("name"));
+    let labels = texts_of(alloc, fields.remove("labels"))?;
+    let generation = number_of(fields.remove("generation"));
+    let finalizers = text_items_of(alloc, fields.remove("finalizers"))?;
+    let deleted = stamp_of(fields.remove("deletionTimestamp"));
+    let created = stamp_of(fields.remove("creationTimestamp"));
+    let annotations = texts_of(alloc, fields.remove("annotations"))?;
     Ok(Meta {
         name,
         namespace,
@@ -224,7 +225,7 @@ fn texts_of(alloc: Global, value: Option<JVal>) -> Result<TextMap, NoMemory>
 fn texts_in(alloc: Global, fields: JFields) -> Result<TextMap, NoMemory>
     ensures { IfOk result (λ ts. ts ≡ texts_in fields) }
 {
-    let mut texts = TextMap::new(alloc);
+    let mut texts = TextMap::with_room(alloc, fields.len())?;
     for field in fields.into_vec() {
         add(&mut texts, field)?;
     }
@@ -254,7 +255,7 @@ fn text_items_of(alloc: Global, value: Option<JVal>) -> Result<TextList, NoMemor
 fn text_items(alloc: Global, items: JItems) -> Result<TextList, NoMemory>
     ensures { IfOk result (λ ts. ts ≡ text_items items) }
 {
-    let mut texts = TextList::new(alloc);
+    let mut texts = TextList::with_room(alloc, items.len())?;
     for item in items.into_vec() {
         add_item(&mut texts, item)?;
     }
