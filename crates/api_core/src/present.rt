@@ -118,10 +118,7 @@ impl<V: Versions> Core<V> {
     fn seen(&self, alloc: Global, key: &Key) -> Result<Option<Seen>, NoMemory>
         ensures { IfOk result (λ s. option_map seen_item s ≡ find item_key key.now self.now.view.store.items) }
     {
-        let Some(record) = self.store.look(key) else {
-            return Ok(None);
-        };
-        let Some(bytes) = self.store.raw(alloc, key)? else {
+        let Some((record, bytes)) = self.store.read(alloc, key)? else {
             return Ok(None);
         };
         let key = Key::of(alloc, key.ns(), key.name())?;

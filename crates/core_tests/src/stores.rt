@@ -142,8 +142,8 @@ fn counts(alloc: Global, store: &Store) -> Option<String> {
 
 // The text of the record of a name.
 fn read(alloc: Global, store: &Store, name: &str) -> Option<String> {
-    match store.raw(alloc, &key_of(alloc, name)?).ok()? {
-        Some(found) => Some(found.into_string()),
+    match store.read(alloc, &key_of(alloc, name)?).ok()? {
+        Some((_record, found)) => Some(found.into_string()),
         None => String::from_str(alloc, "none").ok(),
     }
 }

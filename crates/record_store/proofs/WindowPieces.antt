@@ -1,10 +1,10 @@
 -- The count of the rows that have a piece, where one is freed.
-use Rattle.std.proofs.Common.{◌≡◌, ◌≢◌, ℕ, ◌+◌, ◌≤◌, List, [], ◌∷◌, Option, None, Some, Bool, true, false, ap, refl, sym, ◌∙◌, arith, nat_eq}
-use Rattle.std.specs.Prelude.{if◌then◌else◌, slice_set, IsSome}
+use Rattle.std.proofs.Common.{◌≡◌, ◌≢◌, ℕ, ◌+◌, ◌≤◌, List, [], ◌∷◌, Option, None, Some, Bool, true, false, ap, refl, arith, nat_eq}
+use Rattle.std.specs.Prelude.{slice_set, IsSome}
 use Rattle.std.proofs.lemmas.Bool.Decides.{nat_tests}
 use Rattle.kube_meta.specs.Window.{fits}
 use Rattle.kube_meta.specs.declared.limits.Limits.{Limits}
-use Rattle.record_region.specs.Laws.{piece_at-set_other, piece_at-set_same, live_within}
+use Rattle.record_region.specs.Laws.{piece_at-set_other}
 use Rattle.record_region.specs.Places.{Places, piece_at, IsLive}
 use Rattle.record_store.specs.declared.row.Row.{Row}
 use Rattle.record_store.specs.declared.past.Past.{Past}

@@ -102,15 +102,18 @@ impl Store {
         }
     }
 
-    /// The text of the record of a key, copied.
-    pub fn raw(&self, alloc: Global, key: &Key) -> Result<Option<Txt>, NoMemory>
-        ensures { IfOk result (λ text. option_map (λ t. t.bytes) text
+    /// The record of a key, and its text, copied. The key is looked up once.
+    pub fn read(&self, alloc: Global, key: &Key) -> Result<Option<(Record, Txt)>, NoMemory>
+        ensures record { IfOk result (λ o. option_map (λ p. p.0) o
+            ≡ option_map record_of (find item_key key.now self.now.items)) }
+        ensures text { IfOk result (λ o. option_map (λ p. p.1.bytes) o
             ≡ option_map (λ x. x.bytes) (find item_key key.now self.now.items)) }
     {
         match self.index.find(key) {
             Some(row) => {
+                let record = row.record;
                 let text = copy_text(alloc, &self.region, &row.piece)?;
-                Ok(Some(text))
+                Ok(Some((record, text)))
             }
             None => Ok(None),
         }

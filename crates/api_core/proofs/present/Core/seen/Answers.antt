@@ -8,7 +8,7 @@ use Rattle.api_core.proofs.present.Core.seen.Goals as goal
 pub returns : goal.returns
 returns g c =
     let key_is : c.in_ok-key.key ≡ c.args.key.now = search rules in
-    let told = record-told c.args.key.now (find item_key c.args.key.now c.self.inside.store.items) c.in-Some.record c.in-Some-2.bytes.bytes
-    (record-key c.args.key.now c.self.inside.store.items) (sym c.look.ensures ∙ c.in-Some.is)
-    (sym c.in_ok-bytes.ensures ∙ ap (option_map (λ t. t.bytes)) c.in-Some-2.is) in
+    let told = record-told c.args.key.now (find item_key c.args.key.now c.self.inside.store.items) c.in-Some.record c.in-Some.bytes.bytes
+    (record-key c.args.key.now c.self.inside.store.items) (sym c.in_ok-record.ensures.record ∙ ap (option_map (λ p. p.0)) c.in-Some.is)
+    (sym c.in_ok-record.ensures.text ∙ ap (option_map (λ p. p.1.bytes)) c.in-Some.is) in
     rw (← c.self.view_is, key_is) told

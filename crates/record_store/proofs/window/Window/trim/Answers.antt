@@ -1,5 +1,5 @@
-use Rattle.std.proofs.Common.{◌≡◌, false, true, not, sym, ap, refl, ◌∙◌, arith, subst, ◌<◌, length, ℕ, ◌≤◌, ◌∷◌}
-use Rattle.kube_meta.specs.Window.{fits, floor_from, newest}
+use Rattle.std.proofs.Common.{◌≡◌, true, sym, ap, ◌∙◌}
+use Rattle.kube_meta.specs.Window.{fits}
 use Rattle.kube_meta.specs.WindowLaws.{newest-fitting, floor-fitting}
 use Rattle.kube_meta.specs.declared.limits.Limits.{Limits}
 use Rattle.record_store.specs.Pasts.{past_by, past_weight}
