@@ -14,9 +14,9 @@ use kube_meta::{Object, write_object};
 use std::alloc::Global;
 
 // The compact text of an object.
-fn object_text(alloc: Global, object: &Object) -> Result<Txt, NoMemory>
-    requires { depth (document (object_of object.now)) ≤ OBJECT_LEVELS }
-    ensures { IfOk result (λ t. t.bytes ≡ text_of (document (object_of object.now))) }
+fn object_text(alloc: Global, object: Object) -> Result<Txt, NoMemory>
+    requires { depth (document (object_of object)) ≤ OBJECT_LEVELS }
+    ensures { IfOk result (λ t. t.bytes ≡ text_of (document (object_of object))) }
 {
     let value = write_object(alloc, object)?;
     write(alloc, &value)
@@ -38,7 +38,7 @@ pub fn stored_text(alloc: Global, mut object: Object) -> Result<Txt, NoMemory>
 {
     object.meta.resource_version = None;
     object.meta.uid = None;
-    let text = object_text(alloc, &object)?;
+    let text = object_text(alloc, object)?;
     let _ = text.as_str();
     Ok(text)
 }
@@ -57,5 +57,5 @@ pub fn reply_text(
 {
     object.meta.resource_version = Some(number_text(alloc, number)?);
     object.meta.uid = Some(uid_of(alloc, boot, born)?);
-    object_text(alloc, &object)
+    object_text(alloc, object)
 }

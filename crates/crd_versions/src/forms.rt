@@ -7,11 +7,10 @@ ghost use Rattle.api_calls.specs.declared.versions.TheConstants.{OBJECT_LEVELS};
 ghost use Rattle.crd_meaning.specs.Definition.{count_of};
 ghost use Rattle.crd_meaning.specs.Objects.{IsWholeValue, IsFormAt};
 
-use crate::copying::copied;
 use crd_loading::LoadedVersions;
 use crd_meaning::standing;
 use kj_value::NoMemory;
-use kube_meta::Object;
+use kube_meta::{Object, copy_object};
 use spoke_keep::from_hub;
 use std::alloc::Global;
 
@@ -27,6 +26,6 @@ pub fn form(alloc: Global, set: &LoadedVersions, v: u8, hub: &Object) -> Result<
     let _ = set.hub();
     match set.place(v) {
         Some(p) => from_hub(alloc, set.spokes(), p, hub),
-        None => copied(alloc, hub),
+        None => copy_object(alloc, hub),
     }
 }

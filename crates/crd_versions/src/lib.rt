@@ -9,7 +9,6 @@
 #![tactic(auto)]
 
 // The form of a hub value at a version, and the hub value of a stored text.
-mod copying;
 mod forms;
 mod going_back;
 mod hub_values;

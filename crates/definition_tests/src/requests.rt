@@ -2,7 +2,7 @@
 use crate::texts::{cut, line, refused, spelled};
 use api_calls::{Admitted, Incoming, Versions};
 use kj_value::{MAX_JSON_LEVELS, Txt, depth, write};
-use kube_meta::{Object, namespace_ok, write_object};
+use kube_meta::{Object, copy_object, namespace_ok, write_object};
 use std::alloc::Global;
 
 /// What a request's hub value weighs, or its text; or why it is refused.
@@ -68,7 +68,7 @@ fn numbered(alloc: Global, text: Txt, expected: Option<u64>) -> Option<Txt> {
 }
 
 fn text(alloc: Global, hub: &Object) -> Option<Txt> {
-    let document = write_object(alloc, hub).ok()?;
+    let document = write_object(alloc, copy_object(alloc, hub).ok()?).ok()?;
     if depth(&document) > MAX_JSON_LEVELS {
         return None;
     }

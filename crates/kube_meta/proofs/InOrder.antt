@@ -46,29 +46,24 @@ follows-with k l v es h a = rw (with_field-behind l v es h) (follows-behind k l 
 
 -- ---- a list that is copied field by field
 
-first_less : (l : List ℕ) (es : Pairs) (i : ℕ) (e : List ℕ × Json) → IsBelowFirst l (keys_of es) → AreInOrder es → i < length es → slice_cmp nat_cmp l (get_or es i e).0 ≡ Less
+first_less : {V : Type 0} (l : List ℕ) (es : List (List ℕ × V)) (i : ℕ) (e : List ℕ × V) → IsBelowFirst l (keys_of es) → AreInOrder es → i < length es → slice_cmp nat_cmp l (get_or es i e).0 ≡ Less
 first_less l [] i e p h q = absurd (omega arith)
 first_less l (f ∷ es) zero e p h q = p
 first_less l (f ∷ []) (suc i) e p h q = absurd (omega arith)
 first_less l (f ∷ g ∷ es) (suc i) e p h q =
     first_less l (g ∷ es) i e (nat_list_cmp_total.trans l f.0 g.0 p h.0) h.1 (omega arith)
 
-pub with_field-next : (es : Pairs) (i : ℕ) (e : List ℕ × Json) → AreInOrder es → i < length es → with_field (get_or es i e).0 (get_or es i e).1 (take i es) ≡ take (suc i) es
+pub with_field-next : {V : Type 0} (es : List (List ℕ × V)) (i : ℕ) (e : List ℕ × V) → AreInOrder es → i < length es → with_field (get_or es i e).0 (get_or es i e).1 (take i es) ≡ take (suc i) es
 with_field-next [] i e h q = absurd (omega arith)
 with_field-next (f ∷ es) zero e h q = refl
-with_field-next (f ∷ es) (suc i) e h q =
+with_field-next {V} (f ∷ es) (suc i) e h q =
     rw (after_less (get_or es i e).0 f.0 (first_less f.0 es i e h.0 h.1 (omega arith)))
-    (ap (λ (r : Pairs). f ∷ r) (with_field-next es i e h.1 (omega arith)))
+    (ap (λ (r : List (List ℕ × V)). f ∷ r) (with_field-next es i e h.1 (omega arith)))
 
 pub in_order-rising : (es : Pairs) → AreRising (members_of es) → AreInOrder es
 in_order-rising [] h = tt
 in_order-rising (e ∷ []) h = (tt, tt)
 in_order-rising (e ∷ f ∷ es) h = (h.0, in_order-rising (f ∷ es) h.2)
-
-pub in_order-text_fields : (ts : Texts) → AreInOrder ts → AreInOrder (text_fields ts)
-in_order-text_fields [] h = tt
-in_order-text_fields (t ∷ []) h = (tt, tt)
-in_order-text_fields (t ∷ u ∷ ts) h = (h.0, in_order-text_fields (u ∷ ts) h.1)
 
 -- as the loop over an object's fields knows it
 pub copied_next : (fs : List Field) (es : Pairs) (i : ℕ) (f : Field) → map pair_of fs ≡ es → AreRising (members_of es) → i < length fs → f ≡ get_or fs i f → with_field f.name.bytes (json f.value) (take i (map pair_of fs)) ≡ take (suc i) (map pair_of fs)
@@ -79,14 +74,24 @@ copied_next fs es i f same rises p q =
     rw found at (with_field-next (map pair_of fs) i (pair_of f) order within)
 
 -- as the loop over a map of texts knows it
-pub texts_next : (fs : List TextField) (ts : Texts) (i : ℕ) (f : TextField) → map text_pair fs ≡ ts → AreInOrder ts → i < length fs → f ≡ get_or fs i f → with_field f.name.bytes (text f.value.bytes) (take i (text_fields (map text_pair fs))) ≡ take (suc i) (text_fields (map text_pair fs))
-texts_next fs ts i f same ordered p q =
-    let member : List ℕ × List ℕ → List ℕ × Json = λ t. (t.0, text t.1) in
-    let at_pair : get_or (map text_pair fs) i (text_pair f) ≡ text_pair f = get_or-map text_pair fs i f ∙ ap text_pair (sym q) in
-    let found : get_or (map member (map text_pair fs)) i (member (text_pair f)) ≡ member (text_pair f) = get_or-map member (map text_pair fs) i (text_pair f) ∙ ap member at_pair in
-    let order : AreInOrder (text_fields (map text_pair fs)) = rw same (in_order-text_fields ts ordered) in
-    let within : i < length (map member (map text_pair fs)) = rw (length-map (map text_pair fs) member, length-map fs text_pair) p in
-    rw found at (with_field-next (map member (map text_pair fs)) i (member (text_pair f)) order within)
+pub copied_texts_next : (fs : List TextField) (ts : Texts) (i : ℕ) (f : TextField) → map text_pair fs ≡ ts → AreInOrder ts → i < length fs → f ≡ get_or fs i f → with_field f.name.bytes f.value.bytes (take i (map text_pair fs)) ≡ take (suc i) (map text_pair fs)
+copied_texts_next fs ts i f same ordered p q =
+    let found : get_or (map text_pair fs) i (text_pair f) ≡ text_pair f = get_or-map text_pair fs i f ∙ ap text_pair (sym q) in
+    let order : AreInOrder (map text_pair fs) = rw same ordered in
+    let within : i < length (map text_pair fs) = rw (length-map fs text_pair) p in
+    rw found at (with_field-next (map text_pair fs) i (text_pair f) order within)
+
+-- ---- a map of texts that is moved field by field
+
+before_all : (l : List ℕ) (done rest : Texts) (t : List ℕ × List ℕ) → IsBelowFirst l (keys_of (done ++ t ∷ rest)) → AreInOrder (done ++ t ∷ rest) → slice_cmp nat_cmp l t.0 ≡ Less
+before_all l [] rest t p h = p
+before_all l (d ∷ done) rest t p h = nat_list_cmp_total.trans l d.0 t.0 p (before_all d.0 done rest t h.0 h.1)
+
+pub moved_text : (done rest : Texts) (t : List ℕ × List ℕ) → AreInOrder (done ++ t ∷ rest) → with_field t.0 (text t.1) (text_fields done) ≡ text_fields (done ++ t ∷ [])
+moved_text [] rest t h = refl
+moved_text (d ∷ done) rest t h =
+    rw (after_less t.0 d.0 (before_all d.0 done rest t h.0 h.1))
+    (ap (λ (r : Pairs). (d.0, text d.1) ∷ r) (moved_text done rest t h.1))
 
 -- one more field, which may be absent
 pub put_next : (before after made : Pairs) (name : List ℕ) (v w : Option Json) → after ≡ before ++ optional name v → v ≡ w → before ≡ made → after ≡ made ++ optional name w

@@ -1,5 +1,5 @@
 //! From an object to its document.
-ghost use Rattle.std.specs.Prelude.{◌≡◌, ◌≤◌, ◌++◌, suc, ◌+◌, max, map, option_map, IfOk, OnOk};
+ghost use Rattle.std.specs.Prelude.{◌≡◌, ◌≤◌, ◌++◌, [], suc, ◌+◌, max, map, option_map, IfOk, OnOk};
 ghost use Rattle.kj_value.specs.Json.{depth, items_depth, members_depth, items_of, members_of, text};
 ghost use Rattle.kj_value.specs.Seen.{json};
 ghost use Rattle.kj_value.specs.Texts.{bytes_of};
@@ -8,79 +8,81 @@ ghost use Rattle.kube_meta.specs.Document.{optional, some_text, some_texts, some
 ghost use Rattle.kube_meta.specs.Following.{IsAfter, Follows};
 
 use crate::object::{Meta, Object};
-use kj_value::{JFields, JItems, JVal, NoMemory, Stamp, TextList, TextMap, Txt, copy};
+use kj_value::{JFields, JItems, JVal, NoMemory, Stamp, TextField, TextList, TextMap, Txt};
 use std::alloc::Global;
+use std::mem;
 
-/// The document of an object, its texts copied once. Empty maps, lists, names and namespaces, generation 0 and an
-/// absent stamp, number or uid aren't written. Where the body has a field `apiVersion`, `kind` or `metadata`, the
-/// object's own value stands in its place.
-pub fn write_object(alloc: Global, o: &Object) -> Result<JVal, NoMemory>
-    ensures value { IfOk result (λ v. json v ≡ document (object_of o.now)) }
+/// The names that metadata can have.
+const META_NAMES: usize = 11;
+
+/// The document of an object, whose parts are moved: only the names of its own fields take memory. Empty maps, lists, names
+/// and namespaces, generation 0 and an absent stamp, number or uid aren't written. Where the body has a field `apiVersion`,
+/// `kind` or `metadata`, the object's own value stands in its place.
+pub fn write_object(alloc: Global, o: Object) -> Result<JVal, NoMemory>
+    ensures value { IfOk result (λ v. json v ≡ document (object_of o)) }
     ensures levels { IfOk result (λ v. depth (json v)
-        ≤ suc (max (members_depth (members_of o.now.body)) (2 + items_depth (items_of o.now.meta.owners)))) }
+        ≤ suc (max (members_depth (members_of o.body)) (2 + items_depth (items_of o.meta.owners)))) }
 {
-    let mut fields = copied_fields(alloc, &o.body)?;
-    fields.set(
-        Txt::of(alloc, "apiVersion")?,
-        copied_text(alloc, &o.api_version)?,
-    )?;
-    fields.set(Txt::of(alloc, "kind")?, copied_text(alloc, &o.kind)?)?;
-    let metadata = write_metadata(alloc, &o.meta)?;
+    let Object {
+        api_version,
+        kind,
+        meta,
+        body,
+    } = o;
+    let metadata = write_metadata(alloc, meta)?;
+    let mut fields = body;
+    fields.set(Txt::of(alloc, "apiVersion")?, JVal::Text(api_version))?;
+    fields.set(Txt::of(alloc, "kind")?, JVal::Text(kind))?;
     fields.set(Txt::of(alloc, "metadata")?, JVal::Obj(metadata))?;
     Ok(JVal::Obj(fields))
 }
 
-fn write_metadata(alloc: Global, m: &Meta) -> Result<JFields, NoMemory>
-    ensures { IfOk result (λ ms. ms ≡ metadata (meta_of m.now)) }
+fn write_metadata(alloc: Global, m: Meta) -> Result<JFields, NoMemory>
+    ensures { IfOk result (λ ms. ms ≡ metadata (meta_of m)) }
 {
-    let mut fields = JFields::new(alloc);
-    put(
-        alloc,
-        &mut fields,
-        "annotations",
-        some_texts(alloc, &m.annotations)?,
-    )?;
-    put(
-        alloc,
-        &mut fields,
-        "creationTimestamp",
-        some_stamp(alloc, &m.created)?,
-    )?;
-    put(
-        alloc,
-        &mut fields,
-        "deletionTimestamp",
-        some_stamp(alloc, &m.deleted)?,
-    )?;
-    put(
-        alloc,
-        &mut fields,
-        "finalizers",
-        some_text_list(alloc, &m.finalizers)?,
-    )?;
-    put(alloc, &mut fields, "generation", some_generation(m))?;
-    put(alloc, &mut fields, "labels", some_texts(alloc, &m.labels)?)?;
-    put(alloc, &mut fields, "name", some_text(alloc, &m.name)?)?;
-    put(
-        alloc,
-        &mut fields,
-        "namespace",
-        some_text(alloc, &m.namespace)?,
-    )?;
-    put(
-        alloc,
-        &mut fields,
-        "ownerReferences",
-        some_list(alloc, &m.owners)?,
-    )?;
-    put(
-        alloc,
-        &mut fields,
-        "resourceVersion",
-        some_given(alloc, &m.resource_version)?,
-    )?;
-    put(alloc, &mut fields, "uid", some_given(alloc, &m.uid)?)?;
+    let mut rest = m;
+    let mut fields = JFields::with_room(alloc, META_NAMES)?;
+    put_metadata(alloc, &mut rest, &mut fields)?;
     Ok(fields)
+}
+
+// Puts the metadata, which are taken out of their places.
+fn put_metadata(alloc: Global, m: &mut Meta, fields: &mut JFields) -> Result<(), NoMemory>
+    requires { fields.old ≡ [] }
+    ensures { OnOk result (fields.new ≡ metadata (meta_of m.old)) }
+{
+    let annotations = take_texts(alloc, &mut m.annotations)?;
+    put(alloc, fields, "annotations", annotations)?;
+    let created = some_stamp(alloc, &m.created)?;
+    put(alloc, fields, "creationTimestamp", created)?;
+    let deleted = some_stamp(alloc, &m.deleted)?;
+    put(alloc, fields, "deletionTimestamp", deleted)?;
+    let finalizers = take_text_list(alloc, &mut m.finalizers)?;
+    put(alloc, fields, "finalizers", finalizers)?;
+    put(alloc, fields, "generation", some_generation(m))?;
+    let labels = take_texts(alloc, &mut m.labels)?;
+    put(alloc, fields, "labels", labels)?;
+    put(alloc, fields, "name", take_text(alloc, &mut m.name))?;
+    put(
+        alloc,
+        fields,
+        "namespace",
+        take_text(alloc, &mut m.namespace),
+    )?;
+    put(
+        alloc,
+        fields,
+        "ownerReferences",
+        take_list(alloc, &mut m.owners),
+    )?;
+    put(
+        alloc,
+        fields,
+        "resourceVersion",
+        take_given(&mut m.resource_version),
+    )?;
+    put(alloc, fields, "uid", take_given(&mut m.uid))?;
+    Ok(())
 }
 
 // It puts the value, where there is one, behind the fields.
@@ -98,52 +100,54 @@ fn put(alloc: Global, fields: &mut JFields, name: &str, value: Option<JVal>) -> 
     }
 }
 
-fn some_texts(alloc: Global, map: &TextMap) -> Result<Option<JVal>, NoMemory>
-    ensures { IfOk result (λ v. option_map json v ≡ some_texts map.now) }
+fn take_texts(alloc: Global, map: &mut TextMap) -> Result<Option<JVal>, NoMemory>
+    ensures { IfOk result (λ v. option_map json v ≡ some_texts map.old) }
 {
     if map.len() == 0 {
         return Ok(None);
     }
-    Ok(Some(JVal::Obj(text_fields(alloc, map)?)))
+    let taken = mem::replace(map, TextMap::new(alloc));
+    Ok(Some(JVal::Obj(text_fields(alloc, taken)?)))
 }
 
-fn text_fields(alloc: Global, texts: &TextMap) -> Result<JFields, NoMemory>
-    ensures { IfOk result (λ ms. ms ≡ text_fields texts.now) }
+fn text_fields(alloc: Global, texts: TextMap) -> Result<JFields, NoMemory>
+    ensures { IfOk result (λ ms. ms ≡ text_fields texts) }
 {
-    let mut fields = JFields::new(alloc);
-    for t in texts.as_slice() {
-        fields.set(
-            Txt::of(alloc, t.name.as_str())?,
-            copied_text(alloc, &t.value)?,
-        )?;
+    let mut fields = JFields::with_room(alloc, texts.len())?;
+    for t in texts.into_vec() {
+        let TextField { name, value } = t;
+        fields.set(name, JVal::Text(value))?;
     }
     Ok(fields)
 }
 
-fn some_text_list(alloc: Global, texts: &TextList) -> Result<Option<JVal>, NoMemory>
-    ensures { IfOk result (λ v. option_map json v ≡ some_list (map text texts.now)) }
+fn take_text_list(alloc: Global, texts: &mut TextList) -> Result<Option<JVal>, NoMemory>
+    ensures { IfOk result (λ v. option_map json v ≡ some_list (map text texts.old)) }
 {
     if texts.len() == 0 {
         return Ok(None);
     }
-    let mut items = JItems::new(alloc);
-    for t in texts.as_slice() {
-        items.push(copied_text(alloc, t)?)?;
-    }
-    Ok(Some(JVal::List(items)))
+    let taken = mem::replace(texts, TextList::new(alloc));
+    Ok(Some(JVal::List(text_items(alloc, taken)?)))
 }
 
-fn some_list(alloc: Global, list: &JItems) -> Result<Option<JVal>, NoMemory>
-    ensures { IfOk result (λ v. option_map json v ≡ some_list list.now) }
+fn text_items(alloc: Global, texts: TextList) -> Result<JItems, NoMemory>
+    ensures { IfOk result (λ js. js ≡ map text texts) }
+{
+    let mut items = JItems::with_room(alloc, texts.len())?;
+    for t in texts.into_vec() {
+        items.push(JVal::Text(t))?;
+    }
+    Ok(items)
+}
+
+fn take_list(alloc: Global, list: &mut JItems) -> Option<JVal>
+    ensures { option_map json result ≡ some_list list.old }
 {
     if list.len() == 0 {
-        return Ok(None);
+        return None;
     }
-    let mut items = JItems::new(alloc);
-    for x in list.as_slice() {
-        items.push(copy(alloc, x)?)?;
-    }
-    Ok(Some(JVal::List(items)))
+    Some(JVal::List(mem::replace(list, JItems::new(alloc))))
 }
 
 fn some_stamp(alloc: Global, stamp: &Option<Stamp>) -> Result<Option<JVal>, NoMemory>
@@ -155,22 +159,23 @@ fn some_stamp(alloc: Global, stamp: &Option<Stamp>) -> Result<Option<JVal>, NoMe
     }
 }
 
-fn some_given(alloc: Global, given: &Option<Txt>) -> Result<Option<JVal>, NoMemory>
-    ensures { IfOk result (λ v. option_map json v ≡ option_map text (option_map bytes_of given.now)) }
+fn take_given(given: &mut Option<Txt>) -> Option<JVal>
+    ensures { option_map json result ≡ option_map text (option_map bytes_of given.old) }
 {
-    match given {
-        Some(given) => Ok(Some(copied_text(alloc, given)?)),
-        None => Ok(None),
+    match mem::replace(given, None) {
+        Some(given) => Some(JVal::Text(given)),
+        None => None,
     }
 }
 
-fn some_text(alloc: Global, given: &Txt) -> Result<Option<JVal>, NoMemory>
-    ensures { IfOk result (λ v. option_map json v ≡ some_text given.now.bytes) }
+fn take_text(alloc: Global, given: &mut Txt) -> Option<JVal>
+    ensures { option_map json result ≡ some_text given.old.bytes }
 {
     if given.as_str().is_empty() {
-        return Ok(None);
+        return None;
     }
-    Ok(Some(copied_text(alloc, given)?))
+    let empty = Txt::of_string(String::new(alloc));
+    Some(JVal::Text(mem::replace(given, empty)))
 }
 
 fn some_generation(m: &Meta) -> Option<JVal>
@@ -181,20 +186,4 @@ fn some_generation(m: &Meta) -> Option<JVal>
         return None;
     }
     Some(JVal::Int(generation))
-}
-
-fn copied_text(alloc: Global, given: &Txt) -> Result<JVal, NoMemory>
-    ensures { IfOk result (λ v. json v ≡ text given.now.bytes) }
-{
-    Ok(JVal::Text(Txt::of(alloc, given.as_str())?))
-}
-
-fn copied_fields(alloc: Global, fields: &JFields) -> Result<JFields, NoMemory>
-    ensures { IfOk result (λ ms. ms ≡ fields.now) }
-{
-    let mut copies = JFields::new(alloc);
-    for f in fields.as_slice() {
-        copies.set(Txt::of(alloc, f.name.as_str())?, copy(alloc, &f.value)?)?;
-    }
-    Ok(copies)
 }

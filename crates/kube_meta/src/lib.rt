@@ -1,9 +1,12 @@
 //! Objects of Kubernetes as values: keys, metadata, names, and the document of an object.
 //!
-//! The crate's one contract: `write_object` answers the document of an object, as `specs/Document.antt` defines it.
+//! The crate's one contract: `write_object` answers the document of an object, as `specs/Document.antt` defines it, and
+//! `copy_object` the same object once more.
+//!
 //! It knows nothing of versions, schemas, requests or stores.
 #![tactic(auto)]
 
+mod copying;
 mod document;
 mod key;
 pub mod laws;
@@ -12,6 +15,7 @@ mod names;
 mod object;
 mod spot;
 
+pub use copying::{copy_meta, copy_object, copy_texts};
 pub use document::write_object;
 pub use key::{Key, NAME_BYTES, NAMESPACE_BYTES};
 pub use limits::{Condition, Limits, Room, RoomKind};

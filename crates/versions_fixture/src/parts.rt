@@ -119,7 +119,7 @@ pub fn written(alloc: Global, version: Version, p: &Parts<'_>) -> Result<JVal, N
     ensures levels { IfOk result (λ v. depth (json v) ≤ 64) }
 {
     let object = made(alloc, version, p)?;
-    write_object(alloc, &object)
+    write_object(alloc, object)
 }
 
 // The chunks of the measure at a version.

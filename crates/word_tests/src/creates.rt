@@ -126,7 +126,7 @@ fn form_text<V: Versions>(
     let Ok(form) = versions.form(alloc, tool, v, hub) else {
         return None;
     };
-    let Ok(document) = write_object(alloc, &form) else {
+    let Ok(document) = write_object(alloc, form) else {
         return None;
     };
     match write(alloc, &document) {

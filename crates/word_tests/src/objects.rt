@@ -6,7 +6,7 @@ ghost use Rattle.object_reading.specs.Written.{IsMoment, IsWritable};
 use crate::words::{line, list, text_at};
 use crd_admission::measure_within;
 use kj_value::{JItems, JVal, MAX_JSON_LEVELS, NoMemory, Stamp, Txt, depth, read, write};
-use kube_meta::{Object, write_object};
+use kube_meta::{Object, copy_object, write_object};
 use object_reading::{ObjectFault, read_object, read_written};
 use std::alloc::Global;
 
@@ -45,7 +45,7 @@ fn why(alloc: Global, fault: &ObjectFault) -> Option<Txt> {
 }
 
 fn text(alloc: Global, o: &Object) -> Option<Txt> {
-    let document = write_object(alloc, o).ok()?;
+    let document = write_object(alloc, copy_object(alloc, o).ok()?).ok()?;
     if depth(&document) > MAX_JSON_LEVELS {
         return None;
     }
@@ -94,7 +94,7 @@ fn again(alloc: Global, o: &Object) -> Result<Object, NoMemory>
     requires { IsWritable (object_of o.now) }
     ensures { IfOk result (λ p. object_of p ≡ object_of o.now) }
 {
-    read_written(alloc, write_object(alloc, o)?)
+    read_written(alloc, write_object(alloc, copy_object(alloc, o)?)?)
 }
 
 // The text of an object that was written and read back.

@@ -2,8 +2,7 @@ use Rattle.std.proofs.Common.{sym, subst}
 use Rattle.kube_meta.specs.View.{object_of}
 use Rattle.keep_laws.specs.Spokes.{Spokes}
 use Rattle.keep_laws.specs.WholeHub.{IsWholeHub}
-use Rattle.crd_meaning.specs.Meant.{meant}
-use Rattle.crd_versions.proofs.StoredForms.{whole_of, within, at_place, made_form, hub_made, form_levels}
+use Rattle.crd_versions.proofs.StoredForms.{within, at_place, made_form, hub_made, form_levels}
 use Rattle.crd_versions.proofs.forms.form.Goals as goal
 
 pub from_hub-requires-clause-place : goal.from_hub-requires-clause-place
@@ -14,11 +13,6 @@ from_hub-requires-clause-place c =
 pub from_hub-requires-clause-whole : goal.from_hub-requires-clause-whole
 from_hub-requires-clause-whole c =
     subst (λ (a : Spokes). IsWholeHub a (object_of c.args.hub.now)) (sym c.spokes.ensures.value) c.requires.whole.hub
-
-pub copied-requires : goal.copied-requires
-copied-requires c =
-    let stand = c.standing.ensures c.args.set.now c.hub.ensures.loaded in
-    whole_of (meant c.args.set.now) c.args.set.now.hub (object_of c.args.hub.now) (stand.whole (object_of c.args.hub.now) c.requires.whole)
 
 pub returns-in-Some-clause-form : goal.returns-in-Some-clause-form
 returns-in-Some-clause-form c =
@@ -35,10 +29,10 @@ returns-in-Some-clause-levels c =
     )
 
 pub returns-in-None-clause-form : goal.returns-in-None-clause-form
-returns-in-None-clause-form c = hub_made c.args.set.now c.args.v (object_of c.args.hub.now) c.copied.result c.in-None.ensures c.copied.ensures
+returns-in-None-clause-form c = hub_made c.args.set.now c.args.v (object_of c.args.hub.now) c.copy_object.result c.in-None.ensures c.copy_object.ensures
 
 pub returns-in-None-clause-levels : goal.returns-in-None-clause-levels
 returns-in-None-clause-levels c =
-    form_levels c.args.set.now c.args.v (object_of c.args.hub.now) c.copied.result (c.standing.ensures c.args.set.now c.hub.ensures.loaded) c.requires.known c.requires.whole (
-    hub_made c.args.set.now c.args.v (object_of c.args.hub.now) c.copied.result c.in-None.ensures c.copied.ensures
+    form_levels c.args.set.now c.args.v (object_of c.args.hub.now) c.copy_object.result (c.standing.ensures c.args.set.now c.hub.ensures.loaded) c.requires.known c.requires.whole (
+    hub_made c.args.set.now c.args.v (object_of c.args.hub.now) c.copy_object.result c.in-None.ensures c.copy_object.ensures
     )

@@ -14,11 +14,8 @@ value_is c =
       c.in_ok-metadata.ensures,
       c.in_ok-set-2.ensures.ok,
       c.in_ok-of-2.ensures,
-      c.in_ok-copied_text-2.ensures,
       c.in_ok-set.ensures.ok,
       c.in_ok-of.ensures,
-      c.in_ok-copied_text.ensures,
-      c.in_ok-fields.ensures,
     ) refl
 
 pub returns-clause-value : goal.returns-clause-value
@@ -26,5 +23,5 @@ returns-clause-value c = value_is c
 
 pub returns-clause-levels : goal.returns-clause-levels
 returns-clause-levels c =
-    let o = object_of c.args.o.now in
+    let o = object_of c.args.o in
     subst (λ (j : Json). depth j ≤ suc (max (members_depth (members_of o.body)) (2 + items_depth (items_of o.meta.owners)))) (sym (value_is c)) (depth-document o)

@@ -1,6 +1,6 @@
 use Rattle.std.proofs.Common.{add-one}
 use Rattle.kube_meta.proofs.InOrder.{copied_next}
-use Rattle.kube_meta.proofs.document.copied_fields.Goals as goal
+use Rattle.kube_meta.proofs.copying.copied_fields.Goals as goal
 
 pub loop-f-preserved : goal.loop-f-preserved
 loop-f-preserved c =
