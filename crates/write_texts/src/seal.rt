@@ -68,7 +68,7 @@ pub fn both(alloc: Global, mut form: Object) -> Result<(Txt, Sealed), NoMemory>
 {
     form.meta.resource_version = None;
     form.meta.uid = None;
-    let value = write_object(alloc, &form)?;
+    let value = write_object(alloc, form)?;
     // asked for what its clause says: the value that is written is sound
     sound(&value);
     let text = write(alloc, &value)?;

@@ -13,7 +13,7 @@ ghost use Rattle.api_calls.specs.Values.{IsUpdate, is_forbidden, is_marked, is_r
 ghost use Rattle.api_calls.specs.Versions.{IsBody};
 
 use kj_value::{JFields, JVal, NoMemory, Txt, same};
-use kube_meta::{Object, write_object};
+use kube_meta::{Object, copy_object, write_object};
 use std::alloc::Global;
 
 /// The value that a replace stores in the place of an old one, and how the two stand to each other.
@@ -77,21 +77,22 @@ fn same_bodies(a: JFields, b: JFields) -> (bool, JFields, JFields)
     (one, first, second)
 }
 
-// Whether two objects are one, where neither's body has a field that stands beside it.
-fn same_objects(alloc: Global, a: &Object, b: &Object) -> Result<bool, NoMemory>
-    requires { IsBody (object_of a.now).body × IsBody (object_of b.now).body }
-    ensures { IfOk result (λ one. IsTrue one ↔ (object_of a.now ≡ object_of b.now)) }
+// Whether two objects are one, where neither's body has a field that stands beside it. The second one is let go.
+fn same_objects(alloc: Global, a: &Object, b: Object) -> Result<bool, NoMemory>
+    requires { IsBody (object_of a.now).body × IsBody (object_of b).body }
+    ensures { IfOk result (λ one. IsTrue one ↔ (object_of a.now ≡ object_of b)) }
 {
-    let a = write_object(alloc, a)?;
-    let b = write_object(alloc, b)?;
-    Ok(same(&a, &b))
+    let again = copy_object(alloc, a)?;
+    let first = write_object(alloc, again)?;
+    let second = write_object(alloc, b)?;
+    Ok(same(&first, &second))
 }
 
 // Whether two objects are one, whose bodies are one or aren't.
-fn same_if(alloc: Global, bodies: bool, a: &Object, b: &Object) -> Result<bool, NoMemory>
-    requires bodies { object_of a.now ≡ object_of b.now → IsTrue bodies }
-    requires apart { IsBody (object_of a.now).body × IsBody (object_of b.now).body }
-    ensures { IfOk result (λ one. IsTrue one ↔ (object_of a.now ≡ object_of b.now)) }
+fn same_if(alloc: Global, bodies: bool, a: &Object, b: Object) -> Result<bool, NoMemory>
+    requires bodies { object_of a.now ≡ object_of b → IsTrue bodies }
+    requires apart { IsBody (object_of a.now).body × IsBody (object_of b).body }
+    ensures { IfOk result (λ one. IsTrue one ↔ (object_of a.now ≡ object_of b)) }
 {
     if !bodies {
         return Ok(false);
@@ -184,9 +185,9 @@ pub fn update_of(alloc: Global, new: Object, old: Object) -> Result<Update, NoMe
         return Err(NoMemory);
     };
     let hub = updated(new, &old, generation);
-    let equal = same_if(alloc, bodies, &hub, &old)?;
     let forbidden = adds(&old, &hub);
     let release = ends(&old, &hub);
+    let equal = same_if(alloc, bodies, &hub, old)?;
     Ok(Update {
         hub,
         equal,
