@@ -3,8 +3,8 @@ use Rattle.std.proofs.Common.{◌≡◌, Bool, true, false, ◌&&◌, ◌↔◌,
 use Rattle.kj_value.specs.Json.{Json}
 use Rattle.kj_value.specs.Same.{json_same}
 use Rattle.kj_value.specs.Sameness.{json_same-Decides}
-use Rattle.hub_cells.specs.Side.{Side, other}
-use Rattle.hub_cells.specs.Cell.{Kind, Tuple}
+use Rattle.hub_cells.specs.Side.{Side, spoke, hub, other}
+use Rattle.hub_cells.specs.Cell.{Kind, same, Tuple}
 use Rattle.hub_cells.specs.Cross.{matched, shown}
 use Rattle.hub_cells.specs.Level.{Cell, allows}
 use Rattle.hub_cells.specs.Answer.{answer, answer_by}
@@ -64,3 +64,8 @@ marked_matching d k t u b q e = matching_by d k t u (matched d k t) (ap (λ (m :
 
 pub marked_showing : (d : Side) (k : Kind) (t u : Tuple) (b : Bool) → b ≡ false → (u, b) ≡ answer d k t → (u, Some t) ≡ crossed_mark d k t None
 marked_showing d k t u b q e = showing_by d k t u (matched d k t) (ap (λ (m : Bool). (u, m)) (sym q) ∙ e)
+
+-- values that are equal on both sides go over as they are
+pub marked_same : (d : Side) (k : Kind) (t : Tuple) → k ≡ same → (t, None) ≡ crossed_mark d k t None
+marked_same spoke k t e = ap (λ (j : Kind). crossed_mark spoke j t None) (sym e)
+marked_same hub k t e = ap (λ (j : Kind). crossed_mark hub j t None) (sym e)

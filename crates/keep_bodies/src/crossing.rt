@@ -1,7 +1,8 @@
 //! A level's cells taken over.
-ghost use Rattle.std.specs.Prelude.{◌≡◌, [], ◌∷◌, ◌++◌, map, true, IfOk, OnOk, option_map};
+ghost use Rattle.std.specs.Prelude.{◌≡◌, [], ◌∷◌, ◌++◌, map, true, IfOk, IsTrue, OnOk, option_map};
 ghost use Rattle.hub_cells.specs.Side as sides;
 ghost use Rattle.hub_cells.specs.Answer.{CanCross};
+ghost use Rattle.hub_cells.specs.Cell.{same};
 ghost use Rattle.hub_cells.specs.Level.{CellFits, CellsFit, allows, names};
 ghost use Rattle.hub_cells.specs.Seen.{side, kind, tuple, cell};
 ghost use Rattle.kept_entries.specs.Entry.{are_in_order};
@@ -16,7 +17,7 @@ ghost use Rattle.keep_bodies.specs.Over.{tuple_here, mark_over, cell_fields, cel
 use crate::entries::{keep, kept_of};
 use crate::left::Left;
 use crate::tuples::{names_on, other, put_tuple, read_tuple, tuple_same};
-use hub_cells::{Cell, Side, Tuple, allowed_crosses, cross};
+use hub_cells::{Cell, CellKind, Side, Tuple, allowed_crosses, cross};
 use kept_entries::Entry;
 use kj_value::{JFields, NoMemory};
 use std::alloc::Global;
@@ -74,6 +75,20 @@ fn living(
     }
 }
 
+// Whether the cell's values are equal on the two sides.
+fn is_same(c: &Cell) -> bool
+    ensures { IsTrue result → kind c.now.kind ≡ same }
+{
+    match &c.kind {
+        CellKind::Same => true,
+        CellKind::SpokeOnly => false,
+        CellKind::HubOnly => false,
+        CellKind::Split => false,
+        CellKind::Table { .. } => false,
+        CellKind::Scale { by: _ } => false,
+    }
+}
+
 fn cross_mark(
     alloc: Global,
     c: &Cell,
@@ -91,6 +106,13 @@ fn cross_mark(
             kept: None,
         }),
         None => {
+            // Equal values are moved, not copied.
+            if is_same(c) {
+                return Ok(Marked {
+                    tuple: values,
+                    kept: None,
+                });
+            }
             let crossed = cross(alloc, c, from, &values)?;
             if crossed.matched {
                 Ok(Marked {

@@ -46,10 +46,12 @@ pub(crate) fn level_over(
     ensures entries { IfOk result (λ m. map turned m.entries.items ≡ all_entries (sides.other (side from)) f.now.level
         (marks_over (side from) f.now.level x.now (entries_left kept.entry.now))) }
 {
-    let mut fields = JFields::new(alloc);
+    let cells = f.cells();
+    let inner = f.inner();
+    let mut fields = JFields::with_room(alloc, cells.len().saturating_add(inner.len()))?;
     let mut entries = Vec::new(alloc);
-    cross_cells(alloc, f.cells(), from, x, kept, &mut fields, &mut entries)?;
-    inners_over(alloc, f.inner(), from, x, kept, &mut fields, &mut entries)?;
+    cross_cells(alloc, cells, from, x, kept, &mut fields, &mut entries)?;
+    inners_over(alloc, inner, from, x, kept, &mut fields, &mut entries)?;
     Ok(Made { fields, entries })
 }
 

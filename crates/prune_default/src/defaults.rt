@@ -91,7 +91,7 @@ fn merge(
         ≡ or_value (value_at n (members_of fields)) (first_default n (shapes_of (map named_shape properties.now)))) }
     ensures within { IfOk result (λ ns. members_size (members_of ns) + room.new ≤ members_size (members_of fields) + room.old) }
 {
-    let mut filled = JFields::new(alloc);
+    let mut filled = JFields::with_room(alloc, fields.len())?;
     let mut rest = properties;
     for f in fields.into_vec() {
         let Field { name, value } = f;

@@ -202,7 +202,7 @@ fn fill_names(
         (value_at n (members_of fields)) (value_at n (members_of ns))) }
     ensures within { IfOk result (λ ns. members_size (members_of ns) + room.new ≤ members_size (members_of fields) + room.old) }
 {
-    let mut kept = JFields::new(alloc);
+    let mut kept = JFields::with_room(alloc, fields.len())?;
     for f in fields.into_vec() {
         let Field { name, value } = f;
         let value = fill_name(alloc, s, name.as_str(), value, room)?;

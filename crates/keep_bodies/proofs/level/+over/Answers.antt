@@ -31,9 +31,9 @@ inners_over-inner_over-requires t c =
 
 pub level_over-inners_over-requires : goal.level_over-inners_over-requires
 level_over-inners_over-requires t c =
-    let bound = depth_is c.args.f.now.level (inners_of c.inner.result.now) c.inner.ensures.inner in (
+    let bound = depth_is c.args.f.now.level (inners_of c.inner-inner.result.now) c.inner-inner.ensures.inner in (
       first_of (omega (arith, bound), omega (arith, c.decreases, bound), search rules),
-      (c.requires.order, inners_allowed (side c.args.from) c.args.f.now.level (inners_of c.inner.result.now) c.args.x.now (entries_left c.args.kept.now) c.inner.ensures.inner c.requires.allowed),
+      (c.requires.order, inners_allowed (side c.args.from) c.args.f.now.level (inners_of c.inner-inner.result.now) c.args.x.now (entries_left c.args.kept.now) c.inner-inner.ensures.inner c.requires.allowed),
     )
 
 pub object_over-level_over-requires : goal.object_over-level_over-requires
@@ -47,15 +47,15 @@ object_over-level_over-requires t c = (
 
 pub level_over-cross_cells-requires-clause-allowed : goal.level_over-cross_cells-requires-clause-allowed
 level_over-cross_cells-requires-clause-allowed t c =
-    cells_allowed (side c.args.from) c.args.f.now.level _ c.args.x.now (entries_left c.args.kept.now) c.cells.ensures.cells c.requires.allowed
+    cells_allowed (side c.args.from) c.args.f.now.level _ c.args.x.now (entries_left c.args.kept.now) c.cells-cells.ensures.cells c.requires.allowed
 
 pub level_over-returns-clause-fields : goal.level_over-returns-clause-fields
 level_over-returns-clause-fields t c =
-    level_fields (side c.args.from) c.args.f.now.level _ _ c.args.x.now (entries_left c.args.kept.now) _ c.cross_cells.new.fields c.cells.ensures.cells c.inner.ensures.inner c.cells.ensures.fitted.fits c.requires.allowed (c.in_ok-cross_cells.ensures.fields ∙ ap (cell_fields (side c.args.from) (map cell c.cells.result.now) c.args.x.now (entries_left c.args.kept.now)) c.new-fields.ensures) c.in_ok-inners_over.ensures.fields
+    level_fields (side c.args.from) c.args.f.now.level _ _ c.args.x.now (entries_left c.args.kept.now) _ c.cross_cells.new.fields c.cells-cells.ensures.cells c.inner-inner.ensures.inner c.cells-cells.ensures.fitted.fits c.requires.allowed (c.in_ok-cross_cells.ensures.fields ∙ ap (cell_fields (side c.args.from) (map cell c.cells-cells.result.now) c.args.x.now (entries_left c.args.kept.now)) c.in_ok-fields.ensures) c.in_ok-inners_over.ensures.fields
 
 pub level_over-returns-clause-entries : goal.level_over-returns-clause-entries
 level_over-returns-clause-entries t c =
-    level_entries (side c.args.from) c.args.f.now.level _ _ c.args.x.now (entries_left c.args.kept.now) _ (map turned c.cross_cells.new.entries.items) c.cells.ensures.cells c.inner.ensures.inner (c.in_ok-cross_cells.ensures.entries ∙ ap (λ (fs : List Entry). fs ++ cell_kept (side c.args.from) (map cell c.cells.result.now) c.args.x.now (entries_left c.args.kept.now)) (ap (map turned) c.new-entries.ensures.items)) c.in_ok-inners_over.ensures.entries
+    level_entries (side c.args.from) c.args.f.now.level _ _ c.args.x.now (entries_left c.args.kept.now) _ (map turned c.cross_cells.new.entries.items) c.cells-cells.ensures.cells c.inner-inner.ensures.inner (c.in_ok-cross_cells.ensures.entries ∙ ap (λ (fs : List Entry). fs ++ cell_kept (side c.args.from) (map cell c.cells-cells.result.now) c.args.x.now (entries_left c.args.kept.now)) (ap (map turned) c.new-entries.ensures.items)) c.in_ok-inners_over.ensures.entries
 
 pub inners_over-loop-o-preserved : goal.inners_over-loop-o-preserved
 inners_over-loop-o-preserved t c =
