@@ -74,6 +74,6 @@ fn hub_of(alloc: Global, set: &LoadedVersions, v: u8, x: Object) -> Result<Objec
     let _ = set.definition().versions();
     match set.place(v) {
         None => settle(alloc, set.spokes(), None, x),
-        Some(p) => to_hub(alloc, set.spokes(), p, &x),
+        Some(p) => to_hub(alloc, set.spokes(), p, x),
     }
 }

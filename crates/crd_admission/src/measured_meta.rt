@@ -89,12 +89,12 @@ fn some_items(left: u64, name: &str, items: &JItems) -> Option<u64>
     list(rest, items)
 }
 
-/// The metadata as an object, with the greatest stamps and generation, and without number and uid.
-pub(crate) fn metadata(left: u64, m: &Meta) -> Option<u64>
-    ensures { Leaves left (meta_bytes (meta_of m.now)) result }
+/// The metadata as an object, with these annotations, the greatest stamps and generation, and without number and uid.
+pub(crate) fn metadata(left: u64, m: &Meta, notes: &TextMap) -> Option<u64>
+    ensures { Leaves left (meta_bytes (record (meta_of m.now) { annotations = notes.now })) result }
 {
     let rest = spend(left, 1 + STAMPED)?;
-    let rest = texts(rest, "annotations", &m.annotations)?;
+    let rest = texts(rest, "annotations", notes)?;
     let rest = text_list(rest, "finalizers", &m.finalizers)?;
     let rest = texts(rest, "labels", &m.labels)?;
     let rest = some_text(rest, "name", &m.name)?;

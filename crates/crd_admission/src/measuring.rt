@@ -1,14 +1,16 @@
 //! The measure of an object.
 ghost use Rattle.std.specs.Prelude.{◌≡◌, ◌<◌, ◌≤◌, map, MatchOption};
 ghost use Rattle.kj_value.specs.Pair.{pair_of};
-ghost use Rattle.kube_meta.specs.View.{object_of};
+ghost use Rattle.kube_meta.specs.View.{meta_of, object_of};
 ghost use Rattle.api_calls.specs.Meaning.{measure};
+ghost use Rattle.spoke_keep.specs.Shapes.{shaped};
 ghost use Rattle.crd_admission.specs.Count.{Leaves, document_bytes, is_own, other_bytes, total};
 
 use crate::measured_meta::{metadata, named, text_at};
 use crate::values::{field, spend};
-use kj_value::Field;
+use kj_value::{Field, JFields, TextMap, Txt};
 use kube_meta::Object;
+use spoke_keep::Shape;
 
 /// How many bytes the object's stored text has at most: with two stamps of 20 bytes, the generation 2^63 - 1, and
 /// without number and uid. `None` where that is more than the limit. It takes no memory.
@@ -17,20 +19,38 @@ pub fn measure_within(x: &Object, limit: u64) -> Option<u64>
         (λ n. (n ≡ measure (object_of x.now)) × (n ≤ limit)) }
 {
     let _ = x.body.len();
-    match document(limit, x) {
+    match document(limit, &x.api_version, x, &x.meta.annotations, &x.body) {
         Some(left) => Some(limit - left),
         None => None,
     }
 }
 
-fn document(left: u64, x: &Object) -> Option<u64>
-    ensures { Leaves left (document_bytes (object_of x.now)) result }
+/// The same of what an object of the hub becomes at a spoke.
+pub(crate) fn measure_shape(h: &Object, p: &Shape, limit: u64) -> Option<u64>
+    ensures { MatchOption result (limit < measure (shaped p.now (object_of h.now)))
+        (λ n. (n ≡ measure (shaped p.now (object_of h.now))) × (n ≤ limit)) }
 {
-    let rest = text_at(left, "apiVersion", x.api_version.as_str())?;
-    let rest = text_at(rest, "kind", x.kind.as_str())?;
+    let _ = p.body.len();
+    match document(limit, &p.version, h, &p.notes, &p.body) {
+        Some(left) => Some(limit - left),
+        None => None,
+    }
+}
+
+// The document of an object of this version, these annotations and this body.
+fn document(left: u64, version: &Txt, o: &Object, notes: &TextMap, body: &JFields) -> Option<u64>
+    ensures { Leaves left (document_bytes (record {
+      api_version = version.now.bytes;
+      kind = o.now.kind.bytes;
+      meta = record (meta_of o.now.meta) { annotations = notes.now };
+      body = body.now;
+    })) result }
+{
+    let rest = text_at(left, "apiVersion", version.as_str())?;
+    let rest = text_at(rest, "kind", o.kind.as_str())?;
     let rest = named(rest, "metadata")?;
-    let rest = metadata(rest, &x.meta)?;
-    let rest = others(rest, x.body.as_slice())?;
+    let rest = metadata(rest, &o.meta, notes)?;
+    let rest = others(rest, body.as_slice())?;
     spend(rest, 1)
 }
 

@@ -8,12 +8,12 @@ ghost use Rattle.crd_meaning.specs.Definition.{IsLoaded, count_of};
 ghost use Rattle.crd_meaning.specs.Objects.{IsWholeValue};
 ghost use Rattle.crd_admission.specs.Weighing.{IsMeasured, IsWeightOf};
 
-use crate::measuring::measure_within;
+use crate::measuring::{measure_shape, measure_within};
 use crd_loading::LoadedVersions;
 use crd_meaning::{MAX_MEASURE, one_to_one};
 use kj_value::NoMemory;
 use kube_meta::Object;
-use spoke_keep::from_hub;
+use spoke_keep::shape_at;
 use std::alloc::Global;
 
 /// The bytes of a chunk.
@@ -49,8 +49,8 @@ fn measured(alloc: Global, set: &LoadedVersions, h: &Object, v: u8) -> Result<Op
     match set.place(v) {
         None => Ok(measure_within(h, MAX_MEASURE)),
         Some(p) => {
-            let form = from_hub(alloc, set.spokes(), p, h)?;
-            Ok(measure_within(&form, MAX_MEASURE))
+            let form = shape_at(alloc, set.spokes(), p, h)?;
+            Ok(measure_shape(h, &form, MAX_MEASURE))
         }
     }
 }

@@ -20,7 +20,7 @@ use crd_loading::LoadedVersions;
 use keep_laws::object_laws::{given, settling};
 use kj_value::{NoMemory, Txt};
 use kube_meta::Object;
-use spoke_keep::{KeepFault, from_hub, settle, to_hub};
+use spoke_keep::{KeepFault, into_spoke, settle, to_hub};
 use std::alloc::Global;
 
 /// The object of version `to` that is one with what is left of an object of version `v`. `Invalid` comes with the rule `Kept`
@@ -58,7 +58,7 @@ fn hub_of(alloc: Global, set: &LoadedVersions, v: u8, x: Object) -> Result<Objec
     let _ = x.body.len();
     match set.place(v) {
         None => settle(alloc, set.spokes(), None, x),
-        Some(p) => to_hub(alloc, set.spokes(), p, &x),
+        Some(p) => to_hub(alloc, set.spokes(), p, x),
     }
 }
 
@@ -70,7 +70,7 @@ fn form(alloc: Global, set: &LoadedVersions, v: u8, hub: Object) -> Result<Objec
 {
     let _ = set.hub();
     match set.place(v) {
-        Some(p) => from_hub(alloc, set.spokes(), p, &hub),
+        Some(p) => into_spoke(alloc, set.spokes(), p, hub),
         None => Ok(hub),
     }
 }

@@ -9,11 +9,11 @@ use kube_meta::Object;
 use spoke_keep::{KeepFault, Spokes, to_hub};
 use std::alloc::Global;
 
-/// The hub value that is one with an object of the spoke at place `p`. Its annotations can be read, since the hub value was
+/// The hub value that is one with an object of the spoke at place `p`, whose metadata are moved. Its annotations can be read, since the hub value was
 /// whole.
-pub(crate) fn taken_back(alloc: Global, all: &Spokes, p: u8, x: &Object) -> Result<Object, NoMemory>
-    requires { (h : ObjectView) × IsFormOf all.now p (object_of x.now) h }
-    ensures { (h : ObjectView) → IsFormOf all.now p (object_of x.now) h → IfOk result (λ g. object_of g ≡ h) }
+pub(crate) fn taken_back(alloc: Global, all: &Spokes, p: u8, x: Object) -> Result<Object, NoMemory>
+    requires { (h : ObjectView) × IsFormOf all.now p (object_of x) h }
+    ensures { (h : ObjectView) → IsFormOf all.now p (object_of x) h → IfOk result (λ g. object_of g ≡ h) }
 {
     one_each();
     over_and_back();

@@ -25,7 +25,7 @@ pub fn hub_of(alloc: Global, set: &LoadedVersions, v: u8, stored: &[u8]) -> Resu
     let _ = set.hub();
     let x = read_form(alloc, stored)?;
     match set.place(v) {
-        Some(p) => taken_back(alloc, set.spokes(), p, &x),
+        Some(p) => taken_back(alloc, set.spokes(), p, x),
         None => Ok(x),
     }
 }

@@ -16,26 +16,7 @@ use Rattle.spoke_keep.specs.declared.fault.KeepFault.{KeepFault}
 use Rattle.spoke_keep.specs.declared.fault.KeepFault.TheVariants.{BadKept, NoMemory}
 use Rattle.spoke_keep.specs.Fault.{IsBadRead, IsFaultOf}
 
--- ---- the texts before, at and after a place
-
-split_at : {A B : Type 0} (f : A → B) (xs : List A) (i : ℕ) (x : A) → i < length xs → x ≡ get_or xs i x → map f xs ≡ map f (take i xs) ++ f x ∷ map f (drop (suc i) xs)
-split_at f [] i x p e = absurd (omega (arith, p))
-split_at f (y ∷ xs) zero x p e = ap (λ z. f z ∷ map f xs) (sym e)
-split_at f (y ∷ xs) (suc i) x p e = ap (λ zs. f y ∷ zs) (split_at f xs i x (omega (arith, p)) e)
-
-take_one : {A B : Type 0} (f : A → B) (xs : List A) (i : ℕ) (x : A) → i < length xs → x ≡ get_or xs i x → map f (take (suc i) xs) ≡ map f (take i xs) ++ f x ∷ []
-take_one f [] i x p e = absurd (omega (arith, p))
-take_one f (y ∷ xs) zero x p e = ap (λ z. f z ∷ []) (sym e)
-take_one f (y ∷ xs) (suc i) x p e = ap (λ zs. f y ∷ zs) (take_one f xs i x (omega (arith, p)) e)
-
-in_order_at : (ts : List TextField) (i : ℕ) (t : TextField) (ns : Texts) → map text_pair ts ≡ ns → AreInOrder ns → i < length ts → t ≡ get_or ts i t → AreInOrder (map text_pair (take i ts) ++ text_pair t ∷ map text_pair (drop (suc i) ts))
-in_order_at ts i t ns e h p q = subst (λ (ms : Texts). AreInOrder ms) (sym e ∙ split_at text_pair ts i t p q) h
-
-pub texts_next : (ts : List TextField) (i : ℕ) (t : TextField) (ns : Texts) → map text_pair ts ≡ ns → AreInOrder ns → i < length ts → t ≡ get_or ts i t → with_field t.name.bytes t.value.bytes (map text_pair (take i ts)) ≡ map text_pair (take (suc i) ts)
-texts_next ts i t ns e h p q =
-    with_last (map text_pair (take i ts)) t.name.bytes t.value.bytes (map text_pair (drop (suc i) ts)) (in_order_at ts i t ns e h p q) ∙ sym (take_one text_pair ts i t p q)
-
--- ---- annotations carried, of a lent map
+-- ---- annotations carried
 
 -- n and u are the name and the text of t, and p u is what becomes of it
 renamed : (all : Spokes) (own : Option Name) (body : Pairs) (t : TextField) (n u : Name) (p : Name → Option Name) → n ≡ t.name.bytes → u ≡ t.value.bytes → OtherNote own body (key_kind all n) (Some u) (p u) → OtherNote own body (key_kind all t.name.bytes) (Some t.value.bytes) (p t.value.bytes)
@@ -46,30 +27,10 @@ bad_renamed : (all : Spokes) (own : Option Name) (t : TextField) (n u : Name) (e
 bad_renamed all own t n u e a b bad =
     subst (λ (k : Name). IsBadRead own (key_kind all k) k t.value.bytes e) a (subst (λ (w : Name). IsBadRead own (key_kind all n) n w e) b bad)
 
-pub carry_next : (all : Spokes) (own : Option Name) (body : Pairs) (ts : List TextField) (i : ℕ) (t : TextField) (ns notes after : Texts) (n u : Name) (p : Name → Option Name) → map text_pair ts ≡ ns → AreInOrder ns → i < length ts → t ≡ get_or ts i t → n ≡ t.name.bytes → u ≡ t.value.bytes → Carries all own body (map text_pair (take i ts)) notes → OtherNote own body (key_kind all n) (Some u) (p u) → after ≡ with_note t.name.bytes (p t.value.bytes) notes → Carries all own body (map text_pair (take (i + 1) ts)) after
-carry_next all own body ts i t ns notes after n u p e h l q a b carried here made =
-    rw (add-one, take_one text_pair ts i t l q, made) (carry_step all own body (map text_pair (take i ts)) t.name.bytes t.value.bytes (map text_pair (drop (suc i) ts)) notes (p t.value.bytes) (in_order_at ts i t ns e h l q) carried (renamed all own body t n u p a b here))
-
-take_all : {A : Type 0} (xs : List A) (i : ℕ) → length xs ≤ i → take i xs ≡ xs
-take_all [] zero h = refl
-take_all [] (suc i) h = refl
-take_all (x ∷ xs) zero h = absurd (omega (arith, h))
-take_all (x ∷ xs) (suc i) h = ap (λ ys. x ∷ ys) (take_all xs i (omega (arith, h)))
-
-pub carry_all : (all : Spokes) (own : Option Name) (body : Pairs) (ts : List TextField) (i : ℕ) (ns notes : Texts) → map text_pair ts ≡ ns → length ts ≤ i → Carries all own body (map text_pair (take i ts)) notes → Carries all own body ns notes
-carry_all all own body ts i ns notes e q carried =
-    subst (λ (ms : Texts). Carries all own body ms notes) (ap (map text_pair) (take_all ts i q) ∙ e) carried
-
 bad_at : (all : Spokes) (own : Option Name) (body : Pairs) (done : Texts) (n t : Name) (rest notes ns : Texts) (e : KeepFault) → ns ≡ done ++ (n, t) ∷ rest → AreInOrder ns → Carries all own body done notes → HubIsRead own ns → IsBadRead own (key_kind all n) n t e → IsFaultOf all own ns e
 bad_at all own body done n t rest notes ns (BadKept a) is h carried hubs bad =
     rw (is, bad.0) (spoke_bad all own body done n t rest notes (subst (λ (ms : Texts). AreInOrder ms) is h) carried (subst (HubIsRead own) is hubs) bad.2 bad.1)
 bad_at all own body done n t rest notes ns NoMemory is h carried hubs bad = tt
-
-pub bad_next : (all : Spokes) (own : Option Name) (body : Pairs) (ts : List TextField) (i : ℕ) (t : TextField) (ns notes : Texts) (n u : Name) (e : KeepFault) → map text_pair ts ≡ ns → AreInOrder ns → i < length ts → t ≡ get_or ts i t → n ≡ t.name.bytes → u ≡ t.value.bytes → Carries all own body (map text_pair (take i ts)) notes → HubIsRead own ns → IsBadRead own (key_kind all n) n u e → IsFaultOf all own ns e
-bad_next all own body ts i t ns notes n u e is h l q a b carried hubs bad =
-    bad_at all own body (map text_pair (take i ts)) t.name.bytes t.value.bytes (map text_pair (drop (suc i) ts)) notes ns e (sym is ∙ split_at text_pair ts i t l q) h carried hubs (bad_renamed all own t n u e a b bad)
-
--- ---- and of one that is moved
 
 -- what is done, and that it and what is left make the whole
 pub record Carrying (all : Spokes) (own : Option Name) (body : Pairs) (ns left notes : Texts) : Type 0 where

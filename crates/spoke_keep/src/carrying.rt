@@ -96,20 +96,6 @@ fn fate_of(
     }
 }
 
-fn copy_one(alloc: Global, t: &TextField, fate: Fate, notes: &mut TextMap) -> Result<(), NoMemory>
-    ensures { OnOk result (notes.new
-        ≡ with_note t.now.name.bytes (fate_note t.now.value.bytes fate) notes.old) }
-{
-    match fate {
-        Fate::Stays => notes.set(
-            Txt::of(alloc, t.name.as_str())?,
-            Txt::of(alloc, t.value.as_str())?,
-        ),
-        Fate::Becomes(text) => notes.set(Txt::of(alloc, t.name.as_str())?, text),
-        Fate::Goes => Ok(()),
-    }
-}
-
 fn move_one(t: TextField, fate: Fate, notes: &mut TextMap) -> Result<(), NoMemory>
     ensures { OnOk result (notes.new ≡ with_note t.name.bytes (fate_note t.value.bytes fate) notes.old) }
 {
@@ -121,28 +107,7 @@ fn move_one(t: TextField, fate: Fate, notes: &mut TextMap) -> Result<(), NoMemor
     }
 }
 
-/// Copies of the annotations that an object of the side `own` keeps at the hub, where its body is this one.
-pub(crate) fn carried(
-    alloc: Global,
-    all: &Spokes,
-    own: Option<&Spoke>,
-    body: &JFields,
-    annotations: &TextMap,
-) -> Result<TextMap, KeepFault>
-    requires body { IsHubBody all.now.items body.now }
-    requires hub { HubIsRead (own_name own) annotations.now }
-    ensures ok { IfOk result (Carries all.entry.now (own_name own.entry) body.entry.now annotations.entry.now) }
-    ensures err { IfErr result (IsFaultOf all.entry.now (own_name own.entry) annotations.entry.now) }
-{
-    let mut notes = TextMap::new(alloc);
-    for t in annotations.as_slice() {
-        let fate = fate_of(alloc, all, own, body, t.name.as_str(), t.value.as_str())?;
-        copy_one(alloc, t, fate, &mut notes)?;
-    }
-    Ok(notes)
-}
-
-/// The same of annotations that are moved.
+/// The annotations that an object of the side `own` keeps at the hub, where its body is this one. They are moved.
 pub(crate) fn carried_over(
     alloc: Global,
     all: &Spokes,

@@ -11,30 +11,31 @@ ghost use Rattle.keep_laws.specs.Over.{GoesOver};
 ghost use Rattle.keep_laws.specs.Place.{StandsAt};
 ghost use Rattle.spoke_keep.specs.Fault.{IsFaultOf};
 
-use crate::carrying::carried;
+use crate::carrying::carried_over;
 use crate::fault::KeepFault;
 use crate::keys::{hub_key, version_text};
-use crate::metadata::remade;
 use crate::notes::{kept_at, put_note, write_note};
 use crate::spokes::{Spoke, Spokes};
 use hub_cells::Side;
 use keep_bodies::{KeptBody, convert};
 use keep_laws::object_laws::{given, going_over};
+use kj_value::TextMap;
 use kube_meta::Object;
 use std::alloc::Global;
+use std::mem;
 
 /// The object of the hub that a spoke's object, which stands at place `v`, becomes: the whole one that is
-/// paired with what `settle` leaves of it. `BadKept` comes exactly where an annotation that is read spells no
-/// entries.
-pub fn to_hub(alloc: Global, all: &Spokes, v: u8, x: &Object) -> Result<Object, KeepFault>
-    requires { StandsAt all.now (Some v) (object_of x.now) }
+/// paired with what `settle` leaves of it. Its metadata are moved. `BadKept` comes exactly where an annotation
+/// that is read spells no entries.
+pub fn to_hub(alloc: Global, all: &Spokes, v: u8, x: Object) -> Result<Object, KeepFault>
+    requires { StandsAt all.now (Some v) (object_of x) }
     ensures over { (s : laws.Spoke) → slice_get all.now.items v ≡ Some s
-        → IfOk result (λ h. GoesOver all.now s (object_of x.now) (object_of h)) }
+        → IfOk result (λ h. GoesOver all.now s (object_of x) (object_of h)) }
     ensures whole { IfOk result (λ h. IsWholeHub all.now (object_of h)) }
     ensures pair { (s : laws.Spoke) → slice_get all.now.items v ≡ Some s → (y : ObjectView)
-        → SettlesAtSpoke all.now s (object_of x.now) y → IfOk result (λ h. IsPairOf all.now s y (object_of h)) }
+        → SettlesAtSpoke all.now s (object_of x) y → IfOk result (λ h. IsPairOf all.now s y (object_of h)) }
     ensures err { (s : laws.Spoke) → slice_get all.now.items v ≡ Some s
-        → IfErr result (IsFaultOf all.now (Some s.name) x.now.meta.annotations) }
+        → IfErr result (IsFaultOf all.now (Some s.name) x.meta.annotations) }
 {
     going_over();
     let _ = all.items();
@@ -42,11 +43,11 @@ pub fn to_hub(alloc: Global, all: &Spokes, v: u8, x: &Object) -> Result<Object, 
     over(alloc, all, all.at(v), x)
 }
 
-fn over(alloc: Global, all: &Spokes, s: &Spoke, x: &Object) -> Result<Object, KeepFault>
+fn over(alloc: Global, all: &Spokes, s: &Spoke, x: Object) -> Result<Object, KeepFault>
     requires place { (v : ℕ) × (slice_get all.now.items v ≡ Some s.now) }
-    requires body { IsBodyOf sides.spoke s.now.fit x.now.body }
-    ensures over { IfOk result (λ h. GoesOver all.now s.now (object_of x.now) (object_of h)) }
-    ensures err { IfErr result (IsFaultOf all.now (Some s.now.name) x.now.meta.annotations) }
+    requires body { IsBodyOf sides.spoke s.now.fit x.body }
+    ensures over { IfOk result (λ h. GoesOver all.now s.now (object_of x) (object_of h)) }
+    ensures err { IfErr result (IsFaultOf all.now (Some s.now.name) x.meta.annotations) }
 {
     given();
     let _ = all.items();
@@ -54,12 +55,16 @@ fn over(alloc: Global, all: &Spokes, s: &Spoke, x: &Object) -> Result<Object, Ke
     let kept = kept_at(alloc, &x.meta.annotations, hub_key())?;
     let made = convert(alloc, s.fitted(), Side::Spoke, &x.body, &kept)?;
     let KeptBody { fields, kept: left } = made;
-    let mut notes = carried(alloc, all, Some(s), &fields, &x.meta.annotations)?;
+    let mut hub = x;
+    let annotations = mem::replace(&mut hub.meta.annotations, TextMap::new(alloc));
+    let mut notes = carried_over(alloc, all, Some(s), &fields, annotations)?;
     let own = write_note(alloc, &left)?;
     put_note(alloc, s.key(), own, &mut notes)?;
     let _ = notes.len();
     let _ = fields.len();
     let version = version_text(alloc, all.group(), all.hub())?;
-    let hub = remade(alloc, version, x, notes, fields)?;
+    hub.api_version = version;
+    hub.meta.annotations = notes;
+    hub.body = fields;
     Ok(hub)
 }

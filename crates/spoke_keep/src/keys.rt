@@ -45,7 +45,9 @@ pub fn spoke_key(alloc: Global, name: &str) -> Result<Txt, NoMemory>
 pub(crate) fn version_text(alloc: Global, group: &Txt, version: &Txt) -> Result<Txt, NoMemory>
     ensures { IfOk result (λ t. t.bytes ≡ api_version group.now.bytes version.now.bytes) }
 {
-    let mut text = String::from_str(alloc, group.as_str())?;
+    let bytes = group.len().saturating_add(version.len()).saturating_add(1);
+    let mut text = String::with_capacity(alloc, bytes)?;
+    text.push_str(group.as_str())?;
     text.push_str("/")?;
     text.push_str(version.as_str())?;
     Ok(Txt::of_string(text))

@@ -11,13 +11,12 @@ mod fault;
 mod form;
 mod hub;
 mod keys;
-mod metadata;
 mod notes;
 mod settling;
 mod spokes;
 
 pub use fault::KeepFault;
-pub use form::from_hub;
+pub use form::{Shape, from_hub, into_spoke, shape_at};
 pub use hub::to_hub;
 pub use keys::{hub_key, spoke_key};
 pub use settling::settle;

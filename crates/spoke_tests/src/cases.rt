@@ -11,7 +11,7 @@ use spoke_keep::{KeepFault, Spokes, from_hub, settle, to_hub};
 use std::alloc::Global;
 
 // The text of an object.
-fn written(alloc: Global, o: &Object) -> Option<Txt> {
+fn written(alloc: Global, o: Object) -> Option<Txt> {
     let doc = write_object(alloc, o).ok()?;
     if depth(&doc) > MAX_JSON_LEVELS {
         return None;
@@ -22,7 +22,7 @@ fn written(alloc: Global, o: &Object) -> Option<Txt> {
 // The text of the object, or the annotation that can't be read.
 fn told(alloc: Global, answer: Result<Object, KeepFault>) -> Option<Txt> {
     match answer {
-        Ok(o) => written(alloc, &o),
+        Ok(o) => written(alloc, o),
         Err(KeepFault::BadKept { annotation }) => unread(alloc, annotation.as_str()),
         Err(KeepFault::NoMemory) => None,
     }
@@ -38,7 +38,7 @@ fn unread(alloc: Global, key: &str) -> Option<Txt> {
 /// The object of v1 that an object of v1beta1 becomes.
 pub(crate) fn over(alloc: Global, all: &Spokes, text: &str) -> Option<Txt> {
     let x = object_at(alloc, all, "CronTab", Some(0), text)?;
-    told(alloc, to_hub(alloc, all, 0, &x))
+    told(alloc, to_hub(alloc, all, 0, x))
 }
 
 // An object of v1 without what has no place in it.
@@ -62,7 +62,7 @@ pub(crate) fn back(alloc: Global, all: &Spokes, text: &str) -> Option<Txt> {
     }
     let h = whole(alloc, all, text)?;
     match from_hub(alloc, all, 0, &h) {
-        Ok(x) => written(alloc, &x),
+        Ok(x) => written(alloc, x),
         Err(_) => None,
     }
 }

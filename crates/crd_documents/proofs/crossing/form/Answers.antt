@@ -12,13 +12,13 @@ use Rattle.crd_meaning.specs.Objects.{PairsAt, IsFormAt}
 use Rattle.crd_documents.proofs.Crossed.{if_ok, if_both, made_form, hub_levels, spoke_levels}
 use Rattle.crd_documents.proofs.crossing.form.Goals as goal
 
-pub from_hub-requires-clause-place : goal.from_hub-requires-clause-place
-from_hub-requires-clause-place c =
+pub into_spoke-requires-clause-place : goal.into_spoke-requires-clause-place
+into_spoke-requires-clause-place c =
     let at = c.in-Some.ensures in
     slice_get_within c.spokes.result.now.items c.in-Some.p at.0 (ap (λ (a : Spokes). slice_get a.items c.in-Some.p) c.spokes.ensures.value ∙ at.1)
 
-pub from_hub-requires-clause-whole : goal.from_hub-requires-clause-whole
-from_hub-requires-clause-whole c =
+pub into_spoke-requires-clause-whole : goal.into_spoke-requires-clause-whole
+into_spoke-requires-clause-whole c =
     subst (λ (a : Spokes). IsWholeHub a (object_of c.args.hub)) (sym c.spokes.ensures.value) c.requires.whole
 
 pub returns-in-Some-clause-form : goal.returns-in-Some-clause-form
@@ -27,15 +27,15 @@ returns-in-Some-clause-form c =
     let at = c.in-Some.ensures in
     let all = c.spokes.result.now in
     let place : slice_get all.items c.in-Some.p ≡ Some at.0 = ap (λ (a : Spokes). slice_get a.items c.in-Some.p) c.spokes.ensures.value ∙ at.1 in
-    if_both (λ (y : Object). IsPairOf all at.0 (object_of y) (object_of c.args.hub)) (λ (y : Object). IsSettledAt all at.0 (object_of y)) (λ (y : Object). IsFormAt d c.args.v (object_of c.args.hub) (object_of y)) c.from_hub.result
-    (λ y p t. made_form d c.hub.ensures.loaded all c.args.v (object_of c.args.hub) (object_of y) at.0 c.spokes.ensures.value at.2 p t) (c.from_hub.ensures.pair at.0 place) (c.from_hub.ensures.settled at.0 place)
+    if_both (λ (y : Object). IsPairOf all at.0 (object_of y) (object_of c.args.hub)) (λ (y : Object). IsSettledAt all at.0 (object_of y)) (λ (y : Object). IsFormAt d c.args.v (object_of c.args.hub) (object_of y)) c.into_spoke.result
+    (λ y p t. made_form d c.hub.ensures.loaded all c.args.v (object_of c.args.hub) (object_of y) at.0 c.spokes.ensures.value at.2 p t) (c.into_spoke.ensures.pair at.0 place) (c.into_spoke.ensures.settled at.0 place)
 
 pub returns-in-Some-clause-levels : goal.returns-in-Some-clause-levels
 returns-in-Some-clause-levels c =
     let at = c.in-Some.ensures in
     let all = c.spokes.result.now in
     let place : slice_get all.items c.in-Some.p ≡ Some at.0 = ap (λ (a : Spokes). slice_get a.items c.in-Some.p) c.spokes.ensures.value ∙ at.1 in
-    if_ok (λ (y : Object). IsSettledAt all at.0 (object_of y)) (λ (y : Object). depth (object (members_of y.body)) ≤ 64) c.from_hub.result (λ y t. spoke_levels c.args.set.now c.hub.ensures.loaded all at.0 (object_of y) t) (c.from_hub.ensures.settled at.0 place)
+    if_ok (λ (y : Object). IsSettledAt all at.0 (object_of y)) (λ (y : Object). depth (object (members_of y.body)) ≤ 64) c.into_spoke.result (λ y t. spoke_levels c.args.set.now c.hub.ensures.loaded all at.0 (object_of y) t) (c.into_spoke.ensures.settled at.0 place)
 
 pub returns-in-None-clause-form : goal.returns-in-None-clause-form
 returns-in-None-clause-form c =

@@ -1,9 +1,8 @@
-use Rattle.std.proofs.Common.{◌≡◌, Option, ap, sym, subst, ◌∙◌}
+use Rattle.std.proofs.Common.{◌≡◌, Option, ap, refl, sym, subst, ◌∙◌}
 use Rattle.std.specs.Prelude.{option_map}
 use Rattle.hub_cells.specs.Side as sides
 use Rattle.hub_cells.specs.Fit.{Fit}
 use Rattle.hub_cells.specs.Level.{Name}
-use Rattle.kube_meta.specs.declared.object.Object.{Object}
 use Rattle.kube_meta.specs.View.{Texts, ObjectView, object_of}
 use Rattle.kj_value.specs.Fields.{without_field}
 use Rattle.kj_value.specs.Texts.{bytes_of}
@@ -14,8 +13,8 @@ use Rattle.keep_laws.specs.Notes.{with_entries, with_note}
 use Rattle.keep_laws.specs.Pair.{IsPairOf}
 use Rattle.keep_laws.specs.WholeHub.{IsSettledAt}
 use Rattle.keep_laws.proofs.Made.{form_allowed, form_writable, forms}
-use Rattle.spoke_keep.proofs.Steps.{if_ok, made_of, version_of}
-use Rattle.spoke_keep.proofs.form.form.Goals as goal
+use Rattle.spoke_keep.proofs.Steps.{made_of, version_of}
+use Rattle.spoke_keep.proofs.form.shape_for.Goals as goal
 
 pub convert-requires-clause-allowed : goal.convert-requires-clause-allowed
 convert-requires-clause-allowed c =
@@ -40,9 +39,7 @@ returns-clause-pair c =
     let put : c.put_note.new.notes ≡ with_note hub_key own (without_field (spoke_key c.args.s.now.name) c.args.h.now.meta.annotations) = c.in_ok-put_note.ensures ∙ ap (λ (k : Name). with_note k own c.remove.new.self) c.hub_key.ensures ∙ ap (λ (ns : Texts). with_note hub_key own ns) left in
     let version = version_of c.group.result.now.bytes c.name.result.now.bytes c.args.all.now.group c.args.s.now.name c.in_ok-version.version.bytes c.in_ok-version.ensures c.group.ensures c.name.ensures in
     let both = forms c.given.ensures c.args.all.now c.requires.place.0 c.args.s.now c.items.ensures.definition c.requires.place.1 h c.in_ok-made.made.fields c.put_note.new.notes c.in_ok-made.made.kept c.in_ok-kept.kept own c.requires.whole c.len.ensures.order c.len-2.ensures.sound c.in_ok-kept.ensures c.in_ok-own.ensures put made in
-    if_ok (λ (o : Object). object_of o ≡ record { api_version = c.in_ok-version.version.bytes; kind = h.kind; meta = record h.meta { annotations = c.put_note.new.notes }; body = c.in_ok-made.made.fields }) (λ (o : Object). IsPairOf c.args.all.now c.args.s.now (object_of o) h) c.remade.result (
-    λ o e. made_of (λ (x : ObjectView). IsPairOf c.args.all.now c.args.s.now x h) (object_of o) c.in_ok-version.version.bytes _ h.kind (record h.meta { annotations = c.put_note.new.notes }) c.in_ok-made.made.fields e version both.0
-    ) c.remade.ensures
+    made_of (λ (x : ObjectView). IsPairOf c.args.all.now c.args.s.now x h) _ c.in_ok-version.version.bytes _ h.kind (record h.meta { annotations = c.put_note.new.notes }) c.in_ok-made.made.fields refl version both.0
 
 pub returns-clause-settled : goal.returns-clause-settled
 returns-clause-settled c =
@@ -53,6 +50,4 @@ returns-clause-settled c =
     let put : c.put_note.new.notes ≡ with_note hub_key own (without_field (spoke_key c.args.s.now.name) c.args.h.now.meta.annotations) = c.in_ok-put_note.ensures ∙ ap (λ (k : Name). with_note k own c.remove.new.self) c.hub_key.ensures ∙ ap (λ (ns : Texts). with_note hub_key own ns) left in
     let version = version_of c.group.result.now.bytes c.name.result.now.bytes c.args.all.now.group c.args.s.now.name c.in_ok-version.version.bytes c.in_ok-version.ensures c.group.ensures c.name.ensures in
     let both = forms c.given.ensures c.args.all.now c.requires.place.0 c.args.s.now c.items.ensures.definition c.requires.place.1 h c.in_ok-made.made.fields c.put_note.new.notes c.in_ok-made.made.kept c.in_ok-kept.kept own c.requires.whole c.len.ensures.order c.len-2.ensures.sound c.in_ok-kept.ensures c.in_ok-own.ensures put made in
-    if_ok (λ (o : Object). object_of o ≡ record { api_version = c.in_ok-version.version.bytes; kind = h.kind; meta = record h.meta { annotations = c.put_note.new.notes }; body = c.in_ok-made.made.fields }) (λ (o : Object). IsSettledAt c.args.all.now c.args.s.now (object_of o)) c.remade.result (
-    λ o e. made_of (IsSettledAt c.args.all.now c.args.s.now) (object_of o) c.in_ok-version.version.bytes _ h.kind (record h.meta { annotations = c.put_note.new.notes }) c.in_ok-made.made.fields e version both.1
-    ) c.remade.ensures
+    made_of (IsSettledAt c.args.all.now c.args.s.now) _ c.in_ok-version.version.bytes _ h.kind (record h.meta { annotations = c.put_note.new.notes }) c.in_ok-made.made.fields refl version both.1

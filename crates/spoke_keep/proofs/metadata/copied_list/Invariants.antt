@@ -1,6 +1,0 @@
-use Rattle.std.proofs.Common.{◌≡◌, take, map}
-use Rattle.kj_value.specs.Texts.{bytes_of}
-use Rattle.spoke_keep.proofs.metadata.copied_list.Given as goal
-
-abbrev pub invariant-loop-t : goal.invariant-loop-t
-invariant-loop-t l = l.copies ≡ map bytes_of (take l.t-index l.t-items)
