@@ -16,3 +16,4 @@ mod Keys
 mod PassedObjects
 mod Weights
 mod Results
+mod VersionTexts

@@ -1,20 +1,18 @@
 //! Whether a document is what the request's path asks for.
 ghost use Rattle.std.specs.Prelude.{◌≡◌, ◌<◌, IfOk, IfErr, option_map};
 ghost use Rattle.api_calls.specs.Versions.{Refused, request_of};
-ghost use Rattle.keep_laws.specs.Spokes.{api_version};
 ghost use Rattle.crd_meaning.specs.Definition.{count_of};
 ghost use Rattle.crd_meaning.specs.Request.{rows};
 ghost use Rattle.crd_admission.specs.Steps.{IsFirst, IsAsked, has_version, has_kind, has_namespace, has_name};
 
 use crate::fields::{in_metadata, is_absent_or, is_text};
+use crate::version_texts::is_version_text;
 use api_calls::{AdmitFault, Incoming, Why};
 use crd_loading::LoadedVersions;
-use kj_value::{JFields, NoMemory, Txt};
-use std::alloc::Global;
+use kj_value::{JFields, JVal};
 
 /// Nothing, where the version, the kind, the namespace and the name are those of the path, or else the first that isn't.
 pub(crate) fn judge_path(
-    alloc: Global,
     set: &LoadedVersions,
     input: &Incoming<'_>,
     fields: &JFields,
@@ -23,7 +21,7 @@ pub(crate) fn judge_path(
     ensures asked { IfOk result (λ _. IsAsked set.now (request_of input.now) fields.now) }
     ensures refused { IfErr result (Refused (IsFirst (rows set.now (request_of input.now) fields.now)) ⊥) }
 {
-    if !has_version(alloc, set, input.version, fields)? {
+    if !has_version(set, input.version, fields) {
         return Err(AdmitFault::BadRequest(Why::WrongVersion));
     }
     if !has_kind(set, fields) {
@@ -38,27 +36,22 @@ pub(crate) fn judge_path(
     Ok(())
 }
 
-// GROUP/VERSION
-fn version_text(alloc: Global, group: &Txt, version: &Txt) -> Result<Txt, NoMemory>
-    ensures { IfOk result (λ t. t.bytes ≡ api_version group.now.bytes version.now.bytes) }
-{
-    let mut text = String::from_str(alloc, group.as_str())?;
-    text.push_str("/")?;
-    text.push_str(version.as_str())?;
-    Ok(Txt::of_string(text))
-}
-
-fn has_version(
-    alloc: Global,
-    set: &LoadedVersions,
-    v: u8,
-    fields: &JFields,
-) -> Result<bool, NoMemory>
+fn has_version(set: &LoadedVersions, v: u8, fields: &JFields) -> bool
     requires { v < count_of set.now }
-    ensures { IfOk result (λ b. b ≡ has_version set.now v fields.now) }
+    ensures { result ≡ has_version set.now v fields.now }
 {
-    let wanted = version_text(alloc, set.definition().group(), &set.version(v).name)?;
-    Ok(is_text(fields.get("apiVersion"), wanted.as_str()))
+    let group = set.definition().group();
+    match fields.get("apiVersion") {
+        Some(JVal::Text(t)) => {
+            is_version_text(t.as_str(), group.as_str(), set.version(v).name.as_str())
+        }
+        None => false,
+        Some(JVal::Null) => false,
+        Some(JVal::Bool(_)) => false,
+        Some(JVal::Int(_)) => false,
+        Some(JVal::List(_)) => false,
+        Some(JVal::Obj(_)) => false,
+    }
 }
 
 fn has_kind(set: &LoadedVersions, fields: &JFields) -> bool

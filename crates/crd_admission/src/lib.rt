@@ -22,6 +22,7 @@ mod opening;
 mod passing;
 mod placing;
 mod taking;
+mod version_texts;
 
 // What an object measures.
 mod measured_meta;
@@ -40,3 +41,4 @@ pub use hubs::{Weighed, hub_value};
 pub use measuring::measure_within;
 pub use opening::{defaults_of, order_of};
 pub use passing::{Passed, pass};
+pub use version_texts::is_version_text;

@@ -52,7 +52,7 @@ fn judged(
     ensures rules { IfOk result (λ o. KeepsRules (meta_of o.meta)) }
     ensures refused { IfErr result (Refused (IsFirst (rows set.now (request_of input.now) fields)) ⊥) }
 {
-    judge_path(alloc, set, input, &fields)?;
+    judge_path(set, input, &fields)?;
     let o = submitted(alloc, set.definition().kind().as_str(), fields)?;
     judge_number(alloc, input.name.is_some(), &o)?;
     Ok(o)

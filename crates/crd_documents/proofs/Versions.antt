@@ -1,11 +1,9 @@
 -- The version that a text names.
-use Rattle.std.proofs.Common.{◌≡◌, ◌≢◌, ◌∙◌, ℕ, ◌<◌, List, ◌++◌, Bool, true, false, bytes_eq, Option, Some, None, refl, ap, sym}
+use Rattle.std.proofs.Common.{◌≡◌, ℕ, ◌<◌, List, Bool, true, false, bytes_eq, Option, Some, None}
 use Rattle.std.specs.Prelude.{MatchOption}
-use Rattle.std.proofs.lemmas.List.{append_cancel_left}
 use Rattle.std.proofs.lemmas.List.Elements.{All-from_get_or}
 use Rattle.std.proofs.lemmas.List.Folds.{list_any_none, list_any_at}
 use Rattle.std.proofs.lemmas.Slice.Eq.{bytes_eq-Decides}
-use Rattle.keep_laws.proofs.Fields.{bytes_other}
 use Rattle.kj_value.specs.Json.{text}
 use Rattle.object_reading.specs.Refusal.{is_given_text}
 use Rattle.crd_reading.specs.View.{VersionView}
@@ -13,22 +11,6 @@ use Rattle.keep_laws.specs.Spokes.{api_version}
 use Rattle.crd_meaning.specs.Definition.{Definition, no_version, count_of, version_at}
 use Rattle.crd_meaning.specs.Document.{is_version}
 use Rattle.crd_documents.specs.Steps.{IsNamedBy, IsNamed}
-
-one_test : (a b : Bool) → (a ≡ true → b ≡ true) → (b ≡ true → a ≡ true) → a ≡ b
-one_test true b f g = sym (f refl)
-one_test false false f g = refl
-one_test false true f g = g refl
-
--- a text that begins otherwise
-pub other_front : (s front rest : List ℕ) → ((r : List ℕ) → s ≢ front ++ r) → false ≡ bytes_eq s (front ++ rest)
-other_front s front rest h = sym (bytes_other s (front ++ rest) (h rest))
-
--- behind one front
-pub same_front : (s front r rest : List ℕ) → s ≡ front ++ r → bytes_eq r rest ≡ bytes_eq s (front ++ rest)
-same_front s front r rest e =
-    one_test (bytes_eq r rest) (bytes_eq s (front ++ rest))
-    (λ q. (bytes_eq-Decides s (front ++ rest)).1 (e ∙ ap (λ (t : List ℕ). front ++ t) ((bytes_eq-Decides r rest).0 q)))
-    (λ q. (bytes_eq-Decides r rest).1 (append_cancel_left front r rest (sym e ∙ (bytes_eq-Decides s (front ++ rest)).0 q)))
 
 -- ---- among the versions
 

@@ -1,11 +1,10 @@
 //! The version that a text names.
-ghost use Rattle.std.specs.Prelude.{◌≡◌, ◌<◌, ◌∷◌, false, true, MatchOption};
-ghost use Rattle.std.specs.Str.{bytes_eq};
-ghost use Rattle.keep_laws.specs.Spokes.{slash, api_version};
+ghost use Rattle.std.specs.Prelude.{◌≡◌, ◌<◌, false, true, MatchOption};
 ghost use Rattle.crd_meaning.specs.Definition.{count_of, version_at};
 ghost use Rattle.crd_meaning.specs.Document.{is_version};
 ghost use Rattle.crd_documents.specs.Steps.{IsNamedBy};
 
+use crd_admission::is_version_text;
 use crd_loading::LoadedVersions;
 
 /// The version whose group and name the text is, or `None` exactly where there is none. It takes no memory.
@@ -25,24 +24,4 @@ fn count(set: &LoadedVersions) -> u8
     ensures { result ≡ count_of set.now }
 {
     set.definition().versions().len() as u8
-}
-
-// GROUP/VERSION
-fn is_version_text(text: &str, group: &str, version: &str) -> bool
-    ensures { result ≡ bytes_eq text.now (api_version group.now version.now) }
-{
-    match text.as_bytes().strip_prefix(group.as_bytes()) {
-        Some(rest) => is_behind_slash(rest, version.as_bytes()),
-        None => false,
-    }
-}
-
-// /VERSION
-fn is_behind_slash(rest: &[u8], version: &[u8]) -> bool
-    ensures { result ≡ bytes_eq rest.now (slash ∷ version.now) }
-{
-    match rest.strip_prefix(b"/") {
-        Some(name) => name == version,
-        None => false,
-    }
 }

@@ -2,8 +2,8 @@ use Rattle.std.proofs.Common.{◌≡◌, ◌∙◌, ℕ, List, ◌∷◌, ◌++�
 use Rattle.std.proofs.lemmas.Bool.Decides.{Decides-eqb}
 use Rattle.std.proofs.lemmas.Slice.Eq.{strip_prefix_is}
 use Rattle.keep_laws.specs.Spokes.{slash}
-use Rattle.crd_documents.proofs.Versions.{other_front, same_front}
-use Rattle.crd_documents.proofs.naming.is_version_text.Goals as goal
+use Rattle.crd_admission.proofs.VersionTexts.{other_front, same_front}
+use Rattle.crd_admission.proofs.version_texts.is_version_text.Goals as goal
 
 pub returns-in-Some : goal.returns-in-Some
 returns-in-Some c =
