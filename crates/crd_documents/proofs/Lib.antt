@@ -1,6 +1,5 @@
 pub mod Versions
 pub mod Rows
-pub mod Unnamed
 pub mod Submitted
 pub mod Depths
 pub mod Standing

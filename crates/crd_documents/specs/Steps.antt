@@ -1,6 +1,6 @@
 -- For private clauses: what is known of a document on its way to another version.
-use Rattle.std.specs.Prelude.{◌≡◌, ℕ, ◌<◌, true, List, [], ◌∷◌, Option, None, Some, option_map, codes}
-use Rattle.kj_value.specs.Json.{Json, text, object, members_of}
+use Rattle.std.specs.Prelude.{◌≡◌, ℕ, ◌<◌, true, List, Option, None, Some, option_map, codes}
+use Rattle.kj_value.specs.Json.{Json}
 use Rattle.kj_value.specs.Fields.{Pairs, field}
 use Rattle.kube_meta.specs.View.{MetaView, ObjectView}
 use Rattle.object_reading.specs.Fields.{given, object_at}
@@ -36,15 +36,6 @@ pub record IsNamed (d : Definition) (v : ℕ) (o : Option Json) : Type 0 where
 -- as a document submits them, without the number
 abbrev pub numberless_meta : Pairs → MetaView
 numberless_meta ms = record (submitted_meta (meta_in ms)) { resource_version = None }
-
--- a text that is a name and a namespace
-unfoldable pub stand_in : List ℕ
-stand_in = codes "x"
-
--- a document that has these metadata and no other value
-abbrev pub bare_document : Pairs → Json
-bare_document ms = object (members_of (
-    (codes "apiVersion", text []) ∷ (codes "kind", text []) ∷ (codes "metadata", object (members_of ms)) ∷ []))
 
 -- what is told of the first field that breaks its rule, in a document with that value of `metadata`
 abbrev pub IsBadMetadata : Json → Fault → Type 0

@@ -1,18 +1,17 @@
 //! The metadata of a document, whose name and namespace aren't judged.
-ghost use Rattle.std.specs.Prelude.{◌≡◌, [], None, Some, IfOk, IfErr, OnOk, option_map, codes};
-ghost use Rattle.kj_value.specs.Fields.{field, with_field};
-ghost use Rattle.kj_value.specs.Json.{text};
+ghost use Rattle.std.specs.Prelude.{◌≡◌, [], None, Some, IfOk, IfErr, option_map, codes};
+ghost use Rattle.kj_value.specs.Fields.{field};
 ghost use Rattle.kj_value.specs.Seen.{json};
 ghost use Rattle.kube_meta.specs.View.{meta_of};
 ghost use Rattle.object_reading.specs.Fields.{given, object_at};
-ghost use Rattle.object_reading.specs.Parts.{meta_in, text_or_empty};
+ghost use Rattle.object_reading.specs.Parts.{text_or_empty};
 ghost use Rattle.object_reading.specs.Refusal.{bad_meta, first_holding, Tells};
 ghost use Rattle.crd_meaning.specs.Document.{judged_fields, judged_metadata};
-ghost use Rattle.crd_documents.specs.Steps.{bare_document, numberless_meta, stand_in};
+ghost use Rattle.crd_documents.specs.Steps.{numberless_meta};
 
 use kj_value::{JFields, JVal, NoMemory, Txt};
 use kube_meta::Meta;
-use object_reading::{ObjectFault, read_object};
+use object_reading::{ObjectFault, read_unnamed};
 use std::alloc::Global;
 
 /// The metadata that the value is, without the number and what a server sets; or `BadMeta` at the first of its fields that
@@ -40,72 +39,24 @@ fn no_object(alloc: Global) -> ObjectFault
     }
 }
 
-// The other fields are judged beside a name and a namespace that keep their rules; then those of the document are put back.
+// Fields of metadata without their number.
 fn read_fields(alloc: Global, fields: JFields) -> Result<Meta, ObjectFault>
     ensures nothing { IfOk result (λ _. first_holding (judged_fields fields) ≡ None) }
     ensures meta { IfOk result (λ m. meta_of m ≡ numberless_meta fields) }
     ensures refused { IfErr result (λ e. Tells e (first_holding (judged_fields fields))) }
 {
-    let mut unnamed = fields;
-    let name = text_or_empty(alloc, unnamed.remove("name"));
-    let namespace = text_or_empty(alloc, unnamed.remove("namespace"));
-    stand_in(alloc, &mut unnamed, "name")?;
-    stand_in(alloc, &mut unnamed, "namespace")?;
-    let document = bare_document(alloc, unnamed)?;
-    let object = read_object(alloc, document, "")?;
-    Ok(named(object.meta, name, namespace))
-}
-
-fn stand_in(alloc: Global, fields: &mut JFields, name: &str) -> Result<(), NoMemory>
-    ensures { OnOk result (fields.new ≡ with_field name.now (text stand_in) fields.old) }
-{
-    fields.set(Txt::of(alloc, name)?, JVal::Text(Txt::of(alloc, "x")?))
-}
-
-// A document that has these metadata and no other value.
-fn bare_document(alloc: Global, metadata: JFields) -> Result<JVal, NoMemory>
-    ensures { IfOk result (λ v. json v ≡ bare_document metadata) }
-{
-    let mut fields = JFields::new(alloc);
-    fields.set(Txt::of(alloc, "apiVersion")?, JVal::Text(empty(alloc)))?;
-    fields.set(Txt::of(alloc, "kind")?, JVal::Text(empty(alloc)))?;
-    fields.set(Txt::of(alloc, "metadata")?, JVal::Obj(metadata))?;
-    Ok(JVal::Obj(fields))
-}
-
-fn named(m: Meta, name: Txt, namespace: Txt) -> Meta
-    ensures { meta_of result ≡ record (meta_of m) {
-      name = name.bytes;
-      namespace = namespace.bytes;
-      resource_version = None;
-    } }
-{
-    let Meta {
-        name: _,
-        namespace: _,
-        labels,
-        annotations,
-        finalizers,
-        owners,
-        created,
-        deleted,
-        generation,
-        resource_version: _,
-        uid,
-    } = m;
-    Meta {
-        name,
-        namespace,
-        labels,
-        annotations,
-        finalizers,
-        owners,
-        created,
-        deleted,
-        generation,
-        resource_version: None,
-        uid,
+    match read_unnamed(alloc, fields) {
+        Ok(meta) => Ok(numberless(meta)),
+        Err(fault) => Err(fault),
     }
+}
+
+fn numberless(m: Meta) -> Meta
+    ensures { meta_of result ≡ record (meta_of m) { resource_version = None } }
+{
+    let mut rest = m;
+    rest.resource_version = None;
+    rest
 }
 
 /// The name that a value of `metadata` gives, or the empty text.

@@ -38,6 +38,16 @@ judged_fields ms =
     ∷ (bad_name, not (is_named (given (field (codes "name") ms))))
     ∷ []
 
+-- the same of metadata whose name and namespace aren't looked at
+abbrev pub judged_unnamed : Pairs → Judged
+judged_unnamed ms =
+    (bad_meta (codes "annotations"), not (field_keeps are_annotations (codes "annotations") ms))
+    ∷ (bad_meta (codes "finalizers"), not (field_keeps are_finalizers (codes "finalizers") ms))
+    ∷ (bad_meta (codes "labels"), not (field_keeps are_labels (codes "labels") ms))
+    ∷ (bad_meta (codes "ownerReferences"), not (field_keeps (is_list any_list) (codes "ownerReferences") ms))
+    ∷ (bad_meta (codes "resourceVersion"), not (field_keeps (is_text is_resource_version) (codes "resourceVersion") ms))
+    ∷ []
+
 -- metadata of another kind than an object are the field with the empty name
 abbrev pub judged_metadata : Option Json → Judged
 judged_metadata m = (bad_meta [], not (keeps (is_object any_object) m)) ∷ judged_fields (object_at m)

@@ -5,7 +5,7 @@ ghost use Rattle.kj_value.specs.Seen.{json};
 ghost use Rattle.kj_value.specs.Fields.{field};
 ghost use Rattle.object_reading.specs.Fields.{object_at};
 ghost use Rattle.object_reading.specs.Rules.{any_text};
-ghost use Rattle.object_reading.specs.Refusal.{Refusal, bad_meta, first_holding, judged_fields, judged_metadata, judged, is_given_text, Tells};
+ghost use Rattle.object_reading.specs.Refusal.{Refusal, bad_meta, first_holding, judged_fields, judged_unnamed, judged_metadata, judged, is_given_text, Tells};
 
 use crate::fault::ObjectFault;
 use crate::rules::{
@@ -97,6 +97,29 @@ fn judge_fields(alloc: Global, metadata: &JFields) -> Result<(), ObjectFault>
     }
     if !name_field_ok(given(metadata, "name")) {
         return Err(ObjectFault::BadName);
+    }
+    Ok(())
+}
+
+/// Nothing, where the fields keep the rules of metadata whose name and namespace aren't looked at, or else the first refusal.
+pub(crate) fn judge_unnamed(alloc: Global, metadata: &JFields) -> Result<(), ObjectFault>
+    ensures accepted { IfOk result (λ _. first_holding (judged_unnamed metadata.now) ≡ None) }
+    ensures refused { IfErr result (λ e. Tells e (first_holding (judged_unnamed metadata.now))) }
+{
+    if !annotations_ok(given(metadata, "annotations")) {
+        return Err(broken(alloc, "annotations"));
+    }
+    if !finalizers_ok(given(metadata, "finalizers")) {
+        return Err(broken(alloc, "finalizers"));
+    }
+    if !labels_ok(given(metadata, "labels")) {
+        return Err(broken(alloc, "labels"));
+    }
+    if !owners_ok(given(metadata, "ownerReferences")) {
+        return Err(broken(alloc, "ownerReferences"));
+    }
+    if !resource_version_field_ok(given(metadata, "resourceVersion")) {
+        return Err(broken(alloc, "resourceVersion"));
     }
     Ok(())
 }

@@ -60,7 +60,7 @@ pub(crate) fn submitted(o: Object) -> Object
     }
 }
 
-fn submitted_meta(m: Meta) -> Meta
+pub(crate) fn submitted_meta(m: Meta) -> Meta
     ensures { meta_of result ≡ submitted_meta (meta_of m) }
 {
     let Meta {
@@ -105,7 +105,7 @@ fn not_empty(text: Option<Txt>) -> Option<Txt>
     }
 }
 
-fn meta_of(alloc: Global, mut fields: JFields) -> Result<Meta, NoMemory>
+pub(crate) fn meta_of(alloc: Global, mut fields: JFields) -> Result<Meta, NoMemory>
     ensures submitted { IfOk result (λ m. submitted_meta (meta_of m) ≡ submitted_meta (meta_in fields)) }
     ensures whole { IfSome (meta_in fields).created IsMoment → IfSome (meta_in fields).deleted IsMoment
         → IfOk result (λ m. meta_of m ≡ meta_in fields) }

@@ -4,16 +4,16 @@ ghost use Rattle.kj_value.specs.Json.{object, members_of};
 ghost use Rattle.kj_value.specs.Seen.{json};
 ghost use Rattle.kube_meta.specs.View.{ObjectView, meta_of, object_of};
 ghost use Rattle.kube_meta.specs.Document.{document};
-ghost use Rattle.object_reading.specs.Refusal.{refusal, first_holding, judged, Tells};
-ghost use Rattle.object_reading.specs.Parts.{object_in, parts_in, submitted};
+ghost use Rattle.object_reading.specs.Refusal.{refusal, first_holding, judged, judged_unnamed, Tells};
+ghost use Rattle.object_reading.specs.Parts.{meta_in, object_in, parts_in, submitted, submitted_meta};
 ghost use Rattle.object_reading.specs.Written.{IsWritable, IsWritten};
 ghost use Rattle.object_reading.specs.Keeping.{KeepsRules};
 
 use crate::fault::ObjectFault;
-use crate::judging::judge;
-use crate::parts::{object_of, submitted};
+use crate::judging::{judge, judge_unnamed};
+use crate::parts::{meta_of, object_of, submitted, submitted_meta};
 use kj_value::{JFields, JVal, NoMemory};
-use kube_meta::Object;
+use kube_meta::{Meta, Object};
 use std::alloc::Global;
 
 /// The object of this kind that a document submits, whose parts are moved out of the document, or the first refusal in
@@ -47,6 +47,18 @@ fn read_fields(alloc: Global, fields: JFields, kind: &str) -> Result<Object, Obj
     judge(alloc, &fields, kind)?;
     let o = object_of(alloc, fields)?;
     Ok(submitted(o))
+}
+
+/// The metadata that these fields submit, whose parts are moved out of them, or the first refusal of them. Their name and
+/// their namespace aren't judged; what `read_object` passes over is passed over here too.
+pub fn read_unnamed(alloc: Global, fields: JFields) -> Result<Meta, ObjectFault>
+    ensures accepted { IfOk result (λ _. first_holding (judged_unnamed fields) ≡ None) }
+    ensures meta { IfOk result (λ m. meta_of m ≡ submitted_meta (meta_in fields)) }
+    ensures refused { IfErr result (λ e. Tells e (first_holding (judged_unnamed fields))) }
+{
+    judge_unnamed(alloc, &fields)?;
+    let m = meta_of(alloc, fields)?;
+    Ok(submitted_meta(m))
 }
 
 /// The object that a document was written of, its stamps, generation and uid included. Its parts are moved out of the
