@@ -1,4 +1,3 @@
 pub mod OneList
 pub mod Refused
 pub mod Steps
-pub mod Copies

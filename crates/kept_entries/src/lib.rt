@@ -22,4 +22,4 @@ pub use laws::one_list;
 pub use list::Kept;
 pub use order::{are_in_order, is_before};
 pub use reading::{KEPT_LEVELS, read_kept};
-pub use writing::{copy_fields, write_kept};
+pub use writing::write_kept;

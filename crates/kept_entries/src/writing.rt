@@ -8,7 +8,7 @@ ghost use Rattle.kept_entries.specs.Text.{IsKept, path_json, entry_json, kept_js
 use crate::entry::Entry;
 use crate::list::Kept;
 use crate::reading::KEPT_LEVELS;
-use kj_value::{JFields, JItems, JVal, NoMemory, TextList, Txt, copy, write};
+use kj_value::{JFields, JItems, JVal, NoMemory, TextList, Txt, write};
 use std::alloc::Global;
 
 /// The text of a list of entries that is at most `KEPT_LEVELS` deep. Where the entries are in order
@@ -36,7 +36,7 @@ fn entry_value(alloc: Global, e: &Entry) -> Result<JVal, NoMemory>
     ensures { IfOk result (λ v. json v ≡ entry_json e.now) }
 {
     let at = path_value(alloc, &e.at)?;
-    let was = copy_fields(alloc, &e.was)?;
+    let was = e.was.copied(alloc)?;
     let mut fields = JFields::new(alloc);
     fields.set(Txt::of(alloc, "at")?, at)?;
     fields.set(Txt::of(alloc, "was")?, JVal::Obj(was))?;
@@ -51,16 +51,4 @@ fn path_value(alloc: Global, path: &TextList) -> Result<JVal, NoMemory>
         items.push(JVal::Text(Txt::of(alloc, name.as_str())?))?;
     }
     Ok(JVal::List(items))
-}
-
-/// The same fields again, in memory of their own.
-pub fn copy_fields(alloc: Global, fields: &JFields) -> Result<JFields, NoMemory>
-    ensures { IfOk result (λ ms. ms ≡ fields.now) }
-{
-    let mut copies = JFields::new(alloc);
-    for f in fields.as_slice() {
-        let name = Txt::of(alloc, f.name.as_str())?;
-        copies.set(name, copy(alloc, &f.value)?)?;
-    }
-    Ok(copies)
 }

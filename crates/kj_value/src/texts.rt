@@ -71,6 +71,17 @@ impl TextList {
         self.texts
     }
 
+    /// The same texts again, in memory of their own.
+    pub fn copied(&self, alloc: Global) -> Result<TextList, NoMemory>
+        ensures { IfOk result (λ ts. ts ≡ self.now) }
+    {
+        let mut copies = TextList::with_room(alloc, self.len())?;
+        for t in self.as_slice() {
+            copies.push(Txt::of(alloc, t.as_str())?)?;
+        }
+        Ok(copies)
+    }
+
     /// Adds a text at the end. After an error the list is as it was.
     pub fn push(&mut self, x: Txt) -> Result<(), NoMemory>
         ensures ok { OnOk result (self.new ≡ self.old ++ x.bytes ∷ []) }
@@ -168,6 +179,19 @@ impl TextMap {
         ensures order { AreInOrder self }
     {
         self.fields
+    }
+
+    /// The same texts again, in memory of their own.
+    pub fn copied(&self, alloc: Global) -> Result<TextMap, NoMemory>
+        ensures { IfOk result (λ ts. ts ≡ self.now) }
+    {
+        let mut copies = Vec::with_capacity(alloc, self.len())?;
+        for t in self.as_slice() {
+            let name = Txt::of(alloc, t.name.as_str())?;
+            let value = Txt::of(alloc, t.value.as_str())?;
+            copies.push(TextField { name, value })?;
+        }
+        Ok(TextMap { fields: copies })
     }
 
     /// The text at a name.

@@ -1,19 +1,11 @@
 -- Fields that are put behind fields, by rising names.
-use Rattle.std.proofs.Common.{◌≡◌, ℕ, zero, suc, ◌<◌, List, [], ◌∷◌, ◌++◌, length, get_or, take, map, Option, Less, nat_cmp, sym, refl, ap, ◌∙◌, arith}
+use Rattle.std.proofs.Common.{◌≡◌, ℕ, List, [], ◌∷◌, ◌++◌, Option, Less, nat_cmp, refl, ap, ◌∙◌}
 use Rattle.std.specs.Ordering.{ordering_reverse}
 use Rattle.std.specs.Map.{keys_of}
 use Rattle.std.specs.Cmp.Lexicographic.{slice_cmp}
 use Rattle.std.proofs.lemmas.Cmp.{nat_list_cmp_total}
-use Rattle.kj_value.specs.Json.{Json, text, members_of}
-use Rattle.kj_value.specs.Sound.{AreRising}
+use Rattle.kj_value.specs.Json.{Json, text}
 use Rattle.kj_value.specs.Fields.{Pairs, with_field, IsBelowFirst, AreInOrder}
-use Rattle.std.proofs.Math.ListN.{get_or-map}
-use Rattle.std.proofs.lemmas.List.{length-map}
-use Rattle.kj_value.specs.Seen.{json}
-use Rattle.kj_value.specs.Pair.{pair_of}
-use Rattle.kj_value.specs.Texts.{text_pair}
-use Rattle.kj_value.specs.declared.value.Field.{Field}
-use Rattle.kj_value.specs.declared.texts.TextField.{TextField}
 use Rattle.kube_meta.specs.View.{Texts}
 use Rattle.kube_meta.specs.Document.{optional, text_fields}
 use Rattle.kube_meta.specs.Following.{IsAfter, Follows}
@@ -43,43 +35,6 @@ follows-behind k l v (e ∷ es) h a = (h.0, follows-behind k l v es h.1 a)
 
 pub follows-with : (k l : List ℕ) (v : Json) (es : Pairs) → Follows l es → IsAfter k l → Follows k (with_field l v es)
 follows-with k l v es h a = rw (with_field-behind l v es h) (follows-behind k l v es (follows_later k l es a h) a)
-
--- ---- a list that is copied field by field
-
-first_less : {V : Type 0} (l : List ℕ) (es : List (List ℕ × V)) (i : ℕ) (e : List ℕ × V) → IsBelowFirst l (keys_of es) → AreInOrder es → i < length es → slice_cmp nat_cmp l (get_or es i e).0 ≡ Less
-first_less l [] i e p h q = absurd (omega arith)
-first_less l (f ∷ es) zero e p h q = p
-first_less l (f ∷ []) (suc i) e p h q = absurd (omega arith)
-first_less l (f ∷ g ∷ es) (suc i) e p h q =
-    first_less l (g ∷ es) i e (nat_list_cmp_total.trans l f.0 g.0 p h.0) h.1 (omega arith)
-
-pub with_field-next : {V : Type 0} (es : List (List ℕ × V)) (i : ℕ) (e : List ℕ × V) → AreInOrder es → i < length es → with_field (get_or es i e).0 (get_or es i e).1 (take i es) ≡ take (suc i) es
-with_field-next [] i e h q = absurd (omega arith)
-with_field-next (f ∷ es) zero e h q = refl
-with_field-next {V} (f ∷ es) (suc i) e h q =
-    rw (after_less (get_or es i e).0 f.0 (first_less f.0 es i e h.0 h.1 (omega arith)))
-    (ap (λ (r : List (List ℕ × V)). f ∷ r) (with_field-next es i e h.1 (omega arith)))
-
-pub in_order-rising : (es : Pairs) → AreRising (members_of es) → AreInOrder es
-in_order-rising [] h = tt
-in_order-rising (e ∷ []) h = (tt, tt)
-in_order-rising (e ∷ f ∷ es) h = (h.0, in_order-rising (f ∷ es) h.2)
-
--- as the loop over an object's fields knows it
-pub copied_next : (fs : List Field) (es : Pairs) (i : ℕ) (f : Field) → map pair_of fs ≡ es → AreRising (members_of es) → i < length fs → f ≡ get_or fs i f → with_field f.name.bytes (json f.value) (take i (map pair_of fs)) ≡ take (suc i) (map pair_of fs)
-copied_next fs es i f same rises p q =
-    let found : get_or (map pair_of fs) i (pair_of f) ≡ pair_of f = get_or-map pair_of fs i f ∙ ap pair_of (sym q) in
-    let order : AreInOrder (map pair_of fs) = rw same (in_order-rising es rises) in
-    let within : i < length (map pair_of fs) = rw (length-map fs pair_of) p in
-    rw found at (with_field-next (map pair_of fs) i (pair_of f) order within)
-
--- as the loop over a map of texts knows it
-pub copied_texts_next : (fs : List TextField) (ts : Texts) (i : ℕ) (f : TextField) → map text_pair fs ≡ ts → AreInOrder ts → i < length fs → f ≡ get_or fs i f → with_field f.name.bytes f.value.bytes (take i (map text_pair fs)) ≡ take (suc i) (map text_pair fs)
-copied_texts_next fs ts i f same ordered p q =
-    let found : get_or (map text_pair fs) i (text_pair f) ≡ text_pair f = get_or-map text_pair fs i f ∙ ap text_pair (sym q) in
-    let order : AreInOrder (map text_pair fs) = rw same ordered in
-    let within : i < length (map text_pair fs) = rw (length-map fs text_pair) p in
-    rw found at (with_field-next (map text_pair fs) i (text_pair f) order within)
 
 -- ---- a map of texts that is moved field by field
 

@@ -4,20 +4,20 @@ ghost use Rattle.kj_value.specs.Texts.{bytes_of};
 ghost use Rattle.kube_meta.specs.View.{meta_of, object_of};
 
 use crate::object::{Meta, Object};
-use kj_value::{JFields, JItems, NoMemory, TextList, TextMap, Txt, copy};
+use kj_value::{NoMemory, TextMap, Txt};
 use std::alloc::Global;
 
 /// The same object, in memory of its own.
 pub fn copy_object(alloc: Global, o: &Object) -> Result<Object, NoMemory>
     ensures { IfOk result (λ p. object_of p ≡ object_of o.now) }
 {
-    let annotations = copy_texts(alloc, &o.meta.annotations)?;
+    let annotations = o.meta.annotations.copied(alloc)?;
     let meta = copy_meta(alloc, &o.meta, annotations)?;
     Ok(Object {
         api_version: Txt::of(alloc, o.api_version.as_str())?,
         kind: Txt::of(alloc, o.kind.as_str())?,
         meta,
-        body: copied_fields(alloc, &o.body)?,
+        body: o.body.copied(alloc)?,
     })
 }
 
@@ -29,50 +29,16 @@ pub fn copy_meta(alloc: Global, m: &Meta, annotations: TextMap) -> Result<Meta, 
     Ok(Meta {
         name: Txt::of(alloc, m.name.as_str())?,
         namespace: Txt::of(alloc, m.namespace.as_str())?,
-        labels: copy_texts(alloc, &m.labels)?,
+        labels: m.labels.copied(alloc)?,
         annotations,
-        finalizers: copied_list(alloc, &m.finalizers)?,
-        owners: copied_items(alloc, &m.owners)?,
+        finalizers: m.finalizers.copied(alloc)?,
+        owners: m.owners.copied(alloc)?,
         created: m.created,
         deleted: m.deleted,
         generation,
         resource_version: copied_text(alloc, &m.resource_version)?,
         uid: copied_text(alloc, &m.uid)?,
     })
-}
-
-/// The same texts by name, in memory of their own.
-pub fn copy_texts(alloc: Global, texts: &TextMap) -> Result<TextMap, NoMemory>
-    ensures { IfOk result (λ ts. ts ≡ texts.now) }
-{
-    let mut copies = TextMap::with_room(alloc, texts.len())?;
-    for t in texts.as_slice() {
-        copies.set(
-            Txt::of(alloc, t.name.as_str())?,
-            Txt::of(alloc, t.value.as_str())?,
-        )?;
-    }
-    Ok(copies)
-}
-
-fn copied_list(alloc: Global, texts: &TextList) -> Result<TextList, NoMemory>
-    ensures { IfOk result (λ ts. ts ≡ texts.now) }
-{
-    let mut copies = TextList::with_room(alloc, texts.len())?;
-    for t in texts.as_slice() {
-        copies.push(Txt::of(alloc, t.as_str())?)?;
-    }
-    Ok(copies)
-}
-
-fn copied_items(alloc: Global, items: &JItems) -> Result<JItems, NoMemory>
-    ensures { IfOk result (λ js. js ≡ items.now) }
-{
-    let mut copies = JItems::with_room(alloc, items.len())?;
-    for v in items.as_slice() {
-        copies.push(copy(alloc, v)?)?;
-    }
-    Ok(copies)
 }
 
 fn copied_text(alloc: Global, text: &Option<Txt>) -> Result<Option<Txt>, NoMemory>
@@ -82,14 +48,4 @@ fn copied_text(alloc: Global, text: &Option<Txt>) -> Result<Option<Txt>, NoMemor
         Some(text) => Ok(Some(Txt::of(alloc, text.as_str())?)),
         None => Ok(None),
     }
-}
-
-fn copied_fields(alloc: Global, fields: &JFields) -> Result<JFields, NoMemory>
-    ensures { IfOk result (λ ms. ms ≡ fields.now) }
-{
-    let mut copies = JFields::with_room(alloc, fields.len())?;
-    for f in fields.as_slice() {
-        copies.set(Txt::of(alloc, f.name.as_str())?, copy(alloc, &f.value)?)?;
-    }
-    Ok(copies)
 }

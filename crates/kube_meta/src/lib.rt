@@ -15,7 +15,7 @@ mod names;
 mod object;
 mod spot;
 
-pub use copying::{copy_meta, copy_object, copy_texts};
+pub use copying::{copy_meta, copy_object};
 pub use document::write_object;
 pub use key::{Key, NAME_BYTES, NAMESPACE_BYTES};
 pub use limits::{Condition, Limits, Room, RoomKind};

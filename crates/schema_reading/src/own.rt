@@ -12,7 +12,7 @@ ghost use Rattle.schema_reading.specs.OwnRead.{kind_or_any, number_of, choices_o
 use crate::keywords::format_of;
 use crate::kinds::{is_yes, node_kind, value_at};
 use crate::words::{Keyword, passed_type};
-use kj_value::{JFields, JItems, JVal, NoMemory, TextList, Txt, copy};
+use kj_value::{JFields, JItems, JVal, NoMemory, TextList, Txt};
 use std::alloc::Global;
 use struct_schema::{Choices, IntFormat, NodeKind, Required, Schema};
 
@@ -49,20 +49,10 @@ fn form_at(fields: &JFields) -> Option<IntFormat>
     }
 }
 
-fn copy_items(alloc: Global, items: &JItems) -> Result<JItems, NoMemory>
-    ensures { IfOk result (λ js. js ≡ items.now) }
-{
-    let mut copies = JItems::new(alloc);
-    for x in items.as_slice() {
-        copies.push(copy(alloc, x)?)?;
-    }
-    Ok(copies)
-}
-
 fn copy_choices(alloc: Global, items: &JItems) -> Result<Choices, NoMemory>
     ensures { IfOk result (λ js. js ≡ items.now) }
 {
-    let copies = copy_items(alloc, items)?;
+    let copies = items.copied(alloc)?;
     Ok(Choices::new(alloc, copies)?)
 }
 

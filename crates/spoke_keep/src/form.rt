@@ -17,7 +17,7 @@ use keep_bodies::{KeptBody, convert};
 use keep_laws::object_laws::given;
 use kept_entries::Kept;
 use kj_value::{JFields, NoMemory, TextMap, Txt};
-use kube_meta::{Object, copy_meta, copy_texts};
+use kube_meta::{Object, copy_meta};
 use std::alloc::Global;
 
 /// What an object of the hub becomes at a spoke: all but its kind and the rest of its metadata, which stay.
@@ -91,7 +91,7 @@ fn shape_for(alloc: Global, all: &Spokes, s: &Spoke, h: &Object) -> Result<Shape
     let made = convert(alloc, s.fitted(), Side::Hub, &h.body, &kept)?;
     let KeptBody { fields, kept: left } = made;
     let own = write_note(alloc, &left)?;
-    let mut notes = copy_texts(alloc, &h.meta.annotations)?;
+    let mut notes = h.meta.annotations.copied(alloc)?;
     let _ = notes.remove(s.key());
     put_note(alloc, hub_key(), own, &mut notes)?;
     let _ = notes.len();

@@ -43,6 +43,14 @@ impl Choices {
         Ok(Choices { values, places })
     }
 
+    /// The same values again, in memory of their own.
+    pub fn copied(&self, alloc: Global) -> Result<Choices, NoMemory>
+        ensures { IfOk result (λ c. c ≡ self.now) }
+    {
+        let values = self.values.copied(alloc)?;
+        Ok(Choices::new(alloc, values)?)
+    }
+
     /// The values in their order.
     pub fn as_slice(&self) -> &[JVal]
         ensures { map json result.now ≡ self.now }

@@ -1,54 +1,21 @@
 //! A schema again, in memory of its own.
 ghost use Rattle.std.specs.Prelude.{◌≡◌, IfOk, map, option_map};
 ghost use Rattle.kj_value.specs.Seen.{json};
-ghost use Rattle.kj_value.specs.Texts.{bytes_of};
 ghost use Rattle.struct_schema.specs.Shape.{map_of, maybe_of};
 ghost use Rattle.struct_schema.specs.ShapeOf.{shape_of, named_shape};
 
 use crate::choices::Choices;
-use crate::required::Required;
 use crate::schema::{Schema, SchemaBox, SchemaField, SchemaMap};
-use kj_value::{JItems, JVal, NoMemory, TextList, Txt, copy};
+use kj_value::{JVal, NoMemory, Txt, copy};
 use std::alloc::Global;
-
-// The values of `enum`.
-fn copy_items(alloc: Global, items: &[JVal]) -> Result<JItems, NoMemory>
-    ensures { IfOk result (λ js. js ≡ map json items.now) }
-{
-    let mut copies = JItems::new(alloc);
-    for x in items {
-        copies.push(copy(alloc, x)?)?;
-    }
-    Ok(copies)
-}
 
 fn copy_choices(alloc: Global, choices: &Option<Choices>) -> Result<Option<Choices>, NoMemory>
     ensures { IfOk result (λ o. o ≡ choices.now) }
 {
     match choices {
         None => Ok(None),
-        Some(choices) => {
-            let values = copy_items(alloc, choices.as_slice())?;
-            Ok(Some(Choices::new(alloc, values)?))
-        }
+        Some(choices) => Ok(Some(choices.copied(alloc)?)),
     }
-}
-
-fn copy_names(alloc: Global, names: &[Txt]) -> Result<TextList, NoMemory>
-    ensures { IfOk result (λ ns. ns ≡ map bytes_of names.now) }
-{
-    let mut copies = TextList::new(alloc);
-    for name in names {
-        copies.push(Txt::of(alloc, name.as_str())?)?;
-    }
-    Ok(copies)
-}
-
-fn copy_required(alloc: Global, required: &Required) -> Result<Required, NoMemory>
-    ensures { IfOk result (λ r. r ≡ required.now) }
-{
-    let names = copy_names(alloc, required.as_slice())?;
-    Ok(Required::new(alloc, names)?)
 }
 
 fn copy_default(alloc: Global, value: &Option<JVal>) -> Result<Option<JVal>, NoMemory>
@@ -66,7 +33,7 @@ pub fn copy_schema(alloc: Global, s: &Schema) -> Result<Schema, NoMemory>
     ensures { IfOk result (λ t. shape_of t ≡ shape_of s.now) }
 {
     let choices = copy_choices(alloc, &s.choices)?;
-    let required = copy_required(alloc, &s.required)?;
+    let required = s.required.copied(alloc)?;
     let properties = copy_properties(alloc, &s.properties)?;
     let additional = copy_node(alloc, &s.additional)?;
     let items = copy_node(alloc, &s.items)?;

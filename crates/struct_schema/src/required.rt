@@ -47,6 +47,14 @@ impl Required {
         Ok(Required { names, places })
     }
 
+    /// The same names again, in memory of their own.
+    pub fn copied(&self, alloc: Global) -> Result<Required, NoMemory>
+        ensures { IfOk result (λ r. r ≡ self.now) }
+    {
+        let names = self.names.copied(alloc)?;
+        Ok(Required::new(alloc, names)?)
+    }
+
     /// The names in their order.
     pub fn as_slice(&self) -> &[Txt]
         ensures { map bytes_of result.now ≡ self.now }

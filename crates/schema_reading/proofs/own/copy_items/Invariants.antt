@@ -1,6 +1,0 @@
-use Rattle.std.proofs.Common.{◌≡◌, take, map}
-use Rattle.kj_value.specs.Seen.{json}
-use Rattle.schema_reading.proofs.own.copy_items.Given as goal
-
-abbrev pub invariant-loop-x : goal.invariant-loop-x
-invariant-loop-x l = l.copies ≡ map json (take l.x-index l.x-items)
