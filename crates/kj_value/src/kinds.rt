@@ -14,11 +14,7 @@ impl JVal {
     {
         match self {
             JVal::Text(text) => Some(text.as_str()),
-            JVal::Null => None,
-            JVal::Bool(_) => None,
-            JVal::Int(_) => None,
-            JVal::List(_) => None,
-            JVal::Obj(_) => None,
+            _ => None,
         }
     }
 
@@ -29,11 +25,7 @@ impl JVal {
     {
         match self {
             JVal::List(items) => Some(items),
-            JVal::Null => None,
-            JVal::Bool(_) => None,
-            JVal::Int(_) => None,
-            JVal::Text(_) => None,
-            JVal::Obj(_) => None,
+            _ => None,
         }
     }
 
@@ -44,11 +36,7 @@ impl JVal {
     {
         match self {
             JVal::Obj(fields) => Some(fields),
-            JVal::Null => None,
-            JVal::Bool(_) => None,
-            JVal::Int(_) => None,
-            JVal::Text(_) => None,
-            JVal::List(_) => None,
+            _ => None,
         }
     }
 
@@ -58,11 +46,7 @@ impl JVal {
     {
         match self {
             JVal::Text(text) => Some(text),
-            JVal::Null => None,
-            JVal::Bool(_) => None,
-            JVal::Int(_) => None,
-            JVal::List(_) => None,
-            JVal::Obj(_) => None,
+            _ => None,
         }
     }
 
@@ -73,11 +57,7 @@ impl JVal {
     {
         match self {
             JVal::List(items) => Some(items),
-            JVal::Null => None,
-            JVal::Bool(_) => None,
-            JVal::Int(_) => None,
-            JVal::Text(_) => None,
-            JVal::Obj(_) => None,
+            _ => None,
         }
     }
 
@@ -88,11 +68,7 @@ impl JVal {
     {
         match self {
             JVal::Obj(fields) => Some(fields),
-            JVal::Null => None,
-            JVal::Bool(_) => None,
-            JVal::Int(_) => None,
-            JVal::Text(_) => None,
-            JVal::List(_) => None,
+            _ => None,
         }
     }
 }
