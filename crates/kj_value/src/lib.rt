@@ -31,5 +31,5 @@ pub use stamp::Stamp;
 pub use texts::{TextField, TextList, TextMap};
 pub use txt::Txt;
 pub use value::{Field, JFields, JItems, JVal};
-pub use walks::{copy, depth, same};
+pub use walks::{alike_items, copy, depth, same};
 pub use writing::write;

@@ -8,9 +8,9 @@ use Rattle.std.specs.Ordering.{int_eq}
 use Rattle.std.specs.Str.{bytes_eq}
 use Rattle.std.proofs.lemmas.Bool.Decides.{Decides-eqb}
 use Rattle.std.proofs.lemmas.Slice.Eq.{bytes_eq-Decides}
-use Rattle.kj_value.specs.Json.{Json}
-use Rattle.kj_value.specs.Same.{json_same}
-use Rattle.kj_value.specs.Sameness.{json_same-Decides}
+use Rattle.kj_value.specs.Json.{Json, items_of}
+use Rattle.kj_value.specs.Same.{json_same, items_same}
+use Rattle.kj_value.specs.Sameness.{json_same-Decides, items_same-Decides}
 use Rattle.struct_schema.specs.KindNumber.{kind_number, kind_back, kind_back-kind_number, format_number, format_back, format_back-format_number}
 use Rattle.struct_schema.specs.declared.kind.NodeKind.{NodeKind}
 use Rattle.struct_schema.specs.declared.kind.IntFormat.{IntFormat}
@@ -70,7 +70,7 @@ format_option_is a b e = option_is (λ f g. format_number f == format_number g) 
 
 choices_is : (a b : Option (List Json)) → same_choices a b ≡ true → a ≡ b
 choices_is a b e =
-    option_is (λ xs ys. all_same json_same xs ys) (λ xs ys q. all_is json_same (λ x y r. (json_same-Decides x y).0 r) xs ys q) a b e
+    option_is (λ xs ys. items_same (items_of xs) (items_of ys)) (λ xs ys q. (items_same-Decides xs ys).0 q) a b e
 
 names_is : (a b : List (List ℕ)) → all_same bytes_eq a b ≡ true → a ≡ b
 names_is a b e = all_is bytes_eq (λ x y q. (bytes_eq-Decides x y).0 q) a b e
@@ -90,7 +90,7 @@ bounds_refl o =
 
 parts_refl : (o : Own) → parts_same o o ≡ true
 parts_refl o =
-    and_true _ _ (and_true _ _ (and_true _ _ (option_refl (λ f g. format_number f == format_number g) (λ f. (Decides-eqb (format_number f) (format_number f)).1 refl) o.format) (option_refl (λ xs ys. all_same json_same xs ys) (all_refl json_same (λ x. (json_same-Decides x x).1 refl)) o.choices)) (all_refl bytes_eq (λ x. (bytes_eq-Decides x x).1 refl) o.required)) (option_refl json_same (λ x. (json_same-Decides x x).1 refl) o.default_value)
+    and_true _ _ (and_true _ _ (and_true _ _ (option_refl (λ f g. format_number f == format_number g) (λ f. (Decides-eqb (format_number f) (format_number f)).1 refl) o.format) (option_refl (λ xs ys. items_same (items_of xs) (items_of ys)) (λ xs. (items_same-Decides xs xs).1 refl) o.choices)) (all_refl bytes_eq (λ x. (bytes_eq-Decides x x).1 refl) o.required)) (option_refl json_same (λ x. (json_same-Decides x x).1 refl) o.default_value)
 
 own_refl : (o : Own) → own_same o o ≡ true
 own_refl o = and_true _ _ (and_true _ _ (kinds_refl o) (bounds_refl o)) (parts_refl o)

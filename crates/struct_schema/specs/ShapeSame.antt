@@ -4,8 +4,8 @@ use Rattle.std.specs.Bool.{beq}
 use Rattle.std.specs.Option.{option_eq}
 use Rattle.std.specs.Ordering.{int_eq}
 use Rattle.std.specs.Str.{bytes_eq}
-use Rattle.kj_value.specs.Json.{Json}
-use Rattle.kj_value.specs.Same.{json_same}
+use Rattle.kj_value.specs.Json.{Json, items_of}
+use Rattle.kj_value.specs.Same.{json_same, items_same}
 use Rattle.struct_schema.specs.KindNumber.{kind_number, format_number}
 use Rattle.struct_schema.specs.declared.kind.IntFormat.{IntFormat}
 use Rattle.struct_schema.specs.Shape.{Own, Shape, shape, Shapes, no_shapes, shape_at, MaybeShapes, no_map, some_map, MaybeShape, no_shape, some_shape}
@@ -30,7 +30,7 @@ abbrev pub same_format : Option IntFormat → Option IntFormat → Bool
 same_format a b = option_eq (λ f g. format_number f == format_number g) a b
 
 abbrev pub same_choices : Option (List Json) → Option (List Json) → Bool
-same_choices a b = option_eq (λ xs ys. all_same json_same xs ys) a b
+same_choices a b = option_eq (λ xs ys. items_same (items_of xs) (items_of ys)) a b
 
 abbrev pub same_default : Option Json → Option Json → Bool
 same_default a b = option_eq json_same a b

@@ -2,7 +2,6 @@
 ghost use Rattle.std.specs.Prelude.{◌≡◌, ◌↔◌, ◌&&◌, IsTrue, map, option_map};
 ghost use Rattle.std.specs.Str.{bytes_eq};
 ghost use Rattle.kj_value.specs.Seen.{json};
-ghost use Rattle.kj_value.specs.Same.{json_same};
 ghost use Rattle.kj_value.specs.Texts.{bytes_of};
 ghost use Rattle.struct_schema.specs.Shape.{map_of, maybe_of, shapes_of};
 ghost use Rattle.struct_schema.specs.ShapeOf.{shape_of, own_of, named_shape};
@@ -12,7 +11,7 @@ use crate::choices::Choices;
 use crate::keywords::alike;
 use crate::kind::{IntFormat, format_number, kind_number};
 use crate::schema::{Schema, SchemaBox, SchemaField, SchemaMap};
-use kj_value::{JVal, Txt};
+use kj_value::{JVal, Txt, alike_items};
 
 /// Whether two schemas say the same in every keyword, those inside of them too. The lists of `enum` and
 /// `required` count in their order. It takes no memory.
@@ -63,26 +62,12 @@ fn same_format(a: Option<IntFormat>, b: Option<IntFormat>) -> bool
     }
 }
 
-fn same_values(xs: &[JVal], ys: &[JVal]) -> bool
-    ensures { result ≡ all_same json_same (map json xs.now) (map json ys.now) }
-{
-    if xs.len() != ys.len() {
-        return false;
-    }
-    for i in 0..xs.len() {
-        if !alike(&xs[i], &ys[i]) {
-            return false;
-        }
-    }
-    true
-}
-
 fn same_choices(a: &Option<Choices>, b: &Option<Choices>) -> bool
     ensures { result ≡ same_choices a.now b.now }
 {
     match (a, b) {
         (None, None) => true,
-        (Some(x), Some(y)) => same_values(x.as_slice(), y.as_slice()),
+        (Some(x), Some(y)) => alike_items(x.as_slice(), y.as_slice()),
         (None, Some(_)) => false,
         (Some(_), None) => false,
     }
