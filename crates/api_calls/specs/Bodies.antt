@@ -1,7 +1,8 @@
 -- What the body of a request says where the definition has no part in it: the start of a migration (storagemigration.k8s.io/v1alpha1) and the options of a delete (DeleteOptions of meta/v1).
-use Rattle.std.specs.Prelude.{◌≡◌, ◌≢◌, ◌⊎◌, ℕ, true, false, List, [], ◌∷◌, Option, None, Some, codes}
-use Rattle.kj_value.specs.Json.{Json, null, boolean, whole, text, list, object, Members, no_members, member, members_of}
+use Rattle.std.specs.Prelude.{◌≡◌, ◌≢◌, ◌⊎◌, ℕ, true, false, List, [], Option, None, Some, codes}
+use Rattle.kj_value.specs.Json.{Json, null, boolean, whole, text, list, object, Members, members_of}
 use Rattle.kj_value.specs.Fields.{Pairs, field}
+use Rattle.kj_value.specs.Kinds.{pairs_of}
 use Rattle.kj_value.specs.Reading.{Reads}
 use Rattle.kj_value.specs.Fault.{IsRefusedJson}
 use Rattle.kj_value.specs.declared.reading.JsonFault.TheVariants.{NotJson, TooDeep, NotWhole}
@@ -43,8 +44,7 @@ IsNoDocument version kind body bad_options = ⊥
 
 -- the fields of an object; any other value is read as an object with none
 abbrev pub fields_of : Members → Pairs
-fields_of no_members = []
-fields_of (member k j ms) = (k, j) ∷ fields_of ms
+fields_of ms = pairs_of ms
 
 abbrev pub fields_in : Option Json → Pairs
 fields_in None = []

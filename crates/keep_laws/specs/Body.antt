@@ -1,7 +1,8 @@
 -- An object of one side as its fields and its entries, and the marks that it is read as.
 use Rattle.std.specs.Prelude.{List, [], ◌∷◌, ◌++◌, map, Option, Some, None}
-use Rattle.kj_value.specs.Json.{Json, null, boolean, whole, text, list, object, Members, no_members, member, members_of}
+use Rattle.kj_value.specs.Json.{Json, object, members_of}
 use Rattle.kj_value.specs.Fields.{Pairs, field}
+pub use Rattle.kj_value.specs.Kinds.{pairs_of, as_object}
 use Rattle.hub_cells.specs.Side.{Side, other}
 use Rattle.hub_cells.specs.Cell.{Tuple}
 use Rattle.hub_cells.specs.Level.{Cell, Level, level, Inners, no_inner, inner, names, named, cells_names, inner_names}
@@ -11,18 +12,6 @@ use Rattle.kept_entries.specs.declared.entry.Entry.{Entry}
 use Rattle.keep_laws.specs.Entry.{put, part, kept_of, inside, under, in_order}
 
 -- ---- from fields and entries to marks
-
-abbrev pub pairs_of : Members → Pairs
-pairs_of no_members = []
-pairs_of (member k j ms) = (k, j) ∷ pairs_of ms
-
-abbrev pub as_object : Json → Option Pairs
-as_object (object ms) = Some (pairs_of ms)
-as_object null = None
-as_object (boolean b) = None
-as_object (whole z) = None
-as_object (text s) = None
-as_object (list js) = None
 
 abbrev pub object_in : Option Json → Option Pairs
 object_in None = None

@@ -1,16 +1,13 @@
 -- The place of a key in a list by rising key.
 use Rattle.std.specs.Prelude.{ℕ, suc, List, [], ◌∷◌, Option, Result, Ok, Err, filter, not}
 use Rattle.std.specs.Ordering.{match_ordering}
+pub use Rattle.kj_value.specs.Fields.{next}
 use Rattle.kube_meta.specs.Key.{KeyView, key_cmp}
 use Rattle.kube_meta.specs.Page.{bound_after}
 use Rattle.kube_meta.specs.Plan.{passed}
 pub use Rattle.kube_meta.specs.ByKey.{IsBelowFirst, KeysRise, find, put, without}
 
 -- ---- for private clauses: the place of the key, as `Ok`, or the place where it would go, as `Err`
-
-abbrev pub next : Result ℕ ℕ → Result ℕ ℕ
-next (Ok i) = Ok (suc i)
-next (Err i) = Err (suc i)
 
 abbrev pub place : KeyView → List KeyView → Result ℕ ℕ
 place k [] = Err 0

@@ -1,6 +1,7 @@
 -- The keywords of one node, as its document spells them. A keyword that isn't there, or isn't allowed, says nothing.
 use Rattle.std.specs.Prelude.{ℕ, ℤ, List, [], ◌∷◌, Bool, Option, Some, None, is_none, filter}
 use Rattle.kj_value.specs.Json.{Json, whole, text, list, Items, no_items, item, Members}
+use Rattle.kj_value.specs.Kinds.{list_of}
 use Rattle.struct_schema.specs.Shape.{Own}
 use Rattle.struct_schema.specs.Names.{value_at}
 use Rattle.struct_schema.specs.declared.kind.NodeKind.{NodeKind}
@@ -19,12 +20,8 @@ abbrev pub number_of : Option Json → Option ℤ
 number_of (Some (whole z)) = Some z
 number_of _ = None
 
-abbrev pub listed : Items → List Json
-listed no_items = []
-listed (item j js) = j ∷ listed js
-
 abbrev pub choices_of : Option Json → Option (List Json)
-choices_of (Some (list js)) = Some (listed js)
+choices_of (Some (list js)) = Some (list_of js)
 choices_of _ = None
 
 abbrev pub form_of : Option Json → Option IntFormat

@@ -2,6 +2,7 @@
 use Rattle.std.specs.Prelude.{ℕ, ℤ, pos, ◌==◌, List, [], ◌∷◌, ◌++◌, Option, None, Some, option_map, codes, if◌then◌else◌}
 use Rattle.kj_value.specs.Json.{Json, null, boolean, whole, text, list, object}
 use Rattle.kj_value.specs.Fields.{Pairs}
+use Rattle.kj_value.specs.Kinds.{as_text}
 use Rattle.kube_meta.specs.View.{MetaView, ObjectView, stamp_bytes}
 use Rattle.versions_fixture.specs.declared.parts.Version.{Version}
 use Rattle.versions_fixture.specs.declared.parts.Version.TheVariants.{V1, V1beta1}
@@ -84,12 +85,7 @@ bare name value = record { name = name; namespace = []; created = None; deleted 
 -- ---- for private clauses: the text or the number that a field holds
 
 abbrev pub text_in : Json → Option (List ℕ)
-text_in null = None
-text_in (boolean b) = None
-text_in (whole z) = None
-text_in (text s) = Some s
-text_in (list js) = None
-text_in (object ms) = None
+text_in j = as_text j
 
 abbrev pub number_in : Option Json → ℤ
 number_in None = pos 0
