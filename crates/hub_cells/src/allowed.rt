@@ -11,7 +11,7 @@ ghost use Rattle.hub_cells.specs.Level.{is_word, allowed_at, all_allowed, allows
 use crate::cell::{Cell, Name, Names, Side, Tuple};
 use kj_value::{JVal, sound};
 use std::alloc::Global;
-use struct_schema::{Schema, check, is_filled};
+use struct_schema::{Schema, is_filled, is_valid};
 
 /// The levels of an object that is stored or sent: lists and objects that nest within it, itself
 /// counted.
@@ -22,15 +22,6 @@ fn is_word(v: &JVal)
     ensures { is_word (json v.now) ≡ true }
 {
     sound(v)
-}
-
-fn is_valid(alloc: Global, s: &Schema, v: &JVal) -> bool
-    ensures { result ≡ valid (shape_of s.now) (json v.now) }
-{
-    match check(alloc, s, v) {
-        Ok(()) => true,
-        Err(_) => false,
-    }
 }
 
 fn stays(s: &Schema, v: &JVal) -> bool

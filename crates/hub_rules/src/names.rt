@@ -3,7 +3,7 @@ ghost use Rattle.std.specs.Prelude.{◌≡◌, ◌||◌, ◌&&◌, not, [], ◌�
 ghost use Rattle.struct_schema.specs.Shape.{properties, shapes_of};
 ghost use Rattle.struct_schema.specs.ShapeOf.{shape_of, named_shape};
 ghost use Rattle.struct_schema.specs.ShapeSame.{shape_same};
-ghost use Rattle.struct_schema.specs.Fault.{or_else, lesser};
+ghost use Rattle.struct_schema.specs.Fault.{or_else};
 ghost use Rattle.hub_cells.specs.Side.{spoke, hub, other};
 ghost use Rattle.hub_cells.specs.Seen.{side};
 ghost use Rattle.hub_cells.specs.Fit.{has_name};
@@ -18,8 +18,7 @@ use crate::rules::Line;
 use crate::spot::{Spot, Why};
 use hub_cells::Side;
 use kj_value::Txt;
-use std::cmp::Ordering;
-use struct_schema::{Schema, SchemaField};
+use struct_schema::{Schema, SchemaField, lesser};
 
 fn is_name(name: &str, t: &Txt) -> bool
     ensures { result ≡ has_name name.now (t.now.bytes ∷ []) }
@@ -360,20 +359,6 @@ pub(crate) fn differing_spot<'a>(
 }
 
 // ---- required names that the schema doesn't have
-
-fn lesser<'a>(first: Option<&'a Txt>, name: &'a Txt) -> &'a Txt
-    ensures { Some result.now.bytes
-        ≡ lesser (option_map (λ t. t.now.bytes) first.entry) name.now.bytes }
-{
-    match first {
-        None => name,
-        Some(least) => match name.as_str().cmp(least.as_str()) {
-            Ordering::Less => name,
-            Ordering::Equal => least,
-            Ordering::Greater => least,
-        },
-    }
-}
 
 fn lost(s: &Schema) -> Option<&Txt>
     ensures { option_map (λ t. t.now.bytes) result ≡ lost (shape_of s.now) }

@@ -6,15 +6,13 @@ ghost use Rattle.kj_value.specs.Same.{json_same};
 ghost use Rattle.struct_schema.specs.Shape.{shape, plain, no_map, no_shape, maybe_of};
 ghost use Rattle.struct_schema.specs.ShapeOf.{shape_of, own_of};
 ghost use Rattle.struct_schema.specs.ShapeSame.{shape_same};
-ghost use Rattle.struct_schema.specs.Valid.{valid};
-ghost use Rattle.struct_schema.specs.Filled.{is_object};
 ghost use Rattle.hub_cells.specs.Fit.{is_required};
 ghost use Rattle.hub_rules.specs.Refusal.{node, is_there, node_at, or_any, default_at, lacks_default, is_text, is_whole, is_text_node, is_whole_node, is_closed, alike_required, is_null};
 
 use kj_value::{JVal, Txt, same};
 use std::alloc::Global;
 use std::marker::Model;
-use struct_schema::{NodeKind, Schema, check, equal};
+use struct_schema::{NodeKind, Schema, equal};
 
 /// A node that allows any value, for a name that a schema doesn't have.
 #[derive(Drop)]
@@ -117,15 +115,6 @@ pub(crate) fn alike(a: &JVal, b: &JVal) -> bool
     same(a, b)
 }
 
-pub(crate) fn is_valid(alloc: Global, s: &Schema, v: &JVal) -> bool
-    ensures { result ≡ valid (shape_of s.now) (json v.now) }
-{
-    match check(alloc, s, v) {
-        Ok(()) => true,
-        Err(_) => false,
-    }
-}
-
 pub(crate) fn is_null(v: &JVal) -> bool
     ensures { result ≡ is_null (json v.now) }
 {
@@ -136,20 +125,6 @@ pub(crate) fn is_null(v: &JVal) -> bool
         JVal::Text(_) => false,
         JVal::List(_) => false,
         JVal::Obj(_) => false,
-    }
-}
-
-fn is_object(kind: NodeKind) -> bool
-    ensures { result ≡ is_object kind }
-{
-    match kind {
-        NodeKind::Object => true,
-        NodeKind::Array => false,
-        NodeKind::Text => false,
-        NodeKind::Whole => false,
-        NodeKind::Truth => false,
-        NodeKind::IntOrText => false,
-        NodeKind::Any => false,
     }
 }
 
@@ -197,7 +172,7 @@ pub(crate) fn is_whole_node(s: &Schema) -> bool
 pub(crate) fn is_closed(s: &Schema) -> bool
     ensures { result ≡ is_closed (shape_of s.now) }
 {
-    is_object(s.kind)
+    s.kind.is_object()
         && s.properties.is_some()
         && !s.additional.is_some()
         && !s.preserve

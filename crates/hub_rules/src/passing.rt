@@ -17,14 +17,14 @@ use crate::bounds::{fits_i128, scale_fits};
 use crate::doubles::once;
 use crate::nodes::{
     AnyNode, alike, alike_nodes, alike_required, is_closed, is_null, is_required, is_text_node,
-    is_valid, is_whole_node, lacks_default, node_at,
+    is_whole_node, lacks_default, node_at,
 };
 use crate::rules::Line;
 use crate::spot::Why;
 use hub_cells::{Pair, PairItems, Side};
 use kj_value::{JVal, Txt};
 use std::alloc::Global;
-use struct_schema::{NodeKind, Schema};
+use struct_schema::{NodeKind, Schema, is_valid};
 
 fn schema_passes(line: &Line, spoke: &Schema, hub: &Schema, any: &AnyNode) -> bool
     ensures { result ≡ schema_passes (shape_of spoke.now) (shape_of hub.now) (rule line.now) }

@@ -6,7 +6,7 @@ ghost use Rattle.kj_value.specs.Sound.{IsSoundJson};
 ghost use Rattle.struct_schema.specs.Shape.{map_of, maybe_of, some_shape, items_shape};
 ghost use Rattle.struct_schema.specs.ShapeOf.{shape_of, own_of};
 ghost use Rattle.struct_schema.specs.Names.{is_name, shape_for, value_at};
-ghost use Rattle.struct_schema.specs.Filled.{Filled, NameFilled, RestFilled, ItemFilled, PresentFilled, EachItem, is_object, is_array, is_forbidden};
+ghost use Rattle.struct_schema.specs.Filled.{Filled, NameFilled, RestFilled, ItemFilled, PresentFilled, EachItem};
 ghost use Rattle.prune_default.specs.Missing.{or_value};
 ghost use Rattle.prune_default.specs.Size.{size, items_size, members_size, maybe_size, most_made};
 
@@ -14,7 +14,7 @@ use crate::defaults::set_defaults;
 use crate::room::{take_value, whole_room};
 use kj_value::{Field, JFields, JItems, JVal, NoMemory, Txt, copy, sound};
 use std::alloc::Global;
-use struct_schema::{NodeKind, Schema};
+use struct_schema::{Schema, is_forbidden};
 
 /// What the value becomes where names that the schema doesn't know are pruned, nulls that it doesn't allow are taken
 /// out, and defaults are set. What stays is moved and not copied; only defaults and their names are copied, and of these no
@@ -44,61 +44,19 @@ fn fill_value(alloc: Global, s: &Schema, v: JVal, room: &mut u64) -> Result<JVal
         JVal::Int(n) => Ok(JVal::Int(n)),
         JVal::Text(t) => Ok(JVal::Text(t)),
         JVal::List(items) => {
-            if is_array(s.kind) {
+            if s.kind.is_array() {
                 Ok(JVal::List(fill_list(alloc, s, items, room)?))
             } else {
                 Ok(JVal::List(items))
             }
         }
         JVal::Obj(fields) => {
-            if is_object(s.kind) {
+            if s.kind.is_object() {
                 Ok(JVal::Obj(fill_object(alloc, s, fields, room)?))
             } else {
                 Ok(JVal::Obj(fields))
             }
         }
-    }
-}
-
-fn is_object(kind: NodeKind) -> bool
-    ensures { result ≡ is_object kind }
-{
-    match kind {
-        NodeKind::Object => true,
-        NodeKind::Array => false,
-        NodeKind::Text => false,
-        NodeKind::Whole => false,
-        NodeKind::Truth => false,
-        NodeKind::IntOrText => false,
-        NodeKind::Any => false,
-    }
-}
-
-fn is_array(kind: NodeKind) -> bool
-    ensures { result ≡ is_array kind }
-{
-    match kind {
-        NodeKind::Object => false,
-        NodeKind::Array => true,
-        NodeKind::Text => false,
-        NodeKind::Whole => false,
-        NodeKind::Truth => false,
-        NodeKind::IntOrText => false,
-        NodeKind::Any => false,
-    }
-}
-
-// Whether the value is a null that the node doesn't allow.
-fn is_forbidden(node: &Schema, v: &JVal) -> bool
-    ensures { result ≡ is_forbidden (own_of node.now) (json v.now) }
-{
-    match v {
-        JVal::Null => !node.nullable,
-        JVal::Bool(_) => false,
-        JVal::Int(_) => false,
-        JVal::Text(_) => false,
-        JVal::List(_) => false,
-        JVal::Obj(_) => false,
     }
 }
 

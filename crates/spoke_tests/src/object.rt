@@ -20,7 +20,7 @@ use object_reading::read_object;
 use prune_default::fill;
 use spoke_keep::{Spoke, Spokes};
 use std::alloc::Global;
-use struct_schema::{Schema, check, is_filled};
+use struct_schema::{Schema, is_filled, is_valid};
 
 /// The object of this kind that the text is at place `v`, or with no place at the hub, once it is pruned and
 /// filled. There is none where the text isn't JSON of at most 100 levels, is no object of that kind and of that
@@ -167,15 +167,6 @@ fn is_body(alloc: Global, s: &Schema, names: u32, v: &JVal) -> bool
         return false;
     }
     is_filled(s, v)
-}
-
-fn is_valid(alloc: Global, s: &Schema, v: &JVal) -> bool
-    ensures { result ≡ valid (shape_of s.now) (json v.now) }
-{
-    match check(alloc, s, v) {
-        Ok(()) => true,
-        Err(_) => false,
-    }
 }
 
 // Whether the value is within the levels of an object, with so many names leading to it.

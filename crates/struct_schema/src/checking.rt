@@ -33,6 +33,16 @@ pub fn check(alloc: Global, s: &Schema, v: &JVal) -> Result<(), CheckFault>
     }
 }
 
+/// Whether the schema allows the value. A yes takes no memory.
+pub fn is_valid(alloc: Global, s: &Schema, v: &JVal) -> bool
+    ensures { result ≡ valid (shape_of s.now) (json v.now) }
+{
+    match check(alloc, s, v) {
+        Ok(()) => true,
+        Err(_) => false,
+    }
+}
+
 // The node's own keywords, but for `required`.
 fn own_fault(alloc: Global, s: &Schema, v: &JVal) -> Result<(), Stop>
     ensures { MatchResult result (λ _. own_fault (own_of s.now) (json v.now) ≡ None)

@@ -6,11 +6,10 @@ ghost use Rattle.kj_value.specs.Pair.{pair_of};
 ghost use Rattle.struct_schema.specs.Shape.{map_of, items_shape, some_shape, shapes_of};
 ghost use Rattle.struct_schema.specs.ShapeOf.{shape_of, own_of, named_shape};
 ghost use Rattle.struct_schema.specs.Names.{shape_for, value_at};
-ghost use Rattle.struct_schema.specs.Filled.{Filled, is_object, is_array, is_forbidden};
+ghost use Rattle.struct_schema.specs.Filled.{Filled, is_forbidden};
 ghost use Rattle.struct_schema.specs.Stays.{stays, items_stay, names_stay, item_stays, name_stays, item_null, name_null, defaults_there, each_default};
 
 use crate::keywords::{alike, is_missing};
-use crate::kind::NodeKind;
 use crate::schema::{Schema, SchemaField, SchemaMap};
 use kj_value::{Field, JFields, JItems, JVal, sound};
 
@@ -23,36 +22,8 @@ pub fn is_filled(s: &Schema, v: &JVal) -> bool
     stays(s, v)
 }
 
-fn is_object(kind: NodeKind) -> bool
-    ensures { result ≡ is_object kind }
-{
-    match kind {
-        NodeKind::Object => true,
-        NodeKind::Array => false,
-        NodeKind::Text => false,
-        NodeKind::Whole => false,
-        NodeKind::Truth => false,
-        NodeKind::IntOrText => false,
-        NodeKind::Any => false,
-    }
-}
-
-fn is_array(kind: NodeKind) -> bool
-    ensures { result ≡ is_array kind }
-{
-    match kind {
-        NodeKind::Object => false,
-        NodeKind::Array => true,
-        NodeKind::Text => false,
-        NodeKind::Whole => false,
-        NodeKind::Truth => false,
-        NodeKind::IntOrText => false,
-        NodeKind::Any => false,
-    }
-}
-
-// Whether the value is a null that the node doesn't allow.
-fn is_forbidden(s: &Schema, v: &JVal) -> bool
+/// Whether the value is a null that the node doesn't allow. It takes no memory.
+pub fn is_forbidden(s: &Schema, v: &JVal) -> bool
     ensures { result ≡ is_forbidden (own_of s.now) (json v.now) }
 {
     match v {
@@ -142,14 +113,14 @@ fn stays(s: &Schema, v: &JVal) -> bool
         JVal::Int(_) => true,
         JVal::Text(_) => true,
         JVal::List(items) => {
-            if is_array(s.kind) {
+            if s.kind.is_array() {
                 list_stays(s, items)
             } else {
                 true
             }
         }
         JVal::Obj(fields) => {
-            if is_object(s.kind) {
+            if s.kind.is_object() {
                 object_stays(s, fields)
             } else {
                 true

@@ -185,8 +185,8 @@ pub(crate) fn is_missing(fields: &JFields, name: &str) -> bool
     }
 }
 
-// The lesser of two names, by bytes.
-fn lesser<'a>(first: Option<&'a Txt>, name: &'a Txt) -> &'a Txt
+/// The lesser of two names, by bytes, or the one where there is no other. It takes no memory.
+pub fn lesser<'a>(first: Option<&'a Txt>, name: &'a Txt) -> &'a Txt
     ensures { Some result.now.bytes
         ≡ lesser (option_map (λ t. t.now.bytes) first.entry) name.now.bytes }
 {

@@ -1,6 +1,7 @@
 //! The kinds of a schema's node, and the formats of its whole numbers.
 ghost use Rattle.std.specs.Prelude.{◌≡◌};
 ghost use Rattle.struct_schema.specs.KindNumber.{kind_number, format_number};
+ghost use Rattle.struct_schema.specs.Filled.{is_object, is_array};
 
 /// What a node asks of a value's kind: the keyword `type`, or one of the two nodes without it.
 #[derive(Clone, Copy, Debug, PartialEq, Eq, Drop)]
@@ -19,6 +20,22 @@ pub enum NodeKind {
     IntOrText,
     /// `x-kubernetes-preserve-unknown-fields: true` and no `type`: any value.
     Any,
+}
+
+impl NodeKind {
+    /// Whether the node asks for an object.
+    pub fn is_object(self) -> bool
+        ensures { result ≡ is_object self }
+    {
+        matches!(self, NodeKind::Object)
+    }
+
+    /// Whether the node asks for a list.
+    pub fn is_array(self) -> bool
+        ensures { result ≡ is_array self }
+    {
+        matches!(self, NodeKind::Array)
+    }
 }
 
 /// The keyword `format` of a whole number.

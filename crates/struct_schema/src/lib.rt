@@ -25,11 +25,12 @@ mod required;
 mod schema;
 mod trouble;
 
-pub use checking::check;
+pub use checking::{check, is_valid};
 pub use choices::Choices;
 pub use copies::copy_schema;
 pub use equality::equal;
-pub use filling::is_filled;
+pub use filling::{is_filled, is_forbidden};
+pub use keywords::lesser;
 pub use kind::{IntFormat, NodeKind};
 pub use laws::faults;
 pub use places::{Place, Places, find_in};
