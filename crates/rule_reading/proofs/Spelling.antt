@@ -18,7 +18,7 @@ use Rattle.rule_reading.specs.Tried.{under_name, under_item, as_read, both, with
 use Rattle.rule_reading.specs.Shapes.{field_at, at_name, named_value, read_in, field_read, beyond, ended, text_read, two_items, two_read, names_read, scalar_read, pair_read, pairs_from, pairs_read, is_factor, factor_of, factor_read}
 use Rattle.rule_reading.specs.RuleRead.{rule_size, rules_size, same_read, spoke_only_read, hub_only_read, split_read, table_read, scale_read, plain_read, within_by, rule_by, rule_read, within_read, rules_read, rules_from}
 use Rattle.rule_reading.specs.SetRead.{Spoke, spoke_read, spokes_from, spokes_read, spokes_after, set_read}
-use Rattle.rule_reading.specs.Written.{two, two_texts, pair_items, one_field, two_fields, table_fields, rule_document, rule_items, spoke_members, set_document, IsScalar, AreScalars, IsRegular, AreRegular, AreRules, AreSpokes, Spells}
+use Rattle.rule_reading.specs.Written.{two, two_texts, pair_items, one_field, two_fields, table_fields, rule_document, rule_items, spoke_members, set_document, IsPlainScalar, ArePlainScalars, IsRegular, AreRegular, AreRules, AreSpokes, Spells}
 use Rattle.rule_reading.specs.declared.rules.TheConstants.{MAX_RULES}
 use Rattle.rule_reading.specs.declared.words.Word.{Word}
 use Rattle.rule_reading.specs.declared.words.Word.TheVariants as w
@@ -129,15 +129,15 @@ names_is j p e =
     let b : h.1 ≡ text p.1 = text_is h.1 p.1 h.4 in
     h.2 ∙ ap (λ (x : Json). two x h.1) a ∙ ap (λ (x : Json). two (text p.0) x) b
 
-scalar_is : (j k : Json) → scalar_read j ≡ Ok k → (j ≡ k) × IsScalar k
-scalar_is null k e = let s : null ≡ k = cc in (s, subst IsScalar s tt)
-scalar_is (boolean b) k e = let s : boolean b ≡ k = cc in (s, subst IsScalar s tt)
-scalar_is (whole z) k e = let s : whole z ≡ k = cc in (s, subst IsScalar s tt)
-scalar_is (text t) k e = let s : text t ≡ k = cc in (s, subst IsScalar s tt)
+scalar_is : (j k : Json) → scalar_read j ≡ Ok k → (j ≡ k) × IsPlainScalar k
+scalar_is null k e = let s : null ≡ k = cc in (s, subst IsPlainScalar s tt)
+scalar_is (boolean b) k e = let s : boolean b ≡ k = cc in (s, subst IsPlainScalar s tt)
+scalar_is (whole z) k e = let s : whole z ≡ k = cc in (s, subst IsPlainScalar s tt)
+scalar_is (text t) k e = let s : text t ≡ k = cc in (s, subst IsPlainScalar s tt)
 scalar_is (list js) k e = absurd (cc)
 scalar_is (object ms) k e = absurd (cc)
 
-scalar_read_back : (j : Json) → IsScalar j → scalar_read j ≡ Ok j
+scalar_read_back : (j : Json) → IsPlainScalar j → scalar_read j ≡ Ok j
 scalar_read_back null h = refl
 scalar_read_back (boolean b) h = refl
 scalar_read_back (whole z) h = refl
@@ -145,8 +145,8 @@ scalar_read_back (text t) h = refl
 scalar_read_back (list js) h = absurd h
 scalar_read_back (object ms) h = absurd h
 
-pairs_are : (i : ℕ) (js : Items) (ps : List (Json × Json)) → pairs_from i js ≡ Ok ps → (js ≡ pair_items ps) × AreScalars ps
-pairs_are i no_items ps e = let s : [] ≡ ps = cc in (ap pair_items s, subst AreScalars s tt)
+pairs_are : (i : ℕ) (js : Items) (ps : List (Json × Json)) → pairs_from i js ≡ Ok ps → (js ≡ pair_items ps) × ArePlainScalars ps
+pairs_are i no_items ps e = let s : [] ≡ ps = cc in (ap pair_items s, subst ArePlainScalars s tt)
 pairs_are i (item j js) ps e =
     let m = ok_more (under_item i (pair_read j)) (λ p. pairs_from (suc i) js) ps e in
     let t = two_is scalar_read j m.0 (ok_item i (pair_read j) m.0 m.2) in
@@ -154,9 +154,9 @@ pairs_are i (item j js) ps e =
     let b = scalar_is t.1 m.0.1 t.4 in
     let rest = pairs_are (suc i) js m.1 m.3 in
     let here : j ≡ two m.0.0 m.0.1 = t.2 ∙ ap (λ (x : Json). two x t.1) a.0 ∙ ap (λ (x : Json). two m.0.0 x) b.0 in
-    (ap (λ (x : Json). item x js) here ∙ ap (λ (x : Items). item (two m.0.0 m.0.1) x) rest.0 ∙ ap pair_items m.4, subst AreScalars m.4 (a.1, b.1, rest.1))
+    (ap (λ (x : Json). item x js) here ∙ ap (λ (x : Items). item (two m.0.0 m.0.1) x) rest.0 ∙ ap pair_items m.4, subst ArePlainScalars m.4 (a.1, b.1, rest.1))
 
-listed_pairs : (j : Json) (ps : List (Json × Json)) → pairs_read j ≡ Ok ps → (j ≡ list (pair_items ps)) × AreScalars ps
+listed_pairs : (j : Json) (ps : List (Json × Json)) → pairs_read j ≡ Ok ps → (j ≡ list (pair_items ps)) × ArePlainScalars ps
 listed_pairs null ps e = absurd (cc)
 listed_pairs (boolean b) ps e = absurd (cc)
 listed_pairs (whole z) ps e = absurd (cc)
@@ -164,7 +164,7 @@ listed_pairs (text t) ps e = absurd (cc)
 listed_pairs (list js) ps e = let h = pairs_are 0 js ps e in (ap (λ (x : Items). list x) h.0, h.1)
 listed_pairs (object ms) ps e = absurd (cc)
 
-pairs_read_back : (i : ℕ) (ps : List (Json × Json)) → AreScalars ps → pairs_from i (pair_items ps) ≡ Ok ps
+pairs_read_back : (i : ℕ) (ps : List (Json × Json)) → ArePlainScalars ps → pairs_from i (pair_items ps) ≡ Ok ps
 pairs_read_back i [] h = refl
 pairs_read_back i (p ∷ ps) h =
     let P : Type 0 = List (Json × Json) in
@@ -234,7 +234,7 @@ two_fields_are x y f g ms p last e =
         ap (λ (t : Members). field_at 2 t) q ∙ ap (λ (t : Members). field_at 1 t) r
 
 -- an object of four names
-table_is : (ms : Members) (r : Rule) → table_read (object ms) ≡ Ok r → (a : Name) × (b : Name) × (ps : List (Json × Json)) × (x : Json) × (y : Json) × (r ≡ table a b ps x y) × (ms ≡ table_fields a b ps x y) × (AreScalars ps × IsScalar x × IsScalar y)
+table_is : (ms : Members) (r : Rule) → table_read (object ms) ≡ Ok r → (a : Name) × (b : Name) × (ps : List (Json × Json)) × (x : Json) × (y : Json) × (r ≡ table a b ps x y) × (ms ≡ table_fields a b ps x y) × (ArePlainScalars ps × IsPlainScalar x × IsPlainScalar y)
 table_is ms r e =
     let h = ok_ended (beyond (field_at 4 ms)) _ r e in
     let s = ok_as (λ (p : Json × ((Name × Name) × (List (Json × Json) × Json))). table p.1.0.0 p.1.0.1 p.1.1.0 p.1.1.1 p.0) _ r h.1 in
@@ -559,7 +559,7 @@ table_by : (a b : Name) (ps : List (Json × Json)) (x y : Json) → plain_read (
 unfolding word
 table_by a b ps x y = refl
 
-table_back : (a b : Name) (ps : List (Json × Json)) (x y : Json) → AreScalars ps → IsScalar x → IsScalar y → plain_read (word w.Table) (object (table_fields a b ps x y)) ≡ Ok (table a b ps x y)
+table_back : (a b : Name) (ps : List (Json × Json)) (x y : Json) → ArePlainScalars ps → IsPlainScalar x → IsPlainScalar y → plain_read (word w.Table) (object (table_fields a b ps x y)) ≡ Ok (table a b ps x y)
 table_back a b ps x y p q r =
     table_by a b ps x y ∙ ap (λ (z : Result Json Path). table_of a b z (pairs_from 0 (pair_items ps)) (scalar_read x)) (scalar_read_back y r) ∙ ap (λ (z : Result (List (Json × Json)) Path). table_of a b (Ok y) z (scalar_read x)) (pairs_read_back 0 ps p)
     ∙ ap (λ (z : Result Json Path). table_of a b (Ok y) (Ok ps) z) (scalar_read_back x q)

@@ -57,17 +57,18 @@ set_document s = two_fields w.Hub (text s.0) w.Spokes (object (spoke_members s.1
 
 -- ---- the rules that have a document
 
-abbrev pub IsScalar : Json → Type 0
-IsScalar null = Unit {0}
-IsScalar (boolean b) = Unit {0}
-IsScalar (whole z) = Unit {0}
-IsScalar (text s) = Unit {0}
-IsScalar (list js) = ⊥
-IsScalar (object ms) = ⊥
+-- null, a truth value, a whole number of any size or a text
+abbrev pub IsPlainScalar : Json → Type 0
+IsPlainScalar null = Unit {0}
+IsPlainScalar (boolean b) = Unit {0}
+IsPlainScalar (whole z) = Unit {0}
+IsPlainScalar (text s) = Unit {0}
+IsPlainScalar (list js) = ⊥
+IsPlainScalar (object ms) = ⊥
 
-abbrev pub AreScalars : List (Json × Json) → Type 0
-AreScalars [] = Unit {0}
-AreScalars (p ∷ ps) = IsScalar p.0 × IsScalar p.1 × AreScalars ps
+abbrev pub ArePlainScalars : List (Json × Json) → Type 0
+ArePlainScalars [] = Unit {0}
+ArePlainScalars (p ∷ ps) = IsPlainScalar p.0 × IsPlainScalar p.1 × ArePlainScalars ps
 
 -- a table lists scalars, and a factor is from 2 to 1,000,000,000
 abbrev mutual
@@ -77,7 +78,7 @@ abbrev mutual
   IsRegular (spoke_only a) = Unit {0}
   IsRegular (hub_only b) = Unit {0}
   IsRegular (split a b c) = Unit {0}
-  IsRegular (table a b ps x y) = AreScalars ps × IsScalar x × IsScalar y
+  IsRegular (table a b ps x y) = ArePlainScalars ps × IsPlainScalar x × IsPlainScalar y
   IsRegular (scale a b k) = (2 ≤ k) × (k ≤ 1000000000)
 
   pub AreRegular : Rules → Type 0
