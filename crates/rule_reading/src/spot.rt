@@ -1,11 +1,12 @@
 //! The path of what is refused, built on the way out.
-ghost use Rattle.std.specs.Prelude.{◌≡◌, ◌++◌, IfOk, codes, decimal};
+ghost use Rattle.std.specs.Prelude.{◌≡◌, ◌++◌, IfOk};
 ghost use Rattle.struct_schema.specs.Path.{point};
 ghost use Rattle.struct_schema.specs.PathText.{here, in_name, in_item};
 ghost use Rattle.rule_reading.specs.Told.{path_of};
 
 use kj_value::{NoMemory, Txt};
 use std::alloc::Global;
+use struct_schema::{item_step, step_before};
 
 // The path of what is refused, and whether it begins with a name.
 #[derive(Drop)]
@@ -27,25 +28,13 @@ pub(crate) fn here(alloc: Global) -> Spot
     }
 }
 
-// What stands before the rest of a path.
-fn point(named: bool) -> &'static str
-    ensures { result.now ≡ point named }
-{
-    if named { "." } else { "" }
-}
-
 fn stepped(alloc: Global, step: &str, named: bool, inner: Spot) -> Result<Spot, NoMemory>
     ensures path { IfOk result (λ s. s.path.bytes
         ≡ step.now ++ point inner.named ++ inner.path.bytes) }
     ensures named { IfOk result (λ s. s.named ≡ named) }
 {
-    let mut text = String::from_str(alloc, step)?;
-    text.push_str(point(inner.named))?;
-    text.push_str(inner.path.as_str())?;
-    Ok(Spot {
-        path: Txt::of_string(text),
-        named,
-    })
+    let path = step_before(alloc, step, inner.named, inner.path.as_str())?;
+    Ok(Spot { path, named })
 }
 
 // One name further out.
@@ -55,16 +44,10 @@ pub(crate) fn in_name(alloc: Global, name: &str, inner: Spot) -> Result<Spot, No
     stepped(alloc, name, true, inner)
 }
 
-fn brackets(alloc: Global, i: usize) -> Result<Txt, NoMemory>
-    ensures { IfOk result (λ t. t.bytes ≡ codes "[" ++ decimal i ++ codes "]") }
-{
-    Ok(Txt::of_string(format!(in alloc; "[{i}]")?))
-}
-
 // One list further out.
 pub(crate) fn in_item(alloc: Global, i: usize, inner: Spot) -> Result<Spot, NoMemory>
     ensures { IfOk result (λ s. path_of s ≡ in_item i (path_of inner)) }
 {
-    let step = brackets(alloc, i)?;
+    let step = item_step(alloc, i)?;
     stepped(alloc, step.as_str(), false, inner)
 }

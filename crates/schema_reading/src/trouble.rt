@@ -6,6 +6,7 @@ ghost use Rattle.schema_reading.specs.Told.{StopsSchemaReading};
 
 use kj_value::{NoMemory, Txt};
 use std::alloc::Global;
+use struct_schema::step_before;
 
 /// Why a schema document is refused.
 #[derive(Drop)]
@@ -65,13 +66,6 @@ pub(crate) fn refused_here(alloc: Global, keyword: &str) -> Stop
     }
 }
 
-// What stands before the rest of a path.
-fn point(named: bool) -> &'static str
-    ensures { result.now ≡ point named }
-{
-    if named { "." } else { "" }
-}
-
 // The refused keyword, one step further in.
 fn stepped(alloc: Global, name: &str, inner: Spot) -> Result<Spot, NoMemory>
     ensures path { IfOk result (λ s. s.path.bytes
@@ -79,11 +73,9 @@ fn stepped(alloc: Global, name: &str, inner: Spot) -> Result<Spot, NoMemory>
     ensures named { IfOk result (λ s. s.named ≡ true) }
     ensures keyword { IfOk result (λ s. s.keyword.bytes ≡ inner.keyword.bytes) }
 {
-    let mut text = String::from_str(alloc, name)?;
-    text.push_str(point(inner.named))?;
-    text.push_str(inner.path.as_str())?;
+    let path = step_before(alloc, name, inner.named, inner.path.as_str())?;
     Ok(Spot {
-        path: Txt::of_string(text),
+        path,
         named: true,
         keyword: inner.keyword,
     })

@@ -4,6 +4,7 @@ ghost use Rattle.struct_schema.specs.Path.{named, at, point};
 ghost use Rattle.struct_schema.specs.Fault.{Fault, under, here};
 ghost use Rattle.struct_schema.specs.Told.{StopsCheck};
 
+use crate::path::{item_step, step_before};
 use kj_value::{NoMemory, Rule, Txt};
 use std::alloc::Global;
 
@@ -43,13 +44,6 @@ pub(crate) fn broken_here(alloc: Global, rule: Rule) -> Stop
     })
 }
 
-// What stands before the rest of a path.
-fn point(named: bool) -> &'static str
-    ensures { result.now ≡ point named }
-{
-    if named { "." } else { "" }
-}
-
 // The broken rule, one step further in.
 fn stepped(alloc: Global, step: &str, named: bool, inner: Broken) -> Result<Broken, NoMemory>
     ensures path { IfOk result (λ b. b.path.bytes
@@ -57,11 +51,9 @@ fn stepped(alloc: Global, step: &str, named: bool, inner: Broken) -> Result<Brok
     ensures named { IfOk result (λ b. b.named ≡ named) }
     ensures rule { IfOk result (λ b. b.rule ≡ inner.rule) }
 {
-    let mut text = String::from_str(alloc, step)?;
-    text.push_str(point(inner.named))?;
-    text.push_str(inner.path.as_str())?;
+    let path = step_before(alloc, step, inner.named, inner.path.as_str())?;
     Ok(Broken {
-        path: Txt::of_string(text),
+        path,
         named,
         rule: inner.rule,
     })
@@ -80,20 +72,13 @@ pub(crate) fn under_name(alloc: Global, name: &str, stop: Stop) -> Stop
     }
 }
 
-// The place of an item.
-fn place(alloc: Global, i: usize) -> Result<Txt, NoMemory>
-    ensures { IfOk result (λ t. t.bytes ≡ codes "[" ++ decimal i ++ codes "]") }
-{
-    Ok(Txt::of_string(format!(in alloc; "[{i}]")?))
-}
-
 fn at_place(alloc: Global, i: usize, inner: Broken) -> Result<Broken, NoMemory>
     ensures path { IfOk result (λ b. b.path.bytes
         ≡ codes "[" ++ decimal i ++ codes "]" ++ point inner.named ++ inner.path.bytes) }
     ensures named { IfOk result (λ b. b.named ≡ false) }
     ensures rule { IfOk result (λ b. b.rule ≡ inner.rule) }
 {
-    let step = place(alloc, i)?;
+    let step = item_step(alloc, i)?;
     stepped(alloc, step.as_str(), false, inner)
 }
 
