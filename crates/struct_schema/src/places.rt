@@ -100,10 +100,7 @@ impl Places {
         match value {
             JVal::Text(t) => self.find_text(t.as_str()),
             JVal::Int(n) => self.find_whole(*n),
-            JVal::Null => Place::Unknown,
-            JVal::Bool(_) => Place::Unknown,
-            JVal::List(_) => Place::Unknown,
-            JVal::Obj(_) => Place::Unknown,
+            _ => Place::Unknown,
         }
     }
 }
