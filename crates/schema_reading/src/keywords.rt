@@ -106,11 +106,7 @@ fn are_new(alloc: Global, items: &[JVal]) -> Result<bool, NoMemory>
                 }
                 seen.insert(t.as_str(), ())?;
             }
-            JVal::Null => return Ok(false),
-            JVal::Bool(_) => return Ok(false),
-            JVal::Int(_) => return Ok(false),
-            JVal::List(_) => return Ok(false),
-            JVal::Obj(_) => return Ok(false),
+            _ => return Ok(false),
         }
     }
     Ok(true)
@@ -122,11 +118,7 @@ fn are_names(alloc: Global, v: &JVal) -> Result<bool, NoMemory>
 {
     match v {
         JVal::List(items) => are_new(alloc, items.as_slice()),
-        JVal::Null => Ok(false),
-        JVal::Bool(_) => Ok(false),
-        JVal::Int(_) => Ok(false),
-        JVal::Text(_) => Ok(false),
-        JVal::Obj(_) => Ok(false),
+        _ => Ok(false),
     }
 }
 

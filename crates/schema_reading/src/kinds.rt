@@ -58,11 +58,7 @@ fn type_kind(v: &JVal) -> Option<NodeKind>
 {
     match v {
         JVal::Text(t) => type_named(t.as_str()),
-        JVal::Null => None,
-        JVal::Bool(_) => None,
-        JVal::Int(_) => None,
-        JVal::List(_) => None,
-        JVal::Obj(_) => None,
+        _ => None,
     }
 }
 
@@ -71,13 +67,8 @@ pub(crate) fn is_yes(v: Option<&JVal>) -> bool
     ensures { result ≡ is_yes (option_map (λ v. json v.now) v.entry) }
 {
     match v {
-        None => false,
         Some(JVal::Bool(b)) => *b,
-        Some(JVal::Text(_)) => false,
-        Some(JVal::Null) => false,
-        Some(JVal::Int(_)) => false,
-        Some(JVal::List(_)) => false,
-        Some(JVal::Obj(_)) => false,
+        _ => false,
     }
 }
 

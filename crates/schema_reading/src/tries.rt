@@ -128,11 +128,7 @@ pub(crate) fn try_meta(alloc: Global, text: &str, doc: &JVal) -> Result<(), Stop
 {
     match doc {
         JVal::Obj(fields) => try_meta_object(alloc, text, fields),
-        JVal::Null => try_keyword(alloc, Keyword::Kind, false),
-        JVal::Bool(_) => try_keyword(alloc, Keyword::Kind, false),
-        JVal::Int(_) => try_keyword(alloc, Keyword::Kind, false),
-        JVal::Text(_) => try_keyword(alloc, Keyword::Kind, false),
-        JVal::List(_) => try_keyword(alloc, Keyword::Kind, false),
+        _ => try_keyword(alloc, Keyword::Kind, false),
     }
 }
 

@@ -143,11 +143,7 @@ fn read_node(
     *nodes += 1;
     match doc {
         JVal::Obj(fields) => read_object(alloc, root, depth, nodes, fields),
-        JVal::Null => Err(refused_here(alloc, Keyword::Kind.word())),
-        JVal::Bool(_) => Err(refused_here(alloc, Keyword::Kind.word())),
-        JVal::Int(_) => Err(refused_here(alloc, Keyword::Kind.word())),
-        JVal::Text(_) => Err(refused_here(alloc, Keyword::Kind.word())),
-        JVal::List(_) => Err(refused_here(alloc, Keyword::Kind.word())),
+        _ => Err(refused_here(alloc, Keyword::Kind.word())),
     }
 }
 
