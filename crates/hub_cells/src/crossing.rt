@@ -163,17 +163,9 @@ fn joined_values(alloc: Global, a: &JVal, b: &JVal) -> Result<Crossed, NoMemory>
     match a {
         JVal::Text(s) => match b {
             JVal::Text(t) => joined_texts(alloc, s.as_str(), t.as_str()),
-            JVal::Null => Ok(showing(Tuple::One(None))),
-            JVal::Bool(_) => Ok(showing(Tuple::One(None))),
-            JVal::Int(_) => Ok(showing(Tuple::One(None))),
-            JVal::List(_) => Ok(showing(Tuple::One(None))),
-            JVal::Obj(_) => Ok(showing(Tuple::One(None))),
+            _ => Ok(showing(Tuple::One(None))),
         },
-        JVal::Null => Ok(showing(Tuple::One(None))),
-        JVal::Bool(_) => Ok(showing(Tuple::One(None))),
-        JVal::Int(_) => Ok(showing(Tuple::One(None))),
-        JVal::List(_) => Ok(showing(Tuple::One(None))),
-        JVal::Obj(_) => Ok(showing(Tuple::One(None))),
+        _ => Ok(showing(Tuple::One(None))),
     }
 }
 

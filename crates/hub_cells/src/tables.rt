@@ -59,10 +59,6 @@ pub(crate) fn shown_blank(alloc: Global, value: &JVal) -> Result<Tuple, NoMemory
 {
     match value {
         JVal::Null => Ok(Tuple::One(None)),
-        JVal::Bool(_) => Ok(Tuple::One(Some(copy(alloc, value)?))),
-        JVal::Int(_) => Ok(Tuple::One(Some(copy(alloc, value)?))),
-        JVal::Text(_) => Ok(Tuple::One(Some(copy(alloc, value)?))),
-        JVal::List(_) => Ok(Tuple::One(Some(copy(alloc, value)?))),
-        JVal::Obj(_) => Ok(Tuple::One(Some(copy(alloc, value)?))),
+        _ => Ok(Tuple::One(Some(copy(alloc, value)?))),
     }
 }
