@@ -118,42 +118,19 @@ pub(crate) fn alike(a: &JVal, b: &JVal) -> bool
 pub(crate) fn is_null(v: &JVal) -> bool
     ensures { result ≡ is_null (json v.now) }
 {
-    match v {
-        JVal::Null => true,
-        JVal::Bool(_) => false,
-        JVal::Int(_) => false,
-        JVal::Text(_) => false,
-        JVal::List(_) => false,
-        JVal::Obj(_) => false,
-    }
+    matches!(v, JVal::Null)
 }
 
 fn is_text(kind: NodeKind) -> bool
     ensures { result ≡ is_text kind }
 {
-    match kind {
-        NodeKind::Object => false,
-        NodeKind::Array => false,
-        NodeKind::Text => true,
-        NodeKind::Whole => false,
-        NodeKind::Truth => false,
-        NodeKind::IntOrText => false,
-        NodeKind::Any => false,
-    }
+    matches!(kind, NodeKind::Text)
 }
 
 fn is_whole(kind: NodeKind) -> bool
     ensures { result ≡ is_whole kind }
 {
-    match kind {
-        NodeKind::Object => false,
-        NodeKind::Array => false,
-        NodeKind::Text => false,
-        NodeKind::Whole => true,
-        NodeKind::Truth => false,
-        NodeKind::IntOrText => false,
-        NodeKind::Any => false,
-    }
+    matches!(kind, NodeKind::Whole)
 }
 
 pub(crate) fn is_text_node(s: &Schema) -> bool
