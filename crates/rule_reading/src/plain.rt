@@ -125,11 +125,7 @@ fn read_split(alloc: Global, v: &JVal) -> Tried<Line>
 {
     match v {
         JVal::Obj(fields) => read_split_of(alloc, fields),
-        JVal::Null => Ok(Err(here(alloc))),
-        JVal::Bool(_) => Ok(Err(here(alloc))),
-        JVal::Int(_) => Ok(Err(here(alloc))),
-        JVal::Text(_) => Ok(Err(here(alloc))),
-        JVal::List(_) => Ok(Err(here(alloc))),
+        _ => Ok(Err(here(alloc))),
     }
 }
 
@@ -139,11 +135,7 @@ fn read_table(alloc: Global, v: &JVal) -> Tried<Line>
 {
     match v {
         JVal::Obj(fields) => read_table_of(alloc, fields),
-        JVal::Null => Ok(Err(here(alloc))),
-        JVal::Bool(_) => Ok(Err(here(alloc))),
-        JVal::Int(_) => Ok(Err(here(alloc))),
-        JVal::Text(_) => Ok(Err(here(alloc))),
-        JVal::List(_) => Ok(Err(here(alloc))),
+        _ => Ok(Err(here(alloc))),
     }
 }
 
@@ -153,11 +145,7 @@ fn read_scale(alloc: Global, v: &JVal) -> Tried<Line>
 {
     match v {
         JVal::Obj(fields) => read_scale_of(alloc, fields),
-        JVal::Null => Ok(Err(here(alloc))),
-        JVal::Bool(_) => Ok(Err(here(alloc))),
-        JVal::Int(_) => Ok(Err(here(alloc))),
-        JVal::Text(_) => Ok(Err(here(alloc))),
-        JVal::List(_) => Ok(Err(here(alloc))),
+        _ => Ok(Err(here(alloc))),
     }
 }
 

@@ -29,11 +29,7 @@ fn one_field(v: &JVal) -> Option<(&str, &JVal)>
             Some(_) => None,
             None => place(fields, 0),
         },
-        JVal::Null => None,
-        JVal::Bool(_) => None,
-        JVal::Int(_) => None,
-        JVal::Text(_) => None,
-        JVal::List(_) => None,
+        _ => None,
     }
 }
 
@@ -85,11 +81,7 @@ fn read_within(alloc: Global, depth: u32, count: &mut u32, v: &JVal) -> Tried<Li
 {
     match v {
         JVal::Obj(fields) => read_object(alloc, depth, count, fields),
-        JVal::Null => Ok(Err(here(alloc))),
-        JVal::Bool(_) => Ok(Err(here(alloc))),
-        JVal::Int(_) => Ok(Err(here(alloc))),
-        JVal::Text(_) => Ok(Err(here(alloc))),
-        JVal::List(_) => Ok(Err(here(alloc))),
+        _ => Ok(Err(here(alloc))),
     }
 }
 
@@ -136,11 +128,7 @@ pub(crate) fn read_rules_in(alloc: Global, depth: u32, count: &mut u32, v: &JVal
 {
     match v {
         JVal::List(items) => read_lines(alloc, depth, count, items.as_slice()),
-        JVal::Null => Ok(Err(here(alloc))),
-        JVal::Bool(_) => Ok(Err(here(alloc))),
-        JVal::Int(_) => Ok(Err(here(alloc))),
-        JVal::Text(_) => Ok(Err(here(alloc))),
-        JVal::Obj(_) => Ok(Err(here(alloc))),
+        _ => Ok(Err(here(alloc))),
     }
 }
 

@@ -70,11 +70,7 @@ fn read_pairs(alloc: Global, v: &JVal) -> Tried<PairItems>
 {
     match v {
         JVal::List(items) => read_pairs_of(alloc, items.as_slice()),
-        JVal::Null => Ok(Err(here(alloc))),
-        JVal::Bool(_) => Ok(Err(here(alloc))),
-        JVal::Int(_) => Ok(Err(here(alloc))),
-        JVal::Text(_) => Ok(Err(here(alloc))),
-        JVal::Obj(_) => Ok(Err(here(alloc))),
+        _ => Ok(Err(here(alloc))),
     }
 }
 
@@ -90,11 +86,7 @@ fn read_factor(alloc: Global, v: &JVal) -> Tried<u32>
                 Ok(Err(here(alloc)))
             }
         }
-        JVal::Null => Ok(Err(here(alloc))),
-        JVal::Bool(_) => Ok(Err(here(alloc))),
-        JVal::Text(_) => Ok(Err(here(alloc))),
-        JVal::List(_) => Ok(Err(here(alloc))),
-        JVal::Obj(_) => Ok(Err(here(alloc))),
+        _ => Ok(Err(here(alloc))),
     }
 }
 

@@ -153,11 +153,7 @@ fn read_spokes(alloc: Global, hub: &str, v: &JVal) -> Tried<RuleMap>
 {
     match v {
         JVal::Obj(fields) => read_spokes_of(alloc, hub, fields.as_slice()),
-        JVal::Null => Ok(Err(here(alloc))),
-        JVal::Bool(_) => Ok(Err(here(alloc))),
-        JVal::Int(_) => Ok(Err(here(alloc))),
-        JVal::Text(_) => Ok(Err(here(alloc))),
-        JVal::List(_) => Ok(Err(here(alloc))),
+        _ => Ok(Err(here(alloc))),
     }
 }
 
@@ -196,11 +192,7 @@ fn read_set(alloc: Global, doc: &JVal) -> Tried<RuleSet>
 {
     match doc {
         JVal::Obj(fields) => read_set_of(alloc, fields),
-        JVal::Null => Ok(Err(here(alloc))),
-        JVal::Bool(_) => Ok(Err(here(alloc))),
-        JVal::Int(_) => Ok(Err(here(alloc))),
-        JVal::Text(_) => Ok(Err(here(alloc))),
-        JVal::List(_) => Ok(Err(here(alloc))),
+        _ => Ok(Err(here(alloc))),
     }
 }
 

@@ -17,11 +17,7 @@ pub(crate) fn read_text(alloc: Global, v: &JVal) -> Tried<Txt>
 {
     match v {
         JVal::Text(t) => Ok(Ok(Txt::of(alloc, t.as_str())?)),
-        JVal::Null => Ok(Err(here(alloc))),
-        JVal::Bool(_) => Ok(Err(here(alloc))),
-        JVal::Int(_) => Ok(Err(here(alloc))),
-        JVal::List(_) => Ok(Err(here(alloc))),
-        JVal::Obj(_) => Ok(Err(here(alloc))),
+        _ => Ok(Err(here(alloc))),
     }
 }
 
@@ -36,11 +32,7 @@ pub(crate) fn two_items(v: &JVal) -> Option<(&JVal, &JVal)>
             [a, b] => Some((a, b)),
             [_, _, _, ..] => None,
         },
-        JVal::Null => None,
-        JVal::Bool(_) => None,
-        JVal::Int(_) => None,
-        JVal::Text(_) => None,
-        JVal::Obj(_) => None,
+        _ => None,
     }
 }
 
