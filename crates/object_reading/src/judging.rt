@@ -34,12 +34,7 @@ fn has_version(fields: &JFields) -> bool
 {
     match fields.get("apiVersion") {
         Some(JVal::Text(_)) => true,
-        None => false,
-        Some(JVal::Null) => false,
-        Some(JVal::Bool(_)) => false,
-        Some(JVal::Int(_)) => false,
-        Some(JVal::List(_)) => false,
-        Some(JVal::Obj(_)) => false,
+        _ => false,
     }
 }
 
@@ -48,12 +43,7 @@ fn has_kind(fields: &JFields, kind: &str) -> bool
 {
     match fields.get("kind") {
         Some(JVal::Text(text)) => text.as_str() == kind,
-        None => false,
-        Some(JVal::Null) => false,
-        Some(JVal::Bool(_)) => false,
-        Some(JVal::Int(_)) => false,
-        Some(JVal::List(_)) => false,
-        Some(JVal::Obj(_)) => false,
+        _ => false,
     }
 }
 
@@ -65,11 +55,7 @@ fn judge_metadata(alloc: Global, metadata: Option<&JVal>) -> Result<(), ObjectFa
     match metadata {
         None => judge_fields(alloc, &JFields::new(alloc)),
         Some(JVal::Obj(fields)) => judge_fields(alloc, fields),
-        Some(JVal::Null) => Err(broken(alloc, "")),
-        Some(JVal::Bool(_)) => Err(broken(alloc, "")),
-        Some(JVal::Int(_)) => Err(broken(alloc, "")),
-        Some(JVal::Text(_)) => Err(broken(alloc, "")),
-        Some(JVal::List(_)) => Err(broken(alloc, "")),
+        _ => Err(broken(alloc, "")),
     }
 }
 

@@ -157,12 +157,7 @@ fn number_of(value: Option<JVal>) -> i64
 {
     match value {
         Some(JVal::Int(n)) => n,
-        Some(JVal::Null) => 0,
-        Some(JVal::Bool(_)) => 0,
-        Some(JVal::Text(_)) => 0,
-        Some(JVal::List(_)) => 0,
-        Some(JVal::Obj(_)) => 0,
-        None => 0,
+        _ => 0,
     }
 }
 
@@ -238,11 +233,7 @@ fn add(texts: &mut TextMap, field: Field) -> Result<(), NoMemory>
     let Field { name, value } = field;
     match value {
         JVal::Text(text) => texts.set(name, text),
-        JVal::Null => Ok(()),
-        JVal::Bool(_) => Ok(()),
-        JVal::Int(_) => Ok(()),
-        JVal::List(_) => Ok(()),
-        JVal::Obj(_) => Ok(()),
+        _ => Ok(()),
     }
 }
 
@@ -267,10 +258,6 @@ fn add_item(texts: &mut TextList, item: JVal) -> Result<(), NoMemory>
 {
     match item {
         JVal::Text(text) => texts.push(text),
-        JVal::Null => Ok(()),
-        JVal::Bool(_) => Ok(()),
-        JVal::Int(_) => Ok(()),
-        JVal::List(_) => Ok(()),
-        JVal::Obj(_) => Ok(()),
+        _ => Ok(()),
     }
 }

@@ -29,11 +29,7 @@ pub fn read_object(alloc: Global, doc: JVal, kind: &str) -> Result<Object, Objec
 {
     match doc {
         JVal::Obj(fields) => read_fields(alloc, fields, kind),
-        JVal::Null => Err(ObjectFault::NotObject),
-        JVal::Bool(_) => Err(ObjectFault::NotObject),
-        JVal::Int(_) => Err(ObjectFault::NotObject),
-        JVal::Text(_) => Err(ObjectFault::NotObject),
-        JVal::List(_) => Err(ObjectFault::NotObject),
+        _ => Err(ObjectFault::NotObject),
     }
 }
 

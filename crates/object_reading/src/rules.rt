@@ -36,11 +36,7 @@ pub(crate) fn labels_ok(value: Option<&JVal>) -> bool
     match value {
         None => true,
         Some(JVal::Obj(fields)) => all_labels(fields),
-        Some(JVal::Null) => false,
-        Some(JVal::Bool(_)) => false,
-        Some(JVal::Int(_)) => false,
-        Some(JVal::Text(_)) => false,
-        Some(JVal::List(_)) => false,
+        _ => false,
     }
 }
 
@@ -55,11 +51,7 @@ fn label_ok(field: &Field) -> bool
 {
     match &field.value {
         JVal::Text(text) => label_key_ok(field.name.as_str()) && label_value_ok(text.as_str()),
-        JVal::Null => false,
-        JVal::Bool(_) => false,
-        JVal::Int(_) => false,
-        JVal::List(_) => false,
-        JVal::Obj(_) => false,
+        _ => false,
     }
 }
 
@@ -71,11 +63,7 @@ pub(crate) fn annotations_ok(value: Option<&JVal>) -> bool
     match value {
         None => true,
         Some(JVal::Obj(fields)) => all_annotations(fields),
-        Some(JVal::Null) => false,
-        Some(JVal::Bool(_)) => false,
-        Some(JVal::Int(_)) => false,
-        Some(JVal::Text(_)) => false,
-        Some(JVal::List(_)) => false,
+        _ => false,
     }
 }
 
@@ -90,11 +78,7 @@ fn annotation_ok(field: &Field) -> bool
 {
     match &field.value {
         JVal::Text(_) => annotation_key_ok(field.name.as_str()),
-        JVal::Null => false,
-        JVal::Bool(_) => false,
-        JVal::Int(_) => false,
-        JVal::List(_) => false,
-        JVal::Obj(_) => false,
+        _ => false,
     }
 }
 
@@ -106,11 +90,7 @@ pub(crate) fn finalizers_ok(value: Option<&JVal>) -> bool
     match value {
         None => true,
         Some(JVal::List(items)) => few_finalizers(items),
-        Some(JVal::Null) => false,
-        Some(JVal::Bool(_)) => false,
-        Some(JVal::Int(_)) => false,
-        Some(JVal::Text(_)) => false,
-        Some(JVal::Obj(_)) => false,
+        _ => false,
     }
 }
 
@@ -131,11 +111,7 @@ fn item_ok(item: &JVal) -> bool
 {
     match item {
         JVal::Text(text) => finalizer_ok(text.as_str()),
-        JVal::Null => false,
-        JVal::Bool(_) => false,
-        JVal::Int(_) => false,
-        JVal::List(_) => false,
-        JVal::Obj(_) => false,
+        _ => false,
     }
 }
 
@@ -146,11 +122,7 @@ pub(crate) fn owners_ok(value: Option<&JVal>) -> bool
     match value {
         None => true,
         Some(JVal::List(_)) => true,
-        Some(JVal::Null) => false,
-        Some(JVal::Bool(_)) => false,
-        Some(JVal::Int(_)) => false,
-        Some(JVal::Text(_)) => false,
-        Some(JVal::Obj(_)) => false,
+        _ => false,
     }
 }
 
@@ -161,11 +133,7 @@ pub(crate) fn namespace_field_ok(value: Option<&JVal>) -> bool
     match value {
         None => true,
         Some(JVal::Text(text)) => namespace_ok(text.as_str()),
-        Some(JVal::Null) => false,
-        Some(JVal::Bool(_)) => false,
-        Some(JVal::Int(_)) => false,
-        Some(JVal::List(_)) => false,
-        Some(JVal::Obj(_)) => false,
+        _ => false,
     }
 }
 
@@ -176,11 +144,7 @@ pub(crate) fn resource_version_field_ok(value: Option<&JVal>) -> bool
     match value {
         None => true,
         Some(JVal::Text(text)) => resource_version_ok(text.as_str()),
-        Some(JVal::Null) => false,
-        Some(JVal::Bool(_)) => false,
-        Some(JVal::Int(_)) => false,
-        Some(JVal::List(_)) => false,
-        Some(JVal::Obj(_)) => false,
+        _ => false,
     }
 }
 
@@ -190,11 +154,6 @@ pub(crate) fn name_field_ok(value: Option<&JVal>) -> bool
 {
     match value {
         Some(JVal::Text(text)) => name_ok(text.as_str()),
-        None => false,
-        Some(JVal::Null) => false,
-        Some(JVal::Bool(_)) => false,
-        Some(JVal::Int(_)) => false,
-        Some(JVal::List(_)) => false,
-        Some(JVal::Obj(_)) => false,
+        _ => false,
     }
 }
