@@ -71,11 +71,7 @@ fn entries_of(alloc: Global, value: JVal) -> Result<Kept, KeptFault>
 {
     match value {
         JVal::List(items) => read_items(alloc, items),
-        JVal::Null => Err(KeptFault::BadKept),
-        JVal::Bool(_) => Err(KeptFault::BadKept),
-        JVal::Int(_) => Err(KeptFault::BadKept),
-        JVal::Text(_) => Err(KeptFault::BadKept),
-        JVal::Obj(_) => Err(KeptFault::BadKept),
+        _ => Err(KeptFault::BadKept),
     }
 }
 
@@ -96,11 +92,7 @@ fn read_entry(alloc: Global, value: JVal) -> Result<Entry, KeptFault>
 {
     match value {
         JVal::Obj(fields) => of_fields(alloc, fields),
-        JVal::Null => Err(KeptFault::BadKept),
-        JVal::Bool(_) => Err(KeptFault::BadKept),
-        JVal::Int(_) => Err(KeptFault::BadKept),
-        JVal::Text(_) => Err(KeptFault::BadKept),
-        JVal::List(_) => Err(KeptFault::BadKept),
+        _ => Err(KeptFault::BadKept),
     }
 }
 
@@ -145,11 +137,7 @@ fn path_of(alloc: Global, value: JVal) -> Result<TextList, KeptFault>
 {
     match value {
         JVal::List(items) => read_path(alloc, items),
-        JVal::Null => Err(KeptFault::BadKept),
-        JVal::Bool(_) => Err(KeptFault::BadKept),
-        JVal::Int(_) => Err(KeptFault::BadKept),
-        JVal::Text(_) => Err(KeptFault::BadKept),
-        JVal::Obj(_) => Err(KeptFault::BadKept),
+        _ => Err(KeptFault::BadKept),
     }
 }
 
@@ -170,11 +158,7 @@ fn name_of(value: JVal) -> Result<Txt, KeptFault>
 {
     match value {
         JVal::Text(name) => Ok(name),
-        JVal::Null => Err(KeptFault::BadKept),
-        JVal::Bool(_) => Err(KeptFault::BadKept),
-        JVal::Int(_) => Err(KeptFault::BadKept),
-        JVal::List(_) => Err(KeptFault::BadKept),
-        JVal::Obj(_) => Err(KeptFault::BadKept),
+        _ => Err(KeptFault::BadKept),
     }
 }
 
@@ -184,10 +168,6 @@ fn part_of(value: JVal) -> Result<JFields, KeptFault>
 {
     match value {
         JVal::Obj(fields) => Ok(fields),
-        JVal::Null => Err(KeptFault::BadKept),
-        JVal::Bool(_) => Err(KeptFault::BadKept),
-        JVal::Int(_) => Err(KeptFault::BadKept),
-        JVal::Text(_) => Err(KeptFault::BadKept),
-        JVal::List(_) => Err(KeptFault::BadKept),
+        _ => Err(KeptFault::BadKept),
     }
 }
