@@ -6,7 +6,7 @@ ghost use Rattle.hub_cells.specs.Side as sides;
 ghost use Rattle.hub_cells.specs.Level.{Place, tuple_of, places, names};
 ghost use Rattle.hub_cells.specs.Seen.{side, tuple, place_list, cell};
 ghost use Rattle.keep_laws.specs.Entry.{put};
-ghost use Rattle.keep_laws.specs.Body.{as_object, object_in};
+ghost use Rattle.keep_laws.specs.Body.{object_in};
 ghost use Rattle.keep_laws.specs.Settle.{value_same, tuple_same};
 ghost use Rattle.keep_bodies.specs.Names.{name_list};
 
@@ -126,25 +126,12 @@ pub(crate) fn tuple_same(a: &Tuple, b: &Tuple) -> bool
     }
 }
 
-fn as_object(v: &JVal) -> Option<&JFields>
-    ensures { option_map (λ y. y.now) result ≡ as_object (json v.entry.now) }
-{
-    match v {
-        JVal::Obj(y) => Some(y),
-        JVal::Null => None,
-        JVal::Bool(_) => None,
-        JVal::Int(_) => None,
-        JVal::Text(_) => None,
-        JVal::List(_) => None,
-    }
-}
-
 // The object at a name, where there is one.
 pub(crate) fn object_at<'a>(x: &'a JFields, name: &str) -> Option<&'a JFields>
     ensures { option_map (λ y. y.now) result ≡ object_in (field name.entry.now x.entry.now) }
 {
     match x.get(name) {
-        Some(v) => as_object(v),
+        Some(v) => v.as_object(),
         None => None,
     }
 }
