@@ -20,7 +20,7 @@ fn greater(a: i64, b: i64) -> i64
     if a < b { b } else { a }
 }
 
-fn lesser(a: i64, b: i64) -> i64
+fn lesser_of(a: i64, b: i64) -> i64
     ensures { result ≡ lesser_of a b }
 {
     if a < b { a } else { b }
@@ -73,7 +73,7 @@ fn least(s: &Schema) -> i64
 fn greatest(s: &Schema) -> i64
     ensures { result ≡ greatest (own_of s.now) }
 {
-    lesser(or_greatest(s.maximum), format_greatest(s.format))
+    lesser_of(or_greatest(s.maximum), format_greatest(s.format))
 }
 
 fn is_between(s: &Schema, n: i128) -> bool
