@@ -1,7 +1,9 @@
 -- What is decided of a worker's turn, and which claim it leaves the worker. The next number is n.
 use Rattle.std.specs.Prelude.{ℕ, ◌+◌, Bool, true, false, not, ◌&&◌, Option, None, Some, nat_eq, if◌then◌else◌}
 use Rattle.kube_meta.specs.Key.{KeyView}
-use Rattle.kube_meta.specs.Plan.{Span, Migration, running, span_of, may_claim, is_done}
+use Rattle.kube_meta.specs.Plan.{Migration, running, may_claim, is_done}
+use Rattle.kube_meta.specs.Work as work
+pub use Rattle.kube_meta.specs.Work.{Work, work_in, work_under}
 use Rattle.api_calls.specs.Item.{entry, note, Touch, MarkSucceeded, Claim, RangeDone, GiveBack}
 use Rattle.api_calls.specs.Objects.{Stored, find, elsewhere}
 use Rattle.api_calls.specs.State.{State}
@@ -12,24 +14,9 @@ pub record Turn : Type 0 where
   pub decision : Decision TurnEnd
   pub claim : Option ℕ
 
--- a claim that is in a held slot of the running migration: its number, its span, and the migration's target
-pub record Work : Type 0 where
-  pub claim : ℕ
-  pub span : Span
-  pub target : ℕ
-
-abbrev pub work_in : ℕ → ℕ → Option Span → Option Work
-work_in c target None = None
-work_in c target (Some r) = Some (record { claim = c; span = r; target = target })
-
-abbrev pub work_under : Option Migration → ℕ → State → Option Work
-work_under None c s = None
-work_under (Some m) c s = work_in c m.target (span_of c s.plan.slots)
-
 -- a claim that isn't in a held slot of the running migration is forgotten
 abbrev pub work_of : Option ℕ → State → Option Work
-work_of None s = None
-work_of (Some c) s = work_under (running s.migrations) c s
+work_of c s = work.work_of c s.migrations s.plan.slots
 
 -- without a claim: one is taken, or the migration is marked where all is done
 abbrev pub claim_turn : ℕ → State → Turn

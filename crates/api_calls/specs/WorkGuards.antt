@@ -39,7 +39,7 @@ work_of-held (Some c) s w is = by (running s.migrations) refl is
         let it : record { claim = c; span = r; target = q.target } ≡ w = cc in
         subst (λ (v : Work). IsWork v s) it (record { held = record { migration = q; runs = runs; span = r; held = held }; span = refl; target = refl })
 
-    by : (o : Option Migration) → running s.migrations ≡ o → work_under o c s ≡ Some w → IsWork w s
+    by : (o : Option Migration) → running s.migrations ≡ o → work_under o c s.plan.slots ≡ Some w → IsWork w s
     by None runs is = cc
     by (Some q) runs is = with_span q runs (span_of c s.plan.slots) refl is
 

@@ -23,7 +23,7 @@ use Rattle.api_calls.specs.Ends as ends
 use Rattle.api_calls.specs.Ends.{EndsAsDecided, bound}
 use Rattle.api_calls.specs.Work.{turn_decision, touch_decision, give_back_decision, work_of}
 use Rattle.api_calls.specs.WorkGuards.{MayFinish}
-use Rattle.api_core.specs.WorkRows.{rows_of, migrations_of, told, work_of-told}
+use Rattle.api_core.specs.WorkRows.{rows_of, migrations_of}
 use Rattle.api_core.specs.Works.{Advanced, advanced, claim-taken, mark-done, mark-none}
 use Rattle.api_core.specs.Steps.{item_row, migrations-stand, rows-stand}
 use Rattle.api_core.specs.declared.seen.Prepared.{Prepared}
@@ -147,11 +147,11 @@ module _ {V : Type 0} (meaning : V → Meaning) where
       subst (λ (y : CoreOf V). (log : List Item) → StandsFor meaning y log → EndsAsDecided bound (StandsFor meaning (with_migrations x ms)) log (give_back_decision (state (meaning y.versions) log) claim) was) is
       (λ log st.
       let same = migrations-stand (meaning x.versions) x.view log st in
-      let work = ap (moves.work_of claim) same ∙ work_of-told x.view.limits claim (state (meaning x.versions) log) in
+      let work : moves.work_of claim x.view.migrations ≡ work_of claim (state (meaning x.versions) log) = ap (moves.work_of claim) same in
       given-back (meaning x.versions) x.view log st claim was ms
       (was_is ∙ ap is_some work)
       (ms_is ∙ ap (λ o. moves.after_give_back o x.view.migrations) work
-      ∙ ap (λ (v : MigrationsView). moves.after_give_back (option_map told (work_of claim (state (meaning x.versions) log))) v) same))
+      ∙ ap (λ (v : MigrationsView). moves.after_give_back (work_of claim (state (meaning x.versions) log)) v) same))
 
   -- ---- with what was prepared
 

@@ -19,7 +19,7 @@ use Rattle.api_core.specs.Keeps.{IsFound}
 use Rattle.api_core.specs.Stands.{Stands}
 use Rattle.api_core.specs.Prepared.{FitsAt, KnownAt}
 use Rattle.api_core.specs.Pairing.{pairs-find}
-use Rattle.api_core.specs.WorkRows.{row_of, told, elsewhere-rows, work_of-told}
+use Rattle.api_core.specs.WorkRows.{row_of, elsewhere-rows}
 use Rattle.api_core.specs.Steps.{migrations-stand, rows-stand}
 use Rattle.api_core.specs.Ready.{IsFirst, IsNext}
 use Rattle.api_core.specs.KeptLaws.{find-key}
@@ -58,13 +58,12 @@ fits-later m c log more k e p st seen key weight =
 pub next-later : (m : Meaning) (c : CoreView) (log more : List Item) (claim : Option ℕ) (k : KeyView) (number : ℕ) → Stands m c (log ++ more) → IsPrepared claim k number (state m log)
     → IsNext (moves.work_of claim c.migrations) k c.store.items (find_record item_key k c.store.items)
 next-later m c log more claim k number st p =
-    let work : moves.work_of claim c.migrations ≡ option_map told (work_of claim (state m (log ++ more))) =
-    ap (moves.work_of claim) (migrations-stand m c (log ++ more) st) ∙ work_of-told c.limits claim (state m (log ++ more)) in
-    subst (λ (o : Option moves.Work). IsNext o k c.store.items (find_record item_key k c.store.items)) (sym work)
+    let work : moves.work_of claim c.migrations ≡ work_of claim (state m (log ++ more)) = ap (moves.work_of claim) (migrations-stand m c (log ++ more) st) in
+    subst (λ (o : Option Work). IsNext o k c.store.items (find_record item_key k c.store.items)) (sym work)
     (by (work_of claim (state m (log ++ more))) refl (find_record item_key k c.store.items) (find k (state m (log ++ more)).objects) refl
     (pairs-find m k c.store.items (state m (log ++ more)).objects st.present.records))
   where
-    first : (w : Work) → work_of claim (state m (log ++ more)) ≡ Some w → (e : Stored) → find k (state m (log ++ more)).objects ≡ Some e → e.at ≢ w.target → IsFirst (told w) k c.store.items
+    first : (w : Work) → work_of claim (state m (log ++ more)) ≡ Some w → (e : Stored) → find k (state m (log ++ more)).objects ≡ Some e → e.at ≢ w.target → IsFirst w k c.store.items
     first w held e there away = record {
       row = row_of e;
       first = ap (λ (rs : List Row). rows.elsewhere w.span w.target rs) (rows-stand m c (log ++ more) st)
@@ -74,7 +73,7 @@ next-later m c log more claim k number st p =
     }
 
     by : (o : Option Work) → work_of claim (state m (log ++ more)) ≡ o → (x : Option RecordItem) (e : Option Stored) → find k (state m (log ++ more)).objects ≡ e → IsFound m x e
-        → IsNext (option_map told o) k c.store.items x
+        → IsNext o k c.store.items x
     by None held x e there found = tt
     by (Some w) held None e there found = tt
     by (Some w) held (Some x) None there found = absurd found

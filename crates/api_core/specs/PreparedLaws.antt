@@ -48,25 +48,25 @@ answer_of t = t.decision.answer
 work-unheld : (c : ℕ) (s : State) → span_of c s.plan.slots ≡ None → work_of (Some c) s ≡ None
 work-unheld c s is = by (running s.migrations)
   where
-    by : (o : Option Migration) → work_under o c s ≡ None
+    by : (o : Option Migration) → work_under o c s.plan.slots ≡ None
     by None = refl
     by (Some q) = ap (work_in c q.target) is
 
 work-idle : (c : ℕ) (s : State) → running s.migrations ≡ None → work_of (Some c) s ≡ None
-work-idle c s is = ap (λ (o : Option Migration). work_under o c s) is
+work-idle c s is = ap (λ (o : Option Migration). work_under o c s.plan.slots) is
 
 -- the work is that of another state with these migrations and this span
 work-same : (c : ℕ) (s t : State) → s.migrations ≡ t.migrations → span_of c s.plan.slots ≡ span_of c t.plan.slots → work_of (Some c) s ≡ work_of (Some c) t
-work-same c s t migrations span = by (running s.migrations) ∙ ap (λ (ms : List Migration). work_under (running ms) c t) migrations
+work-same c s t migrations span = by (running s.migrations) ∙ ap (λ (ms : List Migration). work_under (running ms) c t.plan.slots) migrations
   where
-    by : (o : Option Migration) → work_under o c s ≡ work_under o c t
+    by : (o : Option Migration) → work_under o c s.plan.slots ≡ work_under o c t.plan.slots
     by None = refl
     by (Some q) = ap (work_in c q.target) span
 
 work-plan : (c : ℕ) (s : State) (p : Plan) → span_of c p.slots ≡ span_of c s.plan.slots → work_of (Some c) (record s { plan = p }) ≡ work_of (Some c) s
 work-plan c s p is = by (running s.migrations)
   where
-    by : (o : Option Migration) → work_under o c (record s { plan = p }) ≡ work_under o c s
+    by : (o : Option Migration) → work_under o c p.slots ≡ work_under o c s.plan.slots
     by None = refl
     by (Some q) = ap (work_in c q.target) is
 
@@ -75,7 +75,7 @@ pub work-storage : (c : Option ℕ) (s : State) (w : Work) → IsSoundState s �
 work-storage c s w sound is = let held = work_of-held c s w is in sym held.target ∙ (sound.plan held.held.migration held.held.runs).target
 
 work-held : (c : ℕ) (s : State) (h : IsHeld c s) → work_of (Some c) s ≡ Some (record { claim = c; span = h.span; target = h.migration.target })
-work-held c s h = ap (λ (o : Option Migration). work_under o c s) h.runs ∙ ap (work_in c h.migration.target) h.held
+work-held c s h = ap (λ (o : Option Migration). work_under o c s.plan.slots) h.runs ∙ ap (work_in c h.migration.target) h.held
 
 -- ---- the first that stands elsewhere
 
@@ -435,7 +435,7 @@ held-taken c s w once is =
     with_span q None is = cc
     with_span q (Some r) is = let it : record { claim = c; span = r; target = q.target } ≡ w = cc in ap (λ (x : Work). x.claim) (sym it)
 
-    work-claim : (o : Option Migration) → work_under o c s ≡ Some w → w.claim ≡ c
+    work-claim : (o : Option Migration) → work_under o c s.plan.slots ≡ Some w → w.claim ≡ c
     work-claim None is = cc
     work-claim (Some q) is = with_span q (span_of c s.plan.slots) is
 

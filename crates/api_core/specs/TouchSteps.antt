@@ -32,7 +32,7 @@ use Rattle.api_core.specs.Stands.{Stands}
 use Rattle.api_core.specs.Prepared.{PreparesValue, KnownAt, FitsAt, record_for}
 use Rattle.api_core.specs.Pairing.{find-key, updated-put, pairs-find}
 use Rattle.api_core.specs.Growing.{Puts, written, written-stands}
-use Rattle.api_core.specs.WorkRows.{row_of, told, elsewhere-rows, work_of-told}
+use Rattle.api_core.specs.WorkRows.{row_of, elsewhere-rows}
 use Rattle.api_core.specs.Touches.{touch-missed, touch-done, work_of-target}
 use Rattle.api_core.specs.Steps.{item_row, migrations-stand, rows-stand, number-stand}
 use Rattle.api_core.specs.Ready.{is_ready_item, IsFirst, IsNext}
@@ -102,18 +102,18 @@ module _ (m : Meaning) (c : CoreView) (log : List Item) (st : Stands m c log) wh
   pub record IsWorkOf (claim : Option ℕ) (t : ℕ) : Type 0 where
     pub work : Work
     pub held : work_of claim s ≡ Some work
-    pub its : moves.work_of claim c.migrations ≡ Some (told work)
+    pub its : moves.work_of claim c.migrations ≡ Some work
     pub target : work.target ≡ t
 
   work_is : (claim : Option ℕ) (t : ℕ) → Some t ≡ option_map (λ w. w.target) (moves.work_of claim c.migrations) → IsWorkOf claim t
   work_is claim t has =
-      by (work_of claim s) refl (ap (moves.work_of claim) (migrations-stand m c log st) ∙ work_of-told c.limits claim s)
+      by (work_of claim s) refl (ap (moves.work_of claim) (migrations-stand m c log st))
     where
-      by : (o : Option Work) → work_of claim s ≡ o → moves.work_of claim c.migrations ≡ option_map told (work_of claim s) → IsWorkOf claim t
+      by : (o : Option Work) → work_of claim s ≡ o → moves.work_of claim c.migrations ≡ work_of claim s → IsWorkOf claim t
       by None held is =
-          let no_ : Some t ≡ None = has ∙ ap (option_map (λ w. w.target)) (is ∙ ap (option_map told) held) in cc
+          let no_ : Some t ≡ None = has ∙ ap (option_map (λ w. w.target)) (is ∙ held) in cc
       by (Some w) held is =
-          let its : moves.work_of claim c.migrations ≡ Some (told w) = is ∙ ap (option_map told) held in
+          let its : moves.work_of claim c.migrations ≡ Some w = is ∙ held in
           let same : Some t ≡ Some w.target = has ∙ ap (option_map (λ w. w.target)) its in
           record { work = w; held = held; its = its; target = (let e : w.target ≡ t = cc in e) }
 
@@ -139,7 +139,7 @@ module _ (m : Meaning) (c : CoreView) (log : List Item) (st : Stands m c log) wh
       (record { ends = (refl, st); claim = refl })
 
   -- the first object of the claim's range that stands elsewhere has the key
-  first_is : (w : Work) (k : KeyView) → IsFirst (told w) k c.store.items → (e : Stored) × (elsewhere w.span w.target s.objects ≡ Some e) × (e.key ≡ k)
+  first_is : (w : Work) (k : KeyView) → IsFirst w k c.store.items → (e : Stored) × (elsewhere w.span w.target s.objects ≡ Some e) × (e.key ≡ k)
   first_is w k f =
       by (elsewhere w.span w.target s.objects) refl (sym (elsewhere-rows w.span w.target s.objects) ∙ ap (λ (rs : List Row). rows.elsewhere w.span w.target rs) (sym (rows-stand m c log st)) ∙ f.first)
     where
@@ -169,15 +169,15 @@ module _ (m : Meaning) (c : CoreView) (log : List Item) (st : Stands m c log) wh
       let is_now = ready_is w.work t p.key rv p.at true w.target ready in
       let f = found p.key r.item (find p.key s.objects)
       (subst (λ (o : Option RecordItem). IsFound m o (find p.key s.objects)) r.there (pairs-find m p.key c.store.items s.objects st.present.records)) refl in
-      let first : IsFirst (told w.work) p.key c.store.items =
-      subst (λ (o : Option moves.Work). IsNext o p.key c.store.items (Some r.item)) w.its
+      let first : IsFirst w.work p.key c.store.items =
+      subst (λ (o : Option Work). IsNext o p.key c.store.items (Some r.item)) w.its
       (subst (λ (o : Option RecordItem). IsNext (moves.work_of claim c.migrations) p.key c.store.items o) r.there next)
       (λ same. r.elsewhere (same ∙ w.target)) in
       let weight = (subst (λ (o : Option RecordItem). FitsAt p.key rv p o) r.there fits r.numbered).1 in
       let decided = touch-done n s claim p.key rv p.at w.work w.held is_now in
       let target : target_of s ≡ t = work_of-target claim s w.work w.held ∙ w.target in
       let plan_after : ms ≡ record c.migrations { plan = pass_key w.work.claim p.key c.migrations.plan } =
-      ms_is ∙ ap (λ (o : Option moves.Work). moves.after_pass o p.key c.migrations) w.its in
+      ms_is ∙ ap (λ (o : Option Work). moves.after_pass o p.key c.migrations) w.its in
       let puts : Puts m c log (record_for p) ms (Touch p.key w.work.claim) = record {
         object = moved (next_number log) (target_of s) f.0;
         plan = pass_key w.work.claim p.key s.plan;
@@ -211,5 +211,5 @@ module _ (m : Meaning) (c : CoreView) (log : List Item) (st : Stands m c log) wh
       both : (w v : Work) → work_of claim s ≡ Some w → work_of claim s ≡ Some v → w ≡ v
       both w v held again = let two : Some w ≡ Some v = sym held ∙ again in cc
 
-      firsts : (w : Work) (k : KeyView) → IsFirst (told w) k c.store.items → (v : Work) → w ≡ v → (e : Stored) × (elsewhere v.span v.target s.objects ≡ Some e) × (e.key ≡ k)
+      firsts : (w : Work) (k : KeyView) → IsFirst w k c.store.items → (v : Work) → w ≡ v → (e : Stored) × (elsewhere v.span v.target s.objects ≡ Some e) × (e.key ≡ k)
       firsts w k first v same = subst (λ (u : Work). (e : Stored) × (elsewhere u.span u.target s.objects ≡ Some e) × (e.key ≡ k)) same (first_is w k first)

@@ -36,6 +36,6 @@ work_of-target (Some c) s w is = by (running s.migrations) is
         let it : record { claim = c; span = r; target = q.target } ≡ w = cc in
         ap (λ (x : Work). x.target) it
 
-    by : (o : Option Migration) → work_under o c s ≡ Some w → target_or o s.flags.storage ≡ w.target
+    by : (o : Option Migration) → work_under o c s.plan.slots ≡ Some w → target_or o s.flags.storage ≡ w.target
     by None is = cc
     by (Some q) is = with_span q (span_of c s.plan.slots) is

@@ -7,7 +7,6 @@ use Rattle.kube_meta.specs.declared.limits.Limits.{Limits}
 use Rattle.migrate_core.specs.declared.records.Row.{Row}
 use Rattle.migrate_core.specs.View.{MigrationsView}
 use Rattle.migrate_core.specs.Rows as rows
-use Rattle.migrate_core.specs.Moves as moves
 use Rattle.api_calls.specs.Objects.{Stored, elsewhere, keys}
 use Rattle.api_calls.specs.State.{State}
 use Rattle.api_calls.specs.Work.{Work, work_in, work_under, work_of}
@@ -40,22 +39,6 @@ elsewhere-rows r v (e ∷ es) = by (in_span r e.key && not (nat_eq e.at v)) (els
 
 -- ---- the work of a claim
 
--- the work as the migrations tell it
-abbrev pub told : Work → moves.Work
-told w = record { claim = w.claim; span = w.span; target = w.target }
-
-pub work_of-told : (limits : Limits) (c : Option ℕ) (s : State) → moves.work_of c (migrations_of limits s) ≡ option_map told (work_of c s)
-work_of-told limits None s = refl
-work_of-told limits (Some c) s = by (running s.migrations)
-  where
-    with_span : (q : Migration) (o : Option Span) → moves.work_in c q.target o ≡ option_map told (work_in c q.target o)
-    with_span q None = refl
-    with_span q (Some r) = refl
-
-    by : (o : Option Migration) → moves.work_under o c (migrations_of limits s) ≡ option_map told (work_under o c s)
-    by None = refl
-    by (Some q) = with_span q (span_of c s.plan.slots)
-
 -- the work of a worker is that of its claim
 pub work_of-claim : (c : Option ℕ) (s : State) (w : Work) → work_of c s ≡ Some w → c ≡ Some w.claim
 work_of-claim None s w is = cc
@@ -67,6 +50,6 @@ work_of-claim (Some c) s w is = by (running s.migrations) is
         let it : record { claim = c; span = r; target = q.target } ≡ w = cc in
         ap (λ (x : Work). Some x.claim) it
 
-    by : (o : Option Migration) → work_under o c s ≡ Some w → Some c ≡ Some w.claim
+    by : (o : Option Migration) → work_under o c s.plan.slots ≡ Some w → Some c ≡ Some w.claim
     by None is = cc
     by (Some q) is = with_span q (span_of c s.plan.slots) is

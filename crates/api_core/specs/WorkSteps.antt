@@ -1,5 +1,5 @@
 -- A worker's turn on a core that stands for a list, by how it ended.
-use Rattle.std.specs.Prelude.{◌≡◌, ℕ, ◌+◌, Bool, List, Option, None, Some, is_some, option_map}
+use Rattle.std.specs.Prelude.{◌≡◌, ℕ, ◌+◌, Bool, List, Option, None, Some, is_some}
 use Rattle.std.proofs.Common.{refl, ap, sym, ◌∙◌, subst, arith}
 use Rattle.kube_meta.specs.Key.{KeyView}
 use Rattle.migrate_core.specs.declared.ends.Advance.TheVariants as advance
@@ -14,7 +14,7 @@ use Rattle.api_calls.specs.Work.{Work, Turn, work_of, turn_decision, give_back_o
 use Rattle.api_calls.specs.WorkGuards.{MayFinish, turn-guard, give_back-guard}
 use Rattle.api_core.specs.View.{CoreView}
 use Rattle.api_core.specs.Stands.{Stands}
-use Rattle.api_core.specs.WorkRows.{migrations_of, told}
+use Rattle.api_core.specs.WorkRows.{migrations_of}
 use Rattle.api_core.specs.Works.{Advanced, advance-prepare, advance-done, advance-lost, Taken, Marked, Rests}
 use Rattle.api_core.specs.Steps.{stands-still, stands-same, number-stand}
 use Rattle.api_core.specs.Turned.{WorkerTurned}
@@ -105,12 +105,12 @@ module _ (m : Meaning) (c : CoreView) (log : List Item) (st : Stands m c log) wh
 
   -- ---- giving back
 
-  pub given-back : (w : Option ℕ) (was : Bool) (ms : MigrationsView) → was ≡ is_some (option_map told (work_of w s))
-      → ms ≡ moves.after_give_back (option_map told (work_of w s)) (migrations_of c.limits s)
+  pub given-back : (w : Option ℕ) (was : Bool) (ms : MigrationsView) → was ≡ is_some (work_of w s)
+      → ms ≡ moves.after_give_back (work_of w s) (migrations_of c.limits s)
       → EndsAsDecided bound (WithMigrations ms) log (give_back_decision s w) was
   given-back w was ms was_is ms_is = by (work_of w s) refl was_is ms_is
     where
-      by : (o : Option Work) → work_of w s ≡ o → was ≡ is_some (option_map told o) → ms ≡ moves.after_give_back (option_map told o) (migrations_of c.limits s)
+      by : (o : Option Work) → work_of w s ≡ o → was ≡ is_some o → ms ≡ moves.after_give_back o (migrations_of c.limits s)
           → EndsAsDecided bound (WithMigrations ms) log (give_back_of o) was
       by None held was_is ms_is = (was_is, stands-same m c log ms st ms_is)
       by (Some v) held was_is ms_is = (

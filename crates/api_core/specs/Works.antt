@@ -15,7 +15,7 @@ use Rattle.api_calls.specs.Objects.{Stored, elsewhere}
 use Rattle.api_calls.specs.State.{State, entry_effect, note_effect}
 use Rattle.api_calls.specs.Ends.{idle, claimed as claim_taken, prepare, range_done, finished, says, enters}
 use Rattle.api_calls.specs.Work.{Work, work_of, idle_turn, turn_decision, give_back_decision}
-use Rattle.api_core.specs.WorkRows.{row_of, rows_of, migrations_of, told, keys-rows, elsewhere-rows, work_of-told, work_of-claim}
+use Rattle.api_core.specs.WorkRows.{row_of, rows_of, migrations_of, keys-rows, elsewhere-rows, work_of-claim}
 
 -- ---- a claim goes on
 
@@ -23,15 +23,15 @@ use Rattle.api_core.specs.WorkRows.{row_of, rows_of, migrations_of, told, keys-r
 pub record Advanced (limits : Limits) (s : State) (c : Option ℕ) (a : Advance) (after : MigrationsView) : Type 0 where
   pub work : Option Work
   pub of_claim : work_of c s ≡ work
-  pub answer : a ≡ moves.advance_end (option_map told work) (rows_of s.objects)
-  pub plan : after ≡ moves.after_advance (option_map told work) (rows_of s.objects) (migrations_of limits s)
+  pub answer : a ≡ moves.advance_end work (rows_of s.objects)
+  pub plan : after ≡ moves.after_advance work (rows_of s.objects) (migrations_of limits s)
 
 pub advanced : (limits : Limits) (s : State) (c : Option ℕ) (a : Advance) (v after : MigrationsView) (rs : List Row)
     → v ≡ migrations_of limits s → rs ≡ rows_of s.objects
     → a ≡ moves.advance_end (moves.work_of c v) rs → after ≡ moves.after_advance (moves.work_of c v) rs v
     → Advanced limits s c a after
 advanced limits s c a v after rs v_is rs_is answer plan =
-    let work = ap (moves.work_of c) v_is ∙ work_of-told limits c s in
+    let work : moves.work_of c v ≡ work_of c s = ap (moves.work_of c) v_is in
     record {
       work = work_of c s;
       of_claim = refl;
@@ -61,8 +61,8 @@ advance-prepare limits n s c k rv after a = by a.work a.of_claim a.answer a.plan
           same = plan;
         }
 
-    by : (o : Option Work) → work_of c s ≡ o → advance.Prepare k rv ≡ moves.advance_end (option_map told o) (rows_of s.objects)
-        → after ≡ moves.after_advance (option_map told o) (rows_of s.objects) (migrations_of limits s) → PreparesNext limits n s c k rv after
+    by : (o : Option Work) → work_of c s ≡ o → advance.Prepare k rv ≡ moves.advance_end o (rows_of s.objects)
+        → after ≡ moves.after_advance o (rows_of s.objects) (migrations_of limits s) → PreparesNext limits n s c k rv after
     by None held answer plan = cc
     by (Some w) held answer plan =
         let first = elsewhere-rows w.span w.target s.objects in
@@ -91,8 +91,8 @@ advance-done limits n s c after a = by a.work a.of_claim a.answer a.plan
     }
     with_first w (Some e) held first answer plan = cc
 
-    by : (o : Option Work) → work_of c s ≡ o → advance.Done ≡ moves.advance_end (option_map told o) (rows_of s.objects)
-        → after ≡ moves.after_advance (option_map told o) (rows_of s.objects) (migrations_of limits s) → Ended limits n s c after
+    by : (o : Option Work) → work_of c s ≡ o → advance.Done ≡ moves.advance_end o (rows_of s.objects)
+        → after ≡ moves.after_advance o (rows_of s.objects) (migrations_of limits s) → Ended limits n s c after
     by None held answer plan = cc
     by (Some w) held answer plan =
         let first = elsewhere-rows w.span w.target s.objects in
@@ -113,8 +113,8 @@ advance-lost limits n s c after a = by a.work a.of_claim a.answer a.plan
     with_first None answer = cc
     with_first (Some e) answer = cc
 
-    by : (o : Option Work) → work_of c s ≡ o → advance.Lost ≡ moves.advance_end (option_map told o) (rows_of s.objects)
-        → after ≡ moves.after_advance (option_map told o) (rows_of s.objects) (migrations_of limits s) → Forgotten limits n s c after
+    by : (o : Option Work) → work_of c s ≡ o → advance.Lost ≡ moves.advance_end o (rows_of s.objects)
+        → after ≡ moves.after_advance o (rows_of s.objects) (migrations_of limits s) → Forgotten limits n s c after
     by None held answer plan = record { decision = rw held refl; same = plan }
     by (Some w) held answer plan = absurd (with_first (rows.elsewhere w.span w.target (rows_of s.objects)) answer)
 

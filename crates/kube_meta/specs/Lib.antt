@@ -6,6 +6,7 @@ pub mod View
 pub mod Document
 pub mod Following
 pub mod Plan
+pub mod Work
 pub mod PlanLaws
 pub mod Window
 pub mod WindowLaws

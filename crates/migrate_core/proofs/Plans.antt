@@ -97,6 +97,6 @@ passed_on (Some d) c k v is h = under (running v.items) h
     inside t None h = absurd h
     inside t (Some r) h = ap (λ (n : ℕ). record v { plan = pass_key n k v.plan }) same
 
-    under : (o : Option Migration) → IsInWork k (work_under o d v) → record v { plan = pass_key c k v.plan } ≡ after_pass (work_under o d v) k v
+    under : (o : Option Migration) → IsInWork k (work_under o d v.plan.slots) → record v { plan = pass_key c k v.plan } ≡ after_pass (work_under o d v.plan.slots) k v
     under None h = absurd h
     under (Some m) h = inside m.target (span_of d v.plan.slots) h

@@ -1,7 +1,9 @@
 -- What each call answers, and what it leaves of the migrations and their plan.
 use Rattle.std.specs.Prelude.{◌≡◌, ℕ, ◌+◌, Bool, true, ◌&&◌, List, [], ◌∷◌, ◌++◌, Option, None, Some, is_some, length, nat_lt, if◌then◌else◌}
 use Rattle.kube_meta.specs.Key.{KeyView}
-use Rattle.kube_meta.specs.Plan.{Span, Migration, running, named, ended, stopped, cleared, span_of, in_span, may_claim, claimed, is_done, free_slot, give_back, pass_key}
+use Rattle.kube_meta.specs.Plan.{Migration, running, named, ended, stopped, cleared, in_span, may_claim, claimed, is_done, free_slot, give_back, pass_key}
+use Rattle.kube_meta.specs.Work as work
+pub use Rattle.kube_meta.specs.Work.{Work, work_in, work_under}
 use Rattle.kube_meta.specs.declared.limits.Condition.TheVariants.{Running, Succeeded, Failed}
 use Rattle.kube_meta.specs.declared.limits.RoomKind.TheVariants.{Migrations}
 use Rattle.migrate_core.specs.declared.ends.StartEnd.{StartEnd}
@@ -14,24 +16,9 @@ use Rattle.migrate_core.specs.View.{MigrationsView}
 
 -- ---- a claim that is held
 
--- a claim that is in a held slot of the running migration: its number, its span, and the migration's target
-pub record Work : Type 0 where
-  pub claim : ℕ
-  pub span : Span
-  pub target : ℕ
-
-abbrev pub work_in : ℕ → ℕ → Option Span → Option Work
-work_in c target None = None
-work_in c target (Some r) = Some (record { claim = c; span = r; target = target })
-
-abbrev pub work_under : Option Migration → ℕ → MigrationsView → Option Work
-work_under None c v = None
-work_under (Some m) c v = work_in c m.target (span_of c v.plan.slots)
-
 -- the work of a worker, by its claim
 abbrev pub work_of : Option ℕ → MigrationsView → Option Work
-work_of None v = None
-work_of (Some c) v = work_under (running v.items) c v
+work_of c v = work.work_of c v.items v.plan.slots
 
 -- ---- a migration is started
 
