@@ -1,9 +1,11 @@
 -- The objects of the server's state: a list by rising key, and how it is read and changed.
-use Rattle.std.specs.Prelude.{ℕ, ◌+◌, ◌&&◌, not, List, [], ◌∷◌, Option, None, Some, map, nat_eq, if◌then◌else◌}
+use Rattle.std.specs.Prelude.{ℕ, List, [], ◌∷◌, Option, None, Some, map}
 use Rattle.std.specs.Ordering.{match_ordering}
 use Rattle.kube_meta.specs.Key.{KeyView, key_cmp}
 use Rattle.kube_meta.specs.View.{ObjectView}
-use Rattle.kube_meta.specs.Plan.{Span, in_span}
+use Rattle.kube_meta.specs.Plan.{Span}
+use Rattle.kube_meta.specs.AtVersion as at_version
+use Rattle.kube_meta.specs.Window.{weights}
 
 -- what stands under a key: a hub value, its number, the version at which it is stored, the number of its creation, and its weight in chunks
 pub record Stored : Type 0 where
@@ -13,6 +15,15 @@ pub record Stored : Type 0 where
   pub at : ℕ
   pub born : ℕ
   pub weight : ℕ
+
+abbrev pub object_key : Stored → KeyView
+object_key e = e.key
+
+abbrev pub object_at : Stored → ℕ
+object_at e = e.at
+
+abbrev pub object_weight : Stored → ℕ
+object_weight e = e.weight
 
 -- the object under a key
 abbrev pub find : KeyView → List Stored → Option Stored
@@ -48,16 +59,14 @@ marked_at n v stamp e = record e { h = marked stamp e.h; number = n; at = v }
 
 -- the first object of a span that stands elsewhere
 abbrev pub elsewhere : Span → ℕ → List Stored → Option Stored
-elsewhere r v [] = None
-elsewhere r v (e ∷ es) = if in_span r e.key && not (nat_eq e.at v) then Some e else elsewhere r v es
+elsewhere r v es = at_version.elsewhere object_at object_key r v es
 
 abbrev pub keys : List Stored → List KeyView
-keys es = map (λ e. e.key) es
+keys es = map object_key es
 
 -- the weights of the objects, together
 abbrev pub live : List Stored → ℕ
-live [] = 0
-live (e ∷ es) = e.weight + live es
+live es = weights object_weight es
 
 abbrev pub born_or : Option Stored → ℕ → ℕ
 born_or None n = n

@@ -3,13 +3,14 @@ use Rattle.std.specs.Prelude.{ℕ, Bool, ◌&&◌, List, [], ◌∷◌, Option, 
 use Rattle.std.specs.List.{list_all}
 use Rattle.kube_meta.specs.Key.{KeyView}
 use Rattle.kube_meta.specs.Plan.{Migration, named, running}
+use Rattle.kube_meta.specs.AtVersion as at_version
 use Rattle.kube_meta.specs.declared.limits.Limits.{Limits}
 use Rattle.kube_meta.specs.declared.limits.Room.{Room}
 use Rattle.std.proofs.Math.Bool.{beq}
 use lib.Pointwise.{pointwise}
 use Rattle.api_calls.specs.declared.flags.Flags.{Flags}
 use Rattle.api_calls.specs.Item.{entry, SetVersions, Trim, StartMigration}
-use Rattle.api_calls.specs.Objects.{Stored}
+use Rattle.api_calls.specs.Objects.{Stored, object_at, object_key}
 use Rattle.api_calls.specs.State.{State, has, joined}
 use Rattle.api_calls.specs.Room.{lacking_migrations}
 use Rattle.api_calls.specs.Ends.{SetEnd, set, unchanged, TrimEnd, trimmed, untrimmed, unknown, still_stored, StartEnd, started, taken, busy, no_room, Decision, says, enters}
@@ -33,8 +34,7 @@ first_unknown stored (v ∷ vs) = if has stored v then first_unknown stored vs e
 
 -- the key of the first object that stands at a version
 abbrev pub first_at : ℕ → List Stored → Option KeyView
-first_at v [] = None
-first_at v (e ∷ es) = if nat_eq e.at v then Some e.key else first_at v es
+first_at v es = at_version.first_at object_at object_key v es
 
 -- why a version has to be kept: it is the storage version, which no key tells, or the object of a key stands there
 abbrev pub hold_of : ℕ → State → ℕ → Option (Option KeyView)

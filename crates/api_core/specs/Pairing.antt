@@ -1,14 +1,13 @@
 -- Records that pair with objects: what stands under a key, what is put there and taken out, their number, their weights, and the room that is left.
-use Rattle.std.proofs.Common.{◌≡◌, ℕ, ◌+◌, ◌-◌, List, [], ◌∷◌, length, Option, None, Some, Ordering, Less, Equal, Greater, ap, sym, subst, refl, ◌∙◌, arith, nat_lt}
-use Rattle.std.specs.Prelude.{if◌then◌else◌, option_map}
+use Rattle.std.proofs.Common.{◌≡◌, ℕ, List, [], ◌∷◌, length, Option, None, Some, Ordering, Less, Equal, Greater, ap, sym, subst, refl, ◌∙◌, arith}
+use Rattle.std.specs.Prelude.{option_map}
 use Rattle.std.specs.Ordering.{match_ordering}
 use Rattle.kube_meta.specs.Key.{KeyView, key_cmp}
 use Rattle.kube_meta.specs.KeyOrder.{key_cmp_one}
+use Rattle.kube_meta.specs.Room as room
 use Rattle.kube_meta.specs.Window.{weights}
 use Rattle.kube_meta.specs.WindowPairs.{AllPair}
 use Rattle.kube_meta.specs.declared.limits.Limits.{Limits}
-use Rattle.kube_meta.specs.declared.limits.Room.{Room}
-use Rattle.kube_meta.specs.declared.limits.RoomKind.TheVariants.{Objects, Chunks}
 use Rattle.record_store.specs.declared.row.Record.{Record}
 use Rattle.record_store.specs.ByKey.{find as find_record, put as put_record, without as without_record}
 use Rattle.record_store.specs.View.{Item as RecordItem, StoreView, item_key, item_weight, record_of}
@@ -137,19 +136,13 @@ module _ (m : Meaning) where
 
   -- ---- room
 
-  abbrev short : ℕ → ℕ → ℕ → ℕ → Option Room
-  short all used going w = if nat_lt (all - used + going) w then Some (record { what = Chunks; need = w; free = all - used + going }) else None
-
-  abbrev short_of : ℕ → ℕ → ℕ → ℕ → ℕ → Option Room
-  short_of count most all used w = if nat_lt count most then short all used 0 w else Some (record { what = Objects; need = 1; free = 0 })
-
   pub pairs-chunks : (limits : Limits) (s : StoreView) (es : List Stored) (going w : ℕ) → s.limits ≡ limits → AllPair (KeepsObject m) s.items es → store.lacking_chunks s going w ≡ lacking_chunks limits es going w
   pairs-chunks limits s es going w is h =
-      ap (λ (l : Limits). short l.chunks (weights item_weight s.items) going w) is
-      ∙ ap (λ (n : ℕ). short limits.chunks n going w) (pairs-weights s.items es h)
+      ap (λ (l : Limits). room.lacking_chunks l (weights item_weight s.items) going w) is
+      ∙ ap (λ (n : ℕ). room.lacking_chunks limits n going w) (pairs-weights s.items es h)
 
   pub pairs-room : (limits : Limits) (s : StoreView) (es : List Stored) (w : ℕ) → s.limits ≡ limits → AllPair (KeepsObject m) s.items es → store.lacking s w ≡ lacking limits es w
   pairs-room limits s es w is h =
-      ap (λ (l : Limits). short_of (length s.items) l.objects l.chunks (weights item_weight s.items) w) is
-      ∙ ap (λ (n : ℕ). short_of n limits.objects limits.chunks (weights item_weight s.items) w) (pairs-length s.items es h)
-      ∙ ap (λ (n : ℕ). short_of (length es) limits.objects limits.chunks n w) (pairs-weights s.items es h)
+      ap (λ (l : Limits). room.lacking l (length s.items) (weights item_weight s.items) w) is
+      ∙ ap (λ (n : ℕ). room.lacking limits n (weights item_weight s.items) w) (pairs-length s.items es h)
+      ∙ ap (λ (n : ℕ). room.lacking limits (length es) n w) (pairs-weights s.items es h)

@@ -1,7 +1,7 @@
 -- A trim by its parts: of the versions that aren't kept, those before the storage version are looked for among the objects, once for all of them.
 use Rattle.std.specs.Prelude.{◌≡◌, ℕ, Bool, true, false, not, ◌||◌, ◌&&◌, List, [], ◌∷◌, length, Option, None, Some, filter, option_map, nat_eq, if◌then◌else◌}
 use Rattle.std.specs.List.{list_all}
-use Rattle.std.proofs.Common.{refl, ap, sym, ◌∙◌, subst, arith}
+use Rattle.std.proofs.Common.{refl, ap, ◌∙◌, arith}
 use Rattle.std.proofs.lemmas.Bool.Decides.{nat_tests}
 use Rattle.kube_meta.specs.Key.{KeyView}
 use Rattle.kube_meta.specs.WindowPairs.{AllPair}
@@ -9,17 +9,11 @@ use Rattle.record_store.specs.View.{Item as RecordItem, item_key}
 use Rattle.record_store.specs.Standing.{item_at, first_at as first_seen, at_version, first_held as first_standing}
 use Rattle.api_calls.specs.Meaning.{Meaning}
 use Rattle.api_calls.specs.Item.{entry, Trim}
-use Rattle.api_calls.specs.Objects.{Stored}
+use Rattle.api_calls.specs.Objects.{Stored, object_at, object_key}
 use Rattle.api_calls.specs.State.{State, has}
 use Rattle.api_calls.specs.Ends.{trimmed, untrimmed, unknown, still_stored, says, enters}
 use Rattle.api_calls.specs.Settings.{first_unknown, first_at, hold_of, held_or, first_held, trim_free, trim_known, trim_decision}
 use Rattle.api_core.specs.Keeps.{KeepsObject}
-
-abbrev pub object_at : Stored → ℕ
-object_at e = e.at
-
-abbrev pub object_key : Stored → KeyView
-object_key e = e.key
 
 -- the versions that aren't kept
 abbrev pub unkept : List ℕ → List ℕ → List ℕ
@@ -37,10 +31,6 @@ held_from st vs None = if has vs st then Some (st, None) else None
 
 number : (m n : ℕ) → nat_eq m n ≡ true → m ≡ n
 number m n h = grind (arith, nat_tests)
-
-first_at-same : (v : ℕ) (es : List Stored) → first_seen object_at object_key v es ≡ first_at v es
-first_at-same v [] = refl
-first_at-same v (e ∷ es) = ap (λ (o : Option KeyView). if nat_eq e.at v then Some e.key else o) (first_at-same v es)
 
 -- the same, where the first version is not kept, and it is the storage version or not
 abbrev front : ℕ → List ℕ → Bool → Option (ℕ × KeyView) → Option (ℕ × Option KeyView)
@@ -65,10 +55,7 @@ first_held-parts keep s (v ∷ vs) = by (has keep v) (first_held-parts keep s vs
         → held_or v (if c then Some None else option_map (λ (k : KeyView). Some k) (first_at v s.objects)) (first_held keep s vs)
         ≡ front s.flags.storage (unkept keep vs) c (first_standing object_at object_key (if c then [] else v ∷ until s.flags.storage (unkept keep vs)) s.objects)
     with_storage true is more = ap (λ (w : ℕ). let p : ℕ × Option KeyView = (w, None) in Some p) (number v s.flags.storage is)
-    with_storage false is more =
-        subst (λ (o : Option KeyView). held_or v (option_map (λ (k : KeyView). Some k) (first_at v s.objects)) (first_held keep s vs)
-        ≡ front s.flags.storage (unkept keep vs) false (at_version v o (first_standing object_at object_key (until s.flags.storage (unkept keep vs)) s.objects)))
-        (sym (first_at-same v s.objects)) (with_key (first_at v s.objects) more)
+    with_storage false is more = with_key (first_at v s.objects) more
 
     by : (b : Bool)
         → first_held keep s vs ≡ held_from s.flags.storage (unkept keep vs) (first_standing object_at object_key (until s.flags.storage (unkept keep vs)) s.objects)

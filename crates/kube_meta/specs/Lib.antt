@@ -7,6 +7,8 @@ pub mod Document
 pub mod Following
 pub mod Plan
 pub mod Work
+pub mod AtVersion
+pub mod Room
 pub mod PlanLaws
 pub mod Window
 pub mod WindowLaws

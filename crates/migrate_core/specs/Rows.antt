@@ -1,12 +1,19 @@
 -- Records by key, as far as a migration reads them: a list by rising key.
-use Rattle.std.specs.Prelude.{ℕ, not, ◌&&◌, List, [], ◌∷◌, Option, None, Some, map, nat_eq, if◌then◌else◌}
+use Rattle.std.specs.Prelude.{ℕ, List, [], ◌∷◌, Option, None, Some, map, if◌then◌else◌}
 use Rattle.kube_meta.specs.Key.{KeyView}
-use Rattle.kube_meta.specs.Plan.{Bound, Span, passed, in_span}
+use Rattle.kube_meta.specs.Plan.{Bound, Span, passed}
+use Rattle.kube_meta.specs.AtVersion as at_version
 use Rattle.migrate_core.specs.declared.records.Row.{Row}
 pub use Rattle.kube_meta.specs.ByKey.{IsBelowFirst, KeysRise}
 
+abbrev pub row_key : Row → KeyView
+row_key e = e.key
+
+abbrev pub row_at : Row → ℕ
+row_at e = e.at
+
 abbrev pub keys : List Row → List KeyView
-keys es = map (λ e. e.key) es
+keys es = map row_key es
 
 -- the first record behind a bound
 abbrev pub first_behind : Bound → List Row → Option Row
@@ -15,5 +22,4 @@ first_behind b (e ∷ es) = if passed b e.key then first_behind b es else Some e
 
 -- the first record of a span that stands elsewhere
 abbrev pub elsewhere : Span → ℕ → List Row → Option Row
-elsewhere r v [] = None
-elsewhere r v (e ∷ es) = if in_span r e.key && not (nat_eq e.at v) then Some e else elsewhere r v es
+elsewhere r v es = at_version.elsewhere row_at row_key r v es

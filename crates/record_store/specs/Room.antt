@@ -1,24 +1,22 @@
 -- What a write answers, and what there is too little room for. Weights are in chunks of 256 bytes.
-use Rattle.std.specs.Prelude.{◌≡◌, ℕ, ◌+◌, ◌-◌, Bool, true, false, Option, None, Some, length, nat_eq, nat_lt, if◌then◌else◌}
+use Rattle.std.specs.Prelude.{◌≡◌, ℕ, Bool, true, false, Option, None, Some, length, nat_eq, if◌then◌else◌}
 use Rattle.kube_meta.specs.Window.{weights}
 use Rattle.kube_meta.specs.declared.limits.Room.{Room}
-use Rattle.kube_meta.specs.declared.limits.RoomKind.TheVariants.{Objects, Chunks}
+use Rattle.kube_meta.specs.Room as room
 use Rattle.record_store.specs.View.{Item, StoreView, item_weight}
 use Rattle.record_store.specs.declared.answer.PutEnd.{PutEnd}
 use Rattle.record_store.specs.declared.answer.PutEnd.TheVariants.{Done, Present, Gone, Moved, Full}
 
 -- the chunks that are free, where a record of this weight goes
 abbrev pub free_chunks : StoreView → ℕ → ℕ
-free_chunks s going = s.limits.chunks - weights item_weight s.items + going
+free_chunks s going = room.free_chunks s.limits (weights item_weight s.items) going
 
 abbrev pub lacking_chunks : StoreView → ℕ → ℕ → Option Room
-lacking_chunks s going weight =
-    if nat_lt (free_chunks s going) weight then Some (record { what = Chunks; need = weight; free = free_chunks s going }) else None
+lacking_chunks s going weight = room.lacking_chunks s.limits (weights item_weight s.items) going weight
 
 -- the number of objects is tried first
 abbrev pub lacking : StoreView → ℕ → Option Room
-lacking s weight =
-    if nat_lt (length s.items) s.limits.objects then lacking_chunks s 0 weight else Some (record { what = Objects; need = 1; free = 0 })
+lacking s weight = room.lacking s.limits (length s.items) (weights item_weight s.items) weight
 
 abbrev pub unless_full : Option Room → PutEnd
 unless_full None = Done

@@ -1,16 +1,12 @@
 -- At which of some versions a record stands. What is said of records is said of anything that has a version and a key.
-use Rattle.std.specs.Prelude.{ℕ, List, [], ◌∷◌, Option, None, Some, nat_eq, if◌then◌else◌}
+use Rattle.std.specs.Prelude.{ℕ, List, [], ◌∷◌, Option, None, Some}
 use Rattle.kube_meta.specs.Key.{KeyView}
+pub use Rattle.kube_meta.specs.AtVersion.{first_at}
 use Rattle.record_store.specs.declared.row.Row.{Row}
 use Rattle.record_store.specs.View.{Item}
 
 abbrev pub item_at : Item → ℕ
 item_at x = x.at
-
--- the key of the first record that stands at a version
-abbrev pub first_at : {X : Type 0} → (X → ℕ) → (X → KeyView) → ℕ → List X → Option KeyView
-first_at at key v [] = None
-first_at at key v (x ∷ xs) = if nat_eq (at x) v then Some (key x) else first_at at key v xs
 
 abbrev pub at_version : ℕ → Option KeyView → Option (ℕ × KeyView) → Option (ℕ × KeyView)
 at_version v None more = more
