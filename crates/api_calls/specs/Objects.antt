@@ -3,6 +3,7 @@ use Rattle.std.specs.Prelude.{ℕ, List, [], ◌∷◌, Option, None, Some, map}
 use Rattle.std.specs.Ordering.{match_ordering}
 use Rattle.kube_meta.specs.Key.{KeyView, key_cmp}
 use Rattle.kube_meta.specs.View.{ObjectView}
+use Rattle.kube_meta.specs.ByKey as by_key
 use Rattle.kube_meta.specs.Plan.{Span}
 use Rattle.kube_meta.specs.AtVersion as at_version
 use Rattle.kube_meta.specs.Window.{weights}
@@ -27,18 +28,15 @@ object_weight e = e.weight
 
 -- the object under a key
 abbrev pub find : KeyView → List Stored → Option Stored
-find k [] = None
-find k (e ∷ es) = match_ordering (key_cmp k e.key) None (Some e) (find k es)
+find k es = by_key.find object_key k es
 
 -- the objects with this one under its key
 abbrev pub put : Stored → List Stored → List Stored
-put x [] = x ∷ []
-put x (e ∷ es) = match_ordering (key_cmp x.key e.key) (x ∷ e ∷ es) (x ∷ es) (e ∷ put x es)
+put x es = by_key.put object_key x es
 
 -- the objects but the one under a key
 abbrev pub without : KeyView → List Stored → List Stored
-without k [] = []
-without k (e ∷ es) = match_ordering (key_cmp k e.key) (e ∷ es) es (e ∷ without k es)
+without k es = by_key.without object_key k es
 
 -- the objects, where the one under a key became another
 abbrev pub updated : (Stored → Stored) → KeyView → List Stored → List Stored

@@ -9,10 +9,10 @@ use Rattle.kube_meta.specs.WindowPairs.{AllPair}
 use Rattle.record_store.specs.ByKey.{put}
 use Rattle.record_store.specs.View.{Item, Old, StoreView, item_key, put_all, still, items_at}
 use Rattle.record_store.specs.View.{since as items_since}
-use Rattle.api_calls.specs.Objects.{Stored}
+use Rattle.api_calls.specs.Objects.{Stored, object_key}
 use Rattle.api_calls.specs.Snap.{Past}
 use Rattle.record_store.specs.Keeping.{IsSame, IsSamePast, ArePagesOfOne}
-use Rattle.record_store.proofs.Rising.{stored_key, put_each}
+use Rattle.record_store.proofs.Rising.{put_each}
 use Rattle.record_store.proofs.Rebuilt.{no_younger, stood, since, objects_at}
 
 module _ {X Y : Type 0} (R : X → Y → Type 0) where
@@ -63,7 +63,7 @@ module _ (text : Stored → List ℕ → Type 0) where
   put_all-pair xs [] es (f ∷ fs) p q = absurd q
   put_all-pair xs (y ∷ ys) es [] p q = absurd q
   put_all-pair xs (y ∷ ys) es (f ∷ fs) p q =
-      put-pair (IsSame text) item_key stored_key (λ x e r. r.key) y f q.0 (put_all xs ys) (put_each es fs) (put_all-pair xs ys es fs p q.1)
+      put-pair (IsSame text) item_key object_key (λ x e r. r.key) y f q.0 (put_all xs ys) (put_each es fs) (put_all-pair xs ys es fs p q.1)
 
   objects-pair : (os : List Old) (ps : List Past) → AllPair (IsSamePast text) os ps → AllPair (IsSame text) (map (λ o. o.item) os) (map (λ p. p.object) ps)
   objects-pair [] [] p = tt
@@ -83,9 +83,9 @@ module _ (text : Stored → List ℕ → Type 0) where
       (filter-pair (IsSame text) (λ x. nat_le x.rv r) (no_younger r) (λ x e h. ap (λ (n : ℕ). nat_le n r) h.number) s.items es p)
       (objects-pair (filter (gone r) s.window) (filter (stood r) ps) (filter-pair (IsSamePast text) (gone r) (stood r) (same_gone r) s.window ps q))
 
-  listed-pair : (ns : Option (List ℕ)) (after : Option KeyView) (xs : List Item) (es : List Stored) → AllPair (IsSame text) xs es → AllPair (IsSame text) (listed item_key ns after xs) (listed stored_key ns after es)
+  listed-pair : (ns : Option (List ℕ)) (after : Option KeyView) (xs : List Item) (es : List Stored) → AllPair (IsSame text) xs es → AllPair (IsSame text) (listed item_key ns after xs) (listed object_key ns after es)
   listed-pair ns after xs es p =
-      filter-pair (IsSame text) (λ x. in_namespace ns (item_key x) && not (passed (bound_after after) (item_key x))) (λ e. in_namespace ns (stored_key e) && not (passed (bound_after after) (stored_key e)))
+      filter-pair (IsSame text) (λ x. in_namespace ns (item_key x) && not (passed (bound_after after) (item_key x))) (λ e. in_namespace ns (object_key e) && not (passed (bound_after after) (object_key e)))
       (λ x e h. ap (λ (k : KeyView). in_namespace ns k && not (passed (bound_after after) k)) h.key) xs es p
 
   page_of-pair : (r limit : ℕ) (xs : List Item) (es : List Stored) → AllPair (IsSame text) xs es → ArePagesOfOne text (page_of r limit xs) (page_of r limit es)
@@ -97,5 +97,5 @@ module _ (text : Stored → List ℕ → Type 0) where
       by false = record { snapshot = refl; records = take-pair (IsSame text) limit xs es p; behind = ap (λ (n : ℕ). n - limit) (length-pair (IsSame text) xs es p) }
 
   pub page-pair : (r limit : ℕ) (ns : Option (List ℕ)) (after : Option KeyView) (xs : List Item) (es : List Stored) → AllPair (IsSame text) xs es
-      → ArePagesOfOne text (page_of r limit (listed item_key ns after xs)) (page_of r limit (listed stored_key ns after es))
-  page-pair r limit ns after xs es p = page_of-pair r limit (listed item_key ns after xs) (listed stored_key ns after es) (listed-pair ns after xs es p)
+      → ArePagesOfOne text (page_of r limit (listed item_key ns after xs)) (page_of r limit (listed object_key ns after es))
+  page-pair r limit ns after xs es p = page_of-pair r limit (listed item_key ns after xs) (listed object_key ns after es) (listed-pair ns after xs es p)

@@ -5,12 +5,9 @@ use Rattle.std.specs.Ordering.{match_ordering, ordering_reverse}
 use Rattle.kube_meta.specs.Key.{KeyView, key_cmp}
 use Rattle.kube_meta.specs.KeyOrder.{key_cmp_total, key_cmp_one, key_cmp_itself}
 use Rattle.record_store.specs.ByKey.{put}
-use Rattle.api_calls.specs.Objects.{Stored, find}
+use Rattle.api_calls.specs.Objects.{Stored, object_key, find}
 use Rattle.api_calls.specs.Legal.{Each, In}
 use Rattle.api_calls.specs.Laws.{IsRising}
-
-abbrev pub stored_key : Stored → KeyView
-stored_key e = e.key
 
 reversed : (k l : KeyView) (o : Ordering) → key_cmp k l ≡ o → key_cmp l k ≡ ordering_reverse o
 reversed k l o e = key_cmp_total.antisymm l k ∙ ap ordering_reverse e
@@ -34,11 +31,11 @@ each-filter P p (e ∷ es) h = by (p e) (each-filter P p es h.1)
     by true more = (h.0, more)
     by false more = more
 
-each-put : (P : Stored → Type 0) (y : Stored) (es : List Stored) → P y → Each P es → Each P (put stored_key y es)
+each-put : (P : Stored → Type 0) (y : Stored) (es : List Stored) → P y → Each P es → Each P (put object_key y es)
 each-put P y [] p h = (p, tt)
 each-put P y (e ∷ es) p h = by (key_cmp y.key e.key) (each-put P y es p h.1)
   where
-    by : (o : Ordering) → Each P (put stored_key y es) → Each P (match_ordering o (y ∷ e ∷ es) (y ∷ es) (e ∷ put stored_key y es))
+    by : (o : Ordering) → Each P (put object_key y es) → Each P (match_ordering o (y ∷ e ∷ es) (y ∷ es) (e ∷ put object_key y es))
     by Less more = (p, h)
     by Equal more = (p, h.1)
     by Greater more = (h.0, more)
@@ -53,11 +50,11 @@ rising-filter p (e ∷ es) h = by (p e) (rising-filter p es h.1)
     by true more = (each-filter (λ f. key_cmp e.key f.key ≡ Less) p es h.0, more)
     by false more = more
 
-rising-put : (y : Stored) (es : List Stored) → IsRising es → IsRising (put stored_key y es)
+rising-put : (y : Stored) (es : List Stored) → IsRising es → IsRising (put object_key y es)
 rising-put y [] h = (tt, tt)
 rising-put y (e ∷ es) h = by (key_cmp y.key e.key) refl (rising-put y es h.1)
   where
-    by : (o : Ordering) → key_cmp y.key e.key ≡ o → IsRising (put stored_key y es) → IsRising (match_ordering o (y ∷ e ∷ es) (y ∷ es) (e ∷ put stored_key y es))
+    by : (o : Ordering) → key_cmp y.key e.key ≡ o → IsRising (put object_key y es) → IsRising (match_ordering o (y ∷ e ∷ es) (y ∷ es) (e ∷ put object_key y es))
     by Less q more = ((q, each-weaker (λ f. key_cmp e.key f.key ≡ Less) (λ f. key_cmp y.key f.key ≡ Less) (λ f l. key_cmp_total.trans y.key e.key f.key q l) es h.0), h)
     by Equal q more = (each-weaker (λ f. key_cmp e.key f.key ≡ Less) (λ f. key_cmp y.key f.key ≡ Less) (λ f l. key_cmp_total.congr y.key e.key f.key q ∙ l) es h.0, h.1)
     by Greater q more = (each-put (λ f. key_cmp e.key f.key ≡ Less) y es (reversed y.key e.key Greater q) h.0, more)
@@ -91,31 +88,31 @@ rising-one es a b h i j q =
     let e : Some a ≡ Some b = sym one ∙ same ∙ two in
     cc
 
-in-put-here : (y : Stored) (es : List Stored) → In y (put stored_key y es)
+in-put-here : (y : Stored) (es : List Stored) → In y (put object_key y es)
 in-put-here y [] = inl refl
 in-put-here y (e ∷ es) = by (key_cmp y.key e.key) (in-put-here y es)
   where
-    by : (o : Ordering) → In y (put stored_key y es) → In y (match_ordering o (y ∷ e ∷ es) (y ∷ es) (e ∷ put stored_key y es))
+    by : (o : Ordering) → In y (put object_key y es) → In y (match_ordering o (y ∷ e ∷ es) (y ∷ es) (e ∷ put object_key y es))
     by Less more = inl refl
     by Equal more = inl refl
     by Greater more = inr more
 
-in-put-other : (e y : Stored) (es : List Stored) → (key_cmp y.key e.key ≡ Equal → e ≡ y) → In e es → In e (put stored_key y es)
+in-put-other : (e y : Stored) (es : List Stored) → (key_cmp y.key e.key ≡ Equal → e ≡ y) → In e es → In e (put object_key y es)
 in-put-other e y [] one i = absurd i
 in-put-other e y (f ∷ fs) one i = by (key_cmp y.key f.key) refl i (in-put-other e y fs one)
   where
-    by : (o : Ordering) → key_cmp y.key f.key ≡ o → In e (f ∷ fs) → (In e fs → In e (put stored_key y fs)) → In e (match_ordering o (y ∷ f ∷ fs) (y ∷ fs) (f ∷ put stored_key y fs))
+    by : (o : Ordering) → key_cmp y.key f.key ≡ o → In e (f ∷ fs) → (In e fs → In e (put object_key y fs)) → In e (match_ordering o (y ∷ f ∷ fs) (y ∷ fs) (f ∷ put object_key y fs))
     by Less q i more = inr i
     by Equal q (inl same) more = inl (one (ap (λ (g : Stored). key_cmp y.key g.key) same ∙ q))
     by Equal q (inr i) more = inr i
     by Greater q (inl same) more = inl same
     by Greater q (inr i) more = inr (more i)
 
-put-in : (e y : Stored) (es : List Stored) → In e (put stored_key y es) → (e ≡ y) ⊎ In e es
+put-in : (e y : Stored) (es : List Stored) → In e (put object_key y es) → (e ≡ y) ⊎ In e es
 put-in e y [] i = i
 put-in e y (f ∷ fs) i = by (key_cmp y.key f.key) i (put-in e y fs)
   where
-    by : (o : Ordering) → In e (match_ordering o (y ∷ f ∷ fs) (y ∷ fs) (f ∷ put stored_key y fs)) → (In e (put stored_key y fs) → (e ≡ y) ⊎ In e fs) → (e ≡ y) ⊎ In e (f ∷ fs)
+    by : (o : Ordering) → In e (match_ordering o (y ∷ f ∷ fs) (y ∷ fs) (f ∷ put object_key y fs)) → (In e (put object_key y fs) → (e ≡ y) ⊎ In e fs) → (e ≡ y) ⊎ In e (f ∷ fs)
     by Less (inl same) more = inl same
     by Less (inr i) more = inr i
     by Equal (inl same) more = inl same
@@ -146,7 +143,7 @@ in-filter p e (f ∷ fs) t i = by (p f) refl i (in-filter p e fs t)
 
 abbrev pub put_each : List Stored → List Stored → List Stored
 put_each xs [] = xs
-put_each xs (y ∷ ys) = put stored_key y (put_each xs ys)
+put_each xs (y ∷ ys) = put object_key y (put_each xs ys)
 
 pub rising-put_each : (xs ys : List Stored) → IsRising xs → IsRising (put_each xs ys)
 rising-put_each xs [] h = h
@@ -169,7 +166,7 @@ module _ (C : Stored → Type 0) (one : (a b : Stored) → C a → C b → key_c
 
   pub in-put_each-then : (xs ys : List Stored) → ((y : Stored) → In y ys → C y) → In e ys → In e (put_each xs ys)
   in-put_each-then xs [] all i = absurd i
-  in-put_each-then xs (y ∷ ys) all (inl same) = subst (λ (a : Stored). In a (put stored_key y (put_each xs ys))) (sym same) (in-put-here y (put_each xs ys))
+  in-put_each-then xs (y ∷ ys) all (inl same) = subst (λ (a : Stored). In a (put object_key y (put_each xs ys))) (sym same) (in-put-here y (put_each xs ys))
   in-put_each-then xs (y ∷ ys) all (inr i) =
       in-put-other e y (put_each xs ys) (λ q. one y e (all y (inl refl)) c q) (in-put_each-then xs ys (λ z j. all z (inr j)) i)
 
