@@ -11,6 +11,7 @@ pub mod Held
 pub mod Generations
 pub mod Names
 pub mod OneDocument
+pub mod Texts
 pub mod Stored
 pub mod StoredBytes
 pub mod ExampleServer

@@ -8,13 +8,10 @@ use Rattle.kube_meta.specs.View.{ObjectView}
 use Rattle.kube_meta.specs.Document.{document}
 use Rattle.api_calls.specs.Meaning.{Meaning, Weighs, unnumbered, stored_text, measure, chunks, stamped, widest}
 use Rattle.api_calls.specs.Versions.{StandsAt, IsStored, IsOneToOne, IgnoresStamps, Stand}
+use Rattle.api_calls.specs.SpelledLaws.{unnumbered-itself}
 use Rattle.api_calls.proofs.OneDocument.{document_one}
 
 -- ---- one text, one object
-
-unnumbered-itself : (m : Meaning) (v : ℕ) (x : ObjectView) → StandsAt m v x → unnumbered x ≡ x
-unnumbered-itself m v x s =
-    λ i. record x { meta = record x.meta { resource_version = sym s.no_number i; uid = sym s.no_uid i } }
 
 pub one_form : (m : Meaning) (v w : ℕ) (x y : ObjectView) → ((j k : Json) → IsSoundJson j → IsSoundJson k → text_of j ≡ text_of k → j ≡ k)
     → StandsAt m v x → StandsAt m w y → stored_text x ≡ stored_text y → x ≡ y

@@ -16,6 +16,8 @@ pub mod Laws
 pub mod EachObject
 pub mod Growth
 pub mod Versions
+pub mod Spelled
+pub mod SpelledLaws
 pub mod Values
 pub mod Ends
 pub mod Writes

@@ -9,11 +9,12 @@ use Rattle.kj_value.specs.Reading.{Reads}
 use Rattle.kj_value.specs.Fault.{IsRefusedJson}
 use Rattle.kj_value.specs.declared.reading.JsonFault.TheVariants.{NotJson, TooDeep, NotWhole}
 use Rattle.kj_value.specs.Text.{escaped_byte}
-use Rattle.kj_value.specs.Fields.{Pairs, field}
+use Rattle.kj_value.specs.Fields.{Pairs}
 use Rattle.kube_meta.specs.View.{ObjectView}
 use Rattle.kube_meta.specs.Document.{document}
 use Rattle.kube_meta.specs.Names.{is_namespace}
 use Rattle.object_reading.specs.Keeping.{KeepsRules}
+pub use Rattle.object_reading.specs.Written.{IsBody}
 use Rattle.api_calls.specs.Cause.{why_of, cause_of, not_json, too_deep, not_whole, not_object}
 use Rattle.api_calls.specs.Meaning.{Meaning, Request, Fault, bad_request, invalid, stored_text, stamped}
 use Rattle.api_calls.specs.declared.flags.Flags.{Flags}
@@ -59,12 +60,6 @@ pub record AreStamps (birth end : Option (List ℕ)) (number : ℤ) : Type 0 whe
   pub created : IfSome birth IsStamp
   pub deleted : IfSome end IsStamp
   pub generation : FitsSigned w64 number
-
--- the body leaves the three names to the object's own values
-pub record IsBody (body : Pairs) : Type 0 where
-  pub api_version : field (codes "apiVersion") body ≡ None
-  pub kind : field (codes "kind") body ≡ None
-  pub metadata : field (codes "metadata") body ≡ None
 
 -- an object of the definition at a version, without a number and a uid, whose metadata keep their rules: one that is read back
 pub record StandsAt (m : Meaning) (v : ℕ) (x : ObjectView) : Type 0 where

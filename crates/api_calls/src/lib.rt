@@ -3,8 +3,8 @@
 //!
 //! The crate's one contract: whoever speaks of the server's history speaks of the one in `specs`. A list of items has one
 //! state, a call at a list has one decision with its reply, and `laws` are what holds of every legal list. The texts that
-//! the crate makes are those that `specs/Status`, `specs/Token` and `specs/Uid` define. It knows nothing of connections,
-//! stores, threads or schemas.
+//! the crate makes are those that `specs/Status`, `specs/Token` and `specs/Uid` define, and `read_form` reads the object
+//! that a stored text spells. It knows nothing of connections, stores, threads or schemas.
 #![tactic(auto)]
 
 mod cause;
@@ -21,6 +21,7 @@ mod tool;
 mod uid;
 mod versions;
 mod why;
+mod written;
 
 pub use cause::Cause;
 pub use flags::{Flags, StoredList};
@@ -37,3 +38,4 @@ pub use versions::{
     standing_is_read, stored_fits,
 };
 pub use why::Why;
+pub use written::read_form;

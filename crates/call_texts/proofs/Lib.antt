@@ -5,6 +5,5 @@ pub mod IfOk
 pub mod Pieces
 pub mod Paging
 pub mod Caching
-pub mod Texts
 pub mod StoredTexts
 pub mod AsItStands

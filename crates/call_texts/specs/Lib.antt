@@ -1,7 +1,6 @@
 pub mod Places
 pub mod Faults
 pub mod Told
-pub mod Spelled
 pub mod PageTexts
 pub mod Cached
 pub mod Listing

@@ -15,7 +15,6 @@ mod place;
 mod refused;
 mod render;
 mod served;
-mod written;
 
 // What each call tells.
 mod get;
@@ -30,4 +29,3 @@ pub use refused::{
     Refused, bad_definition, no_finalizer, not_admitted, not_read, not_started, plain,
 };
 pub use served::is_served;
-pub use written::read_form;

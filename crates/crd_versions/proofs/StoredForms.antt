@@ -1,16 +1,15 @@
 -- Forms of a hub value, and the text in which one is stored.
-use Rattle.std.proofs.Common.{◌≡◌, ◌∙◌, ℕ, ◌<◌, ◌≤◌, List, length, Option, Some, None, Result, Ok, Err, IfOk, ap, ap₂, sym, subst}
-use Rattle.std.specs.Prelude.{slice_get, IfSome}
+use Rattle.std.proofs.Common.{◌≡◌, ◌∙◌, ℕ, ◌<◌, ◌≤◌, List, length, Some, Result, Ok, Err, IfOk, ap, sym, subst}
+use Rattle.std.specs.Prelude.{slice_get}
 use Rattle.std.proofs.lemmas.Option.{slice_get_within}
 use Rattle.kj_value.specs.Json.{depth}
-use Rattle.kj_value.specs.Text.{text_of}
 use Rattle.kj_value.specs.declared.error.NoMemory.{NoMemory}
 use Rattle.kube_meta.specs.View.{ObjectView, object_of}
 use Rattle.kube_meta.specs.Document.{document}
 use Rattle.kube_meta.specs.declared.object.Object.{Object}
-use Rattle.object_reading.specs.Written.{IsMoment, IsWritable}
-use Rattle.api_calls.specs.Meaning.{Meaning, unnumbered}
-use Rattle.api_calls.specs.Versions.{IsStamp, StandsAt, Stand, IsStored}
+use Rattle.api_calls.specs.Spelled.{IsTextOf}
+use Rattle.api_calls.specs.SpelledLaws.{stored-text}
+use Rattle.api_calls.specs.Versions.{Stand, IsStored}
 use Rattle.api_calls.specs.declared.versions.TheConstants.{OBJECT_LEVELS}
 use Rattle.keep_laws.specs.Spokes.{Spoke, Spokes}
 use Rattle.keep_laws.specs.Pair.{IsPairOf}
@@ -18,38 +17,11 @@ use Rattle.keep_laws.specs.WholeHub.{IsSettledAt}
 use Rattle.crd_meaning.specs.Definition.{Definition, Seat, at_hub, at_spoke, seat, count_of}
 use Rattle.crd_meaning.specs.Objects.{IsWholeValue, PairsAt, IsFormAt}
 use Rattle.crd_meaning.specs.Meant.{meant}
-use Rattle.crd_versions.specs.Forms.{IsTextOf, IsFormOf}
+use Rattle.crd_versions.specs.Forms.{IsFormOf}
 
 if_ok : (P Q : Object → Type 0) (r : Result Object NoMemory) → ((x : Object) → P x → Q x) → IfOk r P → IfOk r Q
 if_ok P Q (Ok x) f h = f x h
 if_ok P Q (Err e) f h = h
-
--- ---- what stands at a version is read back from its text
-
-moment : (o : Option (List ℕ)) → IfSome o IsStamp → IfSome o IsMoment
-moment None h = tt
-moment (Some s) h = record { bytes = h.bytes; ascii = h.ascii }
-
-pub whole_of : (m : Meaning) (v : ℕ) (x : ObjectView) → StandsAt m v x → IsWritable x
-whole_of m v x s = record {
-  body = record { api_version = s.body.api_version; kind = s.body.kind; metadata = s.body.metadata };
-  created = moment x.meta.created s.stamps.created;
-  deleted = moment x.meta.deleted s.stamps.deleted;
-}
-
-bare : (x : ObjectView) → x.meta.resource_version ≡ None → x.meta.uid ≡ None → unnumbered x ≡ x
-bare x n u = ap₂ (λ (a b : Option (List ℕ)). record x { meta = record x.meta { resource_version = a; uid = b } }) (sym n) (sym u)
-
-pub text_of_stored : (d : Definition) (v : ℕ) (h : ObjectView) (bytes : List ℕ) → Stand (meant d) → (s : IsStored (meant d) v h bytes) → IsTextOf s.form bytes
-text_of_stored d v h bytes stand s =
-    let at = stand.pair v h s.form s.known s.whole s.pairs in
-    record {
-      whole = whole_of (meant d) v s.form at;
-      sound = at.sound;
-      levels = at.levels;
-      spelled = s.spelled ∙ ap (λ (y : ObjectView). text_of (document y)) (bare s.form at.no_number at.no_uid);
-      utf8 = s.utf8;
-    }
 
 -- ---- a form at a spoke
 
@@ -67,7 +39,7 @@ form_of d all v p h x s e q at w f =
 -- x is read of the stored text
 pub form_back : (d : Definition) (all : Spokes) (v p : ℕ) (h x : ObjectView) (bytes : List ℕ) (s : Spoke) → Stand (meant d) → ((y : ObjectView) → IsTextOf y bytes → x ≡ y) → IsStored (meant d) v h bytes → all ≡ d.spokes → slice_get d.spokes.items p ≡ Some s → seat d v ≡ at_spoke s → IsFormOf all p x h
 form_back d all v p h x bytes s stand read t e q at =
-    subst (λ (y : ObjectView). IsFormOf all p y h) (sym (read t.form (text_of_stored d v h bytes stand t))) (form_of d all v p h t.form s e q at t.whole t.pairs)
+    subst (λ (y : ObjectView). IsFormOf all p y h) (sym (read t.form (stored-text (meant d) v h bytes stand t))) (form_of d all v p h t.form s e q at t.whole t.pairs)
 
 pub made_form : (d : Definition) (all : Spokes) (v : ℕ) (h : ObjectView) (s : Spoke) (r : Result Object NoMemory) → all ≡ d.spokes → seat d v ≡ at_spoke s → IfOk r (λ x. IsPairOf all s (object_of x) h) → IfOk r (λ x. IsSettledAt all s (object_of x)) → IfOk r (λ x. IsFormAt d v h (object_of x))
 made_form d all v h s (Ok x) e at p t =
@@ -83,7 +55,7 @@ hub_made d v h r at e =
 -- x is read of the stored text
 pub hub_back : (d : Definition) (v : ℕ) (h x : ObjectView) (bytes : List ℕ) → Stand (meant d) → ((y : ObjectView) → IsTextOf y bytes → x ≡ y) → IsStored (meant d) v h bytes → seat d v ≡ at_hub → x ≡ h
 hub_back d v h x bytes stand read t at =
-    read t.form (text_of_stored d v h bytes stand t) ∙ subst (λ (z : Seat). PairsAt d.spokes z h t.form) at t.pairs
+    read t.form (stored-text (meant d) v h bytes stand t) ∙ subst (λ (z : Seat). PairsAt d.spokes z h t.form) at t.pairs
 
 -- ---- how deep they are
 

@@ -8,7 +8,7 @@ ghost use Rattle.api_calls.specs.declared.versions.TheConstants.{OBJECT_LEVELS};
 ghost use Rattle.crd_meaning.specs.Meant.{meant};
 
 use crate::going_back::taken_back;
-use crate::reading::read_form;
+use api_calls::read_form;
 use crd_loading::LoadedVersions;
 use crd_meaning::standing;
 use kj_value::NoMemory;

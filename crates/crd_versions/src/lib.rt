@@ -12,7 +12,6 @@
 mod forms;
 mod going_back;
 mod hub_values;
-mod reading;
 
 // The implementation.
 mod admission;

@@ -11,9 +11,9 @@ ghost use Rattle.write_texts.specs.Readying.{IsReady};
 
 use crate::prepare::prepare_write;
 use crate::seal::Sealed;
-use api_calls::{ConvFault, Versions, one_weight};
+use api_calls::{ConvFault, Versions, one_weight, read_form};
 use api_core::Prepared;
-use call_texts::{Given, read_form};
+use call_texts::Given;
 use kj_value::{NoMemory, Stamp};
 use kube_meta::{Key, Object};
 

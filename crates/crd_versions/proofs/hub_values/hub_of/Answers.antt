@@ -1,11 +1,13 @@
 use Rattle.kube_meta.specs.View.{object_of}
-use Rattle.crd_versions.proofs.StoredForms.{text_of_stored, form_back, hub_back, is_stored, stored_of, whole_levels, stored_levels}
+use Rattle.api_calls.specs.SpelledLaws.{stored-text}
+use Rattle.crd_meaning.specs.Meant.{meant}
+use Rattle.crd_versions.proofs.StoredForms.{form_back, hub_back, is_stored, stored_of, whole_levels, stored_levels}
 use Rattle.crd_versions.proofs.hub_values.hub_of.Goals as goal
 
 pub read_form-requires : goal.read_form-requires
 read_form-requires c =
     let s = c.requires.1 in
-    (s.form, text_of_stored c.args.set.now c.args.v c.requires.0 c.args.stored.now (c.standing.ensures c.args.set.now c.hub.ensures.loaded) s)
+    (s.form, stored-text (meant c.args.set.now) c.args.v c.requires.0 c.args.stored.now (c.standing.ensures c.args.set.now c.hub.ensures.loaded) s)
 
 pub place-requires : goal.place-requires
 place-requires c = c.requires.1.known

@@ -1,8 +1,8 @@
 use Rattle.std.proofs.Common.{subst}
 use Rattle.kj_value.specs.Fault.{IsRefusedJson}
 use Rattle.kj_value.specs.declared.reading.JsonFault.{JsonFault}
-use Rattle.call_texts.proofs.Texts.{reads, never_not_json, never_too_deep, never_not_whole}
-use Rattle.call_texts.proofs.written.read_form.Goals as goal
+use Rattle.api_calls.proofs.Texts.{reads, never_not_json, never_too_deep, never_not_whole}
+use Rattle.api_calls.proofs.written.read_form.Goals as goal
 
 pub read_written-requires : goal.read_written-requires
 read_written-requires c =

@@ -10,7 +10,7 @@ use Rattle.kj_value.specs.Fault.{IsRefusedJson}
 use Rattle.kj_value.specs.declared.reading.JsonFault.TheVariants.{NotJson, TooDeep, NotWhole}
 use Rattle.kube_meta.specs.View.{ObjectView}
 use Rattle.kube_meta.specs.Document.{document}
-use Rattle.call_texts.specs.Spelled.{IsTextOf}
+use Rattle.api_calls.specs.Spelled.{IsTextOf}
 
 abbrev pub TextReads : Type 0
 TextReads = (j : Json) → IsSoundJson j → depth j ≤ 100 → IsUtf8 (text_of j) → Reads (text_of j) (depth j) j
