@@ -1,17 +1,14 @@
 -- The one response to a head that is refused (RFC 9112; status codes of RFC 9110 and RFC 6585).
 use Rattle.std.specs.Prelude.{ℕ, List, [], None, true, codes}
 use Rattle.kj_value.specs.Text.{text_of}
-use Rattle.api_calls.specs.Status.{status}
+use Rattle.api_calls.specs.Status.{status, code_bad_request}
 use Rattle.api_calls.specs.Reply.{ReplyView}
 use Rattle.http_wire.specs.Response.{says}
 use Rattle.http_wire.specs.Stream.{End, closed, closing, spent, torn, refused}
 use Rattle.http_wire.specs.declared.WireFault.{WireFault}
 use Rattle.http_wire.specs.declared.WireFault.TheVariants.{Closed, Torn, BadHead, HeadTooLong, LengthRequired, BodyTooLong, ReadFault}
 
--- the status codes of RFC 9110, and of RFC 6585 for a head that is too long
-abbrev pub code_bad_request : ℕ
-code_bad_request = 400
-
+-- further status codes of RFC 9110, and that of RFC 6585 for a head that is too long
 abbrev pub code_length_required : ℕ
 code_length_required = 411
 
