@@ -30,7 +30,7 @@ pub use ranking::{priority, priority_total, version_names};
 pub use refusal::{Refusal, Subject};
 pub use reply::Reply;
 pub use status::{code_of, no_memory_text, status_text};
-pub use token::{Token, TokenFault, one_token, read_token, write_token};
+pub use token::{Token, TokenFault, number_of, one_token, read_token, write_token};
 pub use tool::{NoTool, NoTools, Tool, Tools};
 pub use uid::{BORN_END, UID_BYTES, uid_into, uid_of};
 pub use versions::{

@@ -148,8 +148,9 @@ fn cut(text: &str) -> Option<(&str, &str)>
     text.split_once(' ')
 }
 
-// The number that is spelled so, without leading zeros.
-fn number_of(text: &str) -> Option<u64>
+/// The number below 2^64 that a text spells, in decimal digits without a sign or leading zeros, or `None` exactly where it
+/// spells none. It takes no memory.
+pub fn number_of(text: &str) -> Option<u64>
     ensures { MatchOption result ((n : ℕ) → n < 2 ^ 64 → decimal n ≢ text.now)
         (λ n. (n < 2 ^ 64) × (decimal n ≡ text.now)) }
 {

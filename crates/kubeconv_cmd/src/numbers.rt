@@ -1,28 +1,13 @@
 //! The numbers of a command line: decimal digits without a sign or leading zeros.
-ghost use Rattle.std.specs.Prelude.{◌≡◌, ◌≢◌, ◌≤◌, ◌<◌, ◌^◌, ℕ, MatchOption, decimal};
+ghost use Rattle.std.specs.Prelude.{◌≡◌, ◌≤◌, ℕ, MatchOption, decimal};
 
-use itoa::Buffer;
+use api_calls::number_of;
 
 /// A drill takes so many steps at most.
 pub const MOST_STEPS: u64 = 100_000;
 
 /// The greatest number that a drill starts from.
 pub(crate) const MOST_START: u64 = 9_223_372_036_854_775_807;
-
-// The number that is spelled so, without leading zeros.
-fn number_of(text: &str) -> Option<u64>
-    ensures { MatchOption result ((n : ℕ) → n < 2 ^ 64 → decimal n ≢ text.now)
-        (λ n. (n < 2 ^ 64) × (decimal n ≡ text.now)) }
-{
-    let Ok(number) = text.parse::<u64>() else {
-        return None;
-    };
-    let mut buffer = Buffer::new();
-    if buffer.format(number) != text {
-        return None;
-    }
-    Some(number)
-}
 
 /// The number up to a greatest one that a text spells, or `None` exactly where it spells none.
 pub(crate) fn number_up_to(text: &str, most: u64) -> Option<u64>
