@@ -17,7 +17,6 @@ mod seen;
 mod meaning;
 mod pages;
 mod present;
-mod served;
 mod settings;
 mod store_rows;
 mod stored_versions;

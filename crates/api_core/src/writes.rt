@@ -17,8 +17,7 @@ ghost use Rattle.api_core.specs.CoreOf.{SameBase, StandsFor};
 use crate::ends::{CreateEnd, DeleteEnd, ReleaseEnd, ReplaceEnd};
 use crate::present::Core;
 use crate::seen::Prepared;
-use crate::served::is_served;
-use api_calls::Versions;
+use api_calls::{Versions, is_served};
 use kube_meta::Key;
 use record_store::{NewRecord, PutEnd};
 

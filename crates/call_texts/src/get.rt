@@ -12,8 +12,7 @@ ghost use Rattle.call_texts.specs.Told.{Came, decided};
 
 use crate::given::Given;
 use crate::refused::Refused;
-use crate::served::is_served;
-use api_calls::{BORN_END, ConvFault, Refusal, Reply, Versions};
+use api_calls::{BORN_END, ConvFault, Refusal, Reply, Versions, is_served};
 use api_core::{Peeked, Seen};
 use form_cache::FormCache;
 use kj_value::{NoMemory, Txt};

@@ -14,7 +14,6 @@ mod page_text;
 mod place;
 mod refused;
 mod render;
-mod served;
 
 // What each call tells.
 mod get;
@@ -28,4 +27,3 @@ pub use place::place_of;
 pub use refused::{
     Refused, bad_definition, no_finalizer, not_admitted, not_read, not_started, plain,
 };
-pub use served::is_served;

@@ -12,8 +12,8 @@ ghost use Rattle.setting_texts.specs.Offered.{rank_of, ranked_with};
 ghost use Rattle.call_texts.specs.PageTexts.{Adds, joined_from};
 ghost use Rattle.setting_texts.specs.SettingTexts.{member_text};
 
-use api_calls::{Flags, Reply, Versions, priority, priority_total};
-use call_texts::{Given, Refused, add, comma_before, group_version, is_served, quoted};
+use api_calls::{Flags, Reply, Versions, is_served, priority, priority_total};
+use call_texts::{Given, Refused, add, comma_before, group_version, quoted};
 use kj_value::{NoMemory, Txt};
 use std::alloc::Global;
 

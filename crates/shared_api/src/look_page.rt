@@ -7,9 +7,8 @@ ghost use Rattle.shared_api.specs.PageTurns.{LooksPage};
 ghost use Rattle.shared_api.specs.declared.cell.CoreBase.{CoreBase};
 
 use crate::cell::{CoreBase, CoreCell};
-use api_calls::{Token, Versions};
+use api_calls::{Token, Versions, is_served};
 use api_core::{Page, PageFault};
-use call_texts::is_served;
 use std::alloc::Global;
 use std::sync::Wait;
 use turn_cell::{PassOf, Turn};

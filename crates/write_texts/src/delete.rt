@@ -17,9 +17,9 @@ ghost use Rattle.write_texts.specs.Leavings.{IsLeaving, IsSaid, LeavesSeen, Mark
 use crate::deleted::deleted_text;
 use crate::mark::{holding_of, prepare_mark};
 use crate::seal::Sealed;
-use api_calls::{BORN_END, ConvFault, Refusal, Reply, Versions, one_stored};
+use api_calls::{BORN_END, ConvFault, Refusal, Reply, Versions, is_served, one_stored};
 use api_core::{DeleteEnd, Peeked, Prepared, Seen};
-use call_texts::{Given, Refused, is_served, plain};
+use call_texts::{Given, Refused, plain};
 use kj_value::{NoMemory, Stamp, Txt};
 use kube_meta::{Key, Object};
 

@@ -9,33 +9,33 @@ use Rattle.api_core.proofs.present.Core.commit_create.Goals as goal
 
 pub returns-in_default-clause-turn : goal.returns-in_default-clause-turn
 returns-in_default-clause-turn g c =
-    let may = sym c.is_served.ensures ∙ c.if-not-is_served.false in
+    let may = sym c.is_served.ensures.served ∙ c.if-not-is_served.false in
     rw (← c.self.view_is) (λ log h stands prepares new.
     create-moved _ _ log stands c.args.v c.args.new h may (sym c.look.ensures ∙ c.in_default.is) c.if-new-now.true)
 
 pub returns-then-new-now-clause-turn : goal.returns-then-new-now-clause-turn
 returns-then-new-now-clause-turn g c =
-    let may = sym c.is_served.ensures ∙ c.if-not-is_served.false in
+    let may = sym c.is_served.ensures.served ∙ c.if-not-is_served.false in
     rw (← c.self.view_is) (λ log h stands prepares new.
     create-seen _ _ log stands c.args.v c.args.new h _ may (sym c.look.ensures ∙ c.in-Some.is))
 
 pub returns-in-Present-clause-turn : goal.returns-in-Present-clause-turn
 returns-in-Present-clause-turn g c =
-    let may = sym c.is_served.ensures ∙ c.if-not-is_served.false in
+    let may = sym c.is_served.ensures.served ∙ c.if-not-is_served.false in
     let end = ap (λ (n : NewRecord). put_end None n.weight (find item_key n.key c.self.inside.store.items) c.self.inside.store) (sym c.record_of.ensures) ∙ sym c.put_if.ensures.end ∙ c.in-Present.is in
     rw (← c.self.view_is) (λ log h stands prepares new.
     create-refused_present _ _ log stands c.args.v c.args.new h c.put_if.new.self may end c.in-Present.ensures.store)
 
 pub returns-in-Full-clause-turn : goal.returns-in-Full-clause-turn
 returns-in-Full-clause-turn g c =
-    let may = sym c.is_served.ensures ∙ c.if-not-is_served.false in
+    let may = sym c.is_served.ensures.served ∙ c.if-not-is_served.false in
     let end = ap (λ (n : NewRecord). put_end None n.weight (find item_key n.key c.self.inside.store.items) c.self.inside.store) (sym c.record_of.ensures) ∙ sym c.put_if.ensures.end ∙ c.in-Full.is in
     rw (← c.self.view_is) (λ log h stands prepares new.
     create-refused_full _ _ log stands c.args.v c.args.new h c.in-Full.room c.put_if.new.self may c.if-new-now.false end c.in-Full.ensures.store)
 
 pub returns-in-Done-clause-turn : goal.returns-in-Done-clause-turn
 returns-in-Done-clause-turn g c =
-    let may = sym c.is_served.ensures ∙ c.if-not-is_served.false in
+    let may = sym c.is_served.ensures.served ∙ c.if-not-is_served.false in
     let end = ap (λ (n : NewRecord). put_end None n.weight (find item_key n.key c.self.inside.store.items) c.self.inside.store) (sym c.record_of.ensures) ∙ sym c.put_if.ensures.end ∙ c.in-Done.is in
     let store = c.in-Done.ensures.store ∙ ap (λ (n : NewRecord). with_new (c.self.inside.revision + 1) n c.self.inside.store) c.record_of.ensures in
     rw (← c.self.view_is) (λ log h stands prepares new.

@@ -12,44 +12,44 @@ use Rattle.api_core.proofs.present.Core.commit_delete.Goals as goal
 
 pub returns-in_default-clause-turn : goal.returns-in_default-clause-turn
 returns-in_default-clause-turn g c =
-    let may = sym c.is_served.ensures ∙ c.if-not-is_served.false in
+    let may = sym c.is_served.ensures.served ∙ c.if-not-is_served.false in
     rw (← c.self.view_is) (λ none log stands known. delete-gone _ _ log stands c.args.v c.args.key.now c.args.expected may (sym c.look.ensures ∙ c.in_default.is))
 
 pub returns-in_default-clause-marks : goal.returns-in_default-clause-marks
 returns-in_default-clause-marks g c =
-    let may = sym c.is_served.ensures ∙ c.if-not-is_served.false in
+    let may = sym c.is_served.ensures.served ∙ c.if-not-is_served.false in
     rw (← c.self.view_is) (λ p is log h stamp stands prepares known.
     mark-gone _ _ log stands c.args.v p.at c.args.key.now c.args.expected stamp may (sym c.look.ensures ∙ c.in_default.is))
 
 pub returns-then-standing-expected-clause-turn : goal.returns-then-standing-expected-clause-turn
 returns-then-standing-expected-clause-turn g c =
-    let may = sym c.is_served.ensures ∙ c.if-not-is_served.false in
+    let may = sym c.is_served.ensures.served ∙ c.if-not-is_served.false in
     rw (← c.self.view_is) (λ none log stands known.
     delete-newer _ _ log stands c.args.v c.args.key.now c.args.expected c.in-Some.standing may (sym c.look.ensures ∙ c.in-Some.is) c.if-standing-expected.true)
 
 pub returns-then-standing-expected-clause-marks : goal.returns-then-standing-expected-clause-marks
 returns-then-standing-expected-clause-marks g c =
-    let may = sym c.is_served.ensures ∙ c.if-not-is_served.false in
+    let may = sym c.is_served.ensures.served ∙ c.if-not-is_served.false in
     rw (← c.self.view_is) (λ p is log h stamp stands prepares known.
     mark-newer _ _ log stands c.args.v p.at c.args.key.now c.args.expected stamp c.in-Some.standing may (sym c.look.ensures ∙ c.in-Some.is) c.if-standing-expected.true)
 
 pub returns-in_default-ready-clause-turn : goal.returns-in_default-ready-clause-turn
 returns-in_default-ready-clause-turn g c =
-    let may = sym c.is_served.ensures ∙ c.if-not-is_served.false in
+    let may = sym c.is_served.ensures.served ∙ c.if-not-is_served.false in
     rw (← c.self.view_is) (λ none log stands known.
     delete-removed _ _ log stands c.args.v c.args.key.now c.args.expected c.in-Some.standing c.remove_if-removed.new.self known may
     (sym c.look.ensures ∙ c.in-Some.is) c.if-standing-expected.false c.remove_if-removed.ensures.store)
 
 pub returns-then-marked-now-clause-marks : goal.returns-then-marked-now-clause-marks
 returns-then-marked-now-clause-marks g c =
-    let may = sym c.is_served.ensures ∙ c.if-not-is_served.false in
+    let may = sym c.is_served.ensures.served ∙ c.if-not-is_served.false in
     rw (← c.self.view_is) (λ p is log h stamp stands prepares known.
     mark-moved _ _ log stands c.args.v p.at c.args.key.now c.args.expected stamp c.in-Some.standing may (sym c.look.ensures ∙ c.in-Some.is) c.if-standing-expected.false
     (λ same. c.if-marked-now.true (ap (λ (q : Prepared). q.at) (one_some c.args.ready c.in-Some-ready.marked p c.in-Some-ready.is is) ∙ same)))
 
 pub returns-clause-marks : goal.returns-clause-marks
 returns-clause-marks g c =
-    let may = sym c.is_served.ensures ∙ c.if-not-is_served.false in
+    let may = sym c.is_served.ensures.served ∙ c.if-not-is_served.false in
     let fits = rw (← c.self.view_is) at c.requires.fits in
     let store = c.in-Done.ensures.store ∙ ap (λ (n : NewRecord). with_new (c.self.inside.revision + 1) n c.self.inside.store) c.record_of.ensures in
     rw (← c.self.view_is) (λ p is log h stamp stands prepares known.

@@ -9,25 +9,25 @@ use Rattle.api_core.proofs.present.Core.commit_replace.Goals as goal
 
 pub returns-in_default-clause-turn : goal.returns-in_default-clause-turn
 returns-in_default-clause-turn g c =
-    let may = sym c.is_served.ensures ∙ c.if-not-is_served.false in
+    let may = sym c.is_served.ensures.served ∙ c.if-not-is_served.false in
     rw (← c.self.view_is) (λ log h stands prepares known.
     replace-gone _ _ log stands c.args.v c.args.new c.args.expected h may (sym c.look.ensures ∙ c.in_default.is))
 
 pub returns-then-old-expected-clause-turn : goal.returns-then-old-expected-clause-turn
 returns-then-old-expected-clause-turn g c =
-    let may = sym c.is_served.ensures ∙ c.if-not-is_served.false in
+    let may = sym c.is_served.ensures.served ∙ c.if-not-is_served.false in
     rw (← c.self.view_is) (λ log h stands prepares known.
     replace-newer _ _ log stands c.args.v c.args.new c.args.expected h c.in-Some.old may (sym c.look.ensures ∙ c.in-Some.is) c.if-old-expected.true)
 
 pub returns-then-new-now-clause-turn : goal.returns-then-new-now-clause-turn
 returns-then-new-now-clause-turn g c =
-    let may = sym c.is_served.ensures ∙ c.if-not-is_served.false in
+    let may = sym c.is_served.ensures.served ∙ c.if-not-is_served.false in
     rw (← c.self.view_is) (λ log h stands prepares known.
     replace-moved _ _ log stands c.args.v c.args.new c.args.expected h c.in-Some.old may (sym c.look.ensures ∙ c.in-Some.is) c.if-old-expected.false c.if-new-now.true)
 
 pub returns-in-Full-clause-turn : goal.returns-in-Full-clause-turn
 returns-in-Full-clause-turn g c =
-    let may = sym c.is_served.ensures ∙ c.if-not-is_served.false in
+    let may = sym c.is_served.ensures.served ∙ c.if-not-is_served.false in
     let end = ap (λ (n : NewRecord). put_end (Some c.args.expected) n.weight (find item_key n.key c.self.inside.store.items) c.self.inside.store) (sym c.record_of.ensures) ∙ sym c.put_if.ensures.end ∙ c.in-Full.is in
     rw (← c.self.view_is) (λ log h stands prepares known.
     replace-refused_full _ _ log stands c.args.v c.args.new c.args.expected h c.in-Some.old c.in-Full.room c.put_if.new.self may
@@ -35,7 +35,7 @@ returns-in-Full-clause-turn g c =
 
 pub returns-in-Done-clause-turn : goal.returns-in-Done-clause-turn
 returns-in-Done-clause-turn g c =
-    let may = sym c.is_served.ensures ∙ c.if-not-is_served.false in
+    let may = sym c.is_served.ensures.served ∙ c.if-not-is_served.false in
     let end = ap (λ (n : NewRecord). put_end (Some c.args.expected) n.weight (find item_key n.key c.self.inside.store.items) c.self.inside.store) (sym c.record_of.ensures) ∙ sym c.put_if.ensures.end ∙ c.in-Done.is in
     let store = c.in-Done.ensures.store ∙ ap (λ (n : NewRecord). with_new (c.self.inside.revision + 1) n c.self.inside.store) c.record_of.ensures in
     rw (← c.self.view_is) (λ log h stands prepares known.

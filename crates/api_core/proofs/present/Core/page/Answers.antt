@@ -9,7 +9,7 @@ use Rattle.api_core.proofs.present.Core.page.Goals as goal
 pub returns-in_default-clause-shows : goal.returns-in_default-clause-shows
 returns-in_default-clause-shows g c =
     let x = shown (arc_value c.self.inside.versions) c.self.inside.limits c.self.inside.boot c.self.inside.flags c.self.inside.stored c.self.inside.revision c.self.inside.store c.self.inside.migrations in
-    let may = sym c.is_served.ensures ∙ c.if-not-is_served.false in
+    let may = sym c.is_served.ensures.served ∙ c.if-not-is_served.false in
     let now = rw (← c.self.view_is) at c.present_number-number.ensures.revision in
     let known = rw (← c.self.view_is) at c.present_number-number.ensures.known in
     let page = rw (← c.self.view_is) at c.in_ok-page.ensures in
@@ -19,7 +19,7 @@ returns-in_default-clause-shows g c =
 pub returns-clause-shows : goal.returns-clause-shows
 returns-clause-shows g c =
     let x = shown (arc_value c.self.inside.versions) c.self.inside.limits c.self.inside.boot c.self.inside.flags c.self.inside.stored c.self.inside.revision c.self.inside.store c.self.inside.migrations in
-    let may = sym c.is_served.ensures ∙ c.if-not-is_served.false in
+    let may = sym c.is_served.ensures.served ∙ c.if-not-is_served.false in
     let known = rw c.floor-floor.ensures at c.if-token-floor.false in
     let page = rw (← c.self.view_is) at c.in_ok-page-2.ensures in
     rw (← c.self.view_is, c.in-Some.is) (λ log stands.

@@ -3,7 +3,7 @@ ghost use Rattle.std.specs.Prelude.{◌≡◌, ◌<◌, IsTrue, ℕ};
 ghost use Rattle.api_calls.specs.Versions.{AreFlags};
 ghost use Rattle.api_calls.specs.State.{served};
 
-use api_calls::Flags;
+use crate::flags::Flags;
 
 /// Whether a version is served, by its place. It takes no memory.
 pub fn is_served(flags: &Flags, v: u8) -> bool
