@@ -18,8 +18,8 @@ pub(crate) fn running(items: &[MigrationItem]) -> Option<&MigrationItem>
     None
 }
 
-/// The migration of a name.
-pub(crate) fn named<'a>(items: &'a [MigrationItem], name: &str) -> Option<&'a MigrationItem>
+/// The migration of a name. It takes no memory.
+pub fn named<'a>(items: &'a [MigrationItem], name: &str) -> Option<&'a MigrationItem>
     ensures { option_copied result ≡ migration_named name.now items.now }
 {
     for item in items {

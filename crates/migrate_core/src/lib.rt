@@ -18,5 +18,6 @@ mod slots;
 
 pub use ends::{Advance, StartEnd, Worker};
 pub use item::{MigrationItem, MigrationItems};
+pub use items::named;
 pub use migrations::Migrations;
 pub use records::{Records, Row};

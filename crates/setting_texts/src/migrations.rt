@@ -1,7 +1,6 @@
 //! Storage migrations, as they are shown.
-ghost use Rattle.std.specs.Prelude.{◌≡◌, ◌<◌, [], IfOk, None, OnOk, option_copied, string_bytes};
+ghost use Rattle.std.specs.Prelude.{◌≡◌, ◌<◌, [], IfOk, None, OnOk, string_bytes};
 ghost use Rattle.kj_value.specs.Text.{text_of};
-ghost use Rattle.kube_meta.specs.Plan.{named as migration_named};
 ghost use Rattle.api_calls.specs.Calls.{migration, migrations};
 ghost use Rattle.api_calls.specs.Documents.{by_name, condition_word, migration_document, migration_list};
 ghost use Rattle.api_calls.specs.Replies.{MigrationReply, MigrationsReply};
@@ -15,7 +14,7 @@ use api_calls::{Refusal, Reply, Versions};
 use call_texts::{Given, Refused, add, comma_before, quoted};
 use kj_value::{NoMemory, Txt};
 use kube_meta::Condition;
-use migrate_core::{MigrationItem, MigrationItems};
+use migrate_core::{MigrationItem, MigrationItems, named};
 
 #[tactic(auto, unfolding(api_calls::specs::Documents::condition_word))]
 fn condition_word(condition: Condition) -> &'static str
@@ -26,18 +25,6 @@ fn condition_word(condition: Condition) -> &'static str
         Condition::Succeeded => "Succeeded",
         Condition::Failed => "Failed",
     }
-}
-
-// The migration of a name.
-fn named<'a>(items: &'a [MigrationItem], name: &str) -> Option<&'a MigrationItem>
-    ensures { option_copied result ≡ migration_named name.now items.now }
-{
-    for item in items {
-        if item.name() == name {
-            return Some(item);
-        }
-    }
-    None
 }
 
 // Puts migrations in the order of their names.
