@@ -21,5 +21,7 @@ mod words;
 
 pub use definition::{Definition, Version};
 pub use laws::accepts;
+pub use parts::{is_yes, items_in};
 pub use places::{KIND_BYTES, MAX_VERSIONS, MIN_VERSIONS};
 pub use reading::{DefinitionFault, read_definition};
+pub use values::is_text;

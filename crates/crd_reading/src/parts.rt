@@ -47,8 +47,8 @@ pub(crate) fn text_in(v: Option<&JVal>) -> &str
     }
 }
 
-// Whether true stands there.
-pub(crate) fn is_yes(v: Option<&JVal>) -> bool
+/// Whether true stands there.
+pub fn is_yes(v: Option<&JVal>) -> bool
     ensures { result ≡ is_yes (option_map (λ w. json w.now) v.entry) }
 {
     match v {
@@ -62,8 +62,8 @@ pub(crate) fn is_yes(v: Option<&JVal>) -> bool
     }
 }
 
-// The items of the list that stands there.
-fn items_in(v: Option<&JVal>) -> &[JVal]
+/// The items of the list that stands there; anything else is read as an empty one.
+pub fn items_in(v: Option<&JVal>) -> &[JVal]
     ensures { items_of (map json result.now) ≡ items_in (option_map (λ w. json w.now) v.entry) }
 {
     match v {

@@ -55,7 +55,8 @@ fn is_truth(v: &JVal) -> bool
     matches!(v, JVal::Bool(_))
 }
 
-fn is_text(v: &JVal, text: &str) -> bool
+/// Whether the value is this text.
+pub fn is_text(v: &JVal, text: &str) -> bool
     ensures { result ≡ is_text text.now (json v.now) }
 {
     match v {

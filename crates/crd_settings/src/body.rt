@@ -3,14 +3,13 @@ ghost use Rattle.std.specs.Prelude.{◌≡◌, ◌≢◌, IfOk, IfErr, MatchOpti
 ghost use Rattle.kj_value.specs.Json.{object, members_of};
 ghost use Rattle.kj_value.specs.Seen.{json};
 ghost use Rattle.kj_value.specs.Fields.{Pairs, field};
-ghost use Rattle.schema_reading.specs.Allowed.{is_text};
 ghost use Rattle.api_calls.specs.Versions.{Refused};
 ghost use Rattle.crd_reading.specs.Words.{api_version, document_kind};
 ghost use Rattle.crd_reading.specs.Spelled.{full_name};
 ghost use Rattle.crd_settings.specs.Body.{IsDocument, IsFault, NoDocument, NoObject, ReadsObject, says};
 
 use api_calls::{AdmitFault, Cause, Why};
-use crd_reading::Definition;
+use crd_reading::{Definition, is_text};
 use kj_value::{JFields, JVal, JsonFault, MAX_JSON_LEVELS, NoMemory, Rule, Txt, read};
 use std::alloc::Global;
 
@@ -44,15 +43,6 @@ pub(crate) fn read_object(alloc: Global, bytes: &[u8]) -> Result<JFields, AdmitF
     match into_fields(v) {
         Some(fields) => Ok(fields),
         None => Err(AdmitFault::BadRequest(Why::NotObject)),
-    }
-}
-
-fn is_text(v: &JVal, wanted: &str) -> bool
-    ensures { result ≡ is_text wanted.now (json v.now) }
-{
-    match v {
-        JVal::Text(t) => t.as_str() == wanted,
-        _ => false,
     }
 }
 

@@ -3,10 +3,10 @@ ghost use Rattle.std.specs.Prelude.{◌≡◌, map, option_map};
 ghost use Rattle.kj_value.specs.Json.{items_of, members_of};
 ghost use Rattle.kj_value.specs.Seen.{json};
 ghost use Rattle.struct_schema.specs.Names.{value_at};
-ghost use Rattle.schema_reading.specs.Kind.{is_yes};
 ghost use Rattle.crd_reading.specs.Spelled.{items_in, version_read, versions_read};
 ghost use Rattle.crd_settings.specs.Flags.{at_name, mark_in, served_name, storage_name, versions_name};
 
+use crd_reading::{is_yes, items_in};
 use kj_value::{JFields, JVal};
 
 // Whether a version is served, and whether it is the storage version.
@@ -59,21 +59,6 @@ fn at_name<'a>(v: Option<&'a JVal>, name: &str) -> Option<&'a JVal>
     }
 }
 
-// Whether true stands there.
-fn is_yes(v: Option<&JVal>) -> bool
-    ensures { result ≡ is_yes (option_map (λ w. json w.now) v.entry) }
-{
-    match v {
-        None => false,
-        Some(JVal::Null) => false,
-        Some(JVal::Bool(b)) => *b,
-        Some(JVal::Int(_)) => false,
-        Some(JVal::Text(_)) => false,
-        Some(JVal::List(_)) => false,
-        Some(JVal::Obj(_)) => false,
-    }
-}
-
 // Whether a version is served.
 pub(crate) fn is_served(v: &JVal) -> bool
     ensures { result ≡ (version_read (json v.now)).served }
@@ -109,21 +94,6 @@ pub(crate) fn mark_in(items: &[JVal], v: usize) -> Mark
             served: false,
             storage: false,
         }
-    }
-}
-
-// The items of the list that stands there.
-fn items_in(v: Option<&JVal>) -> &[JVal]
-    ensures { items_of (map json result.now) ≡ items_in (option_map (λ w. json w.now) v.entry) }
-{
-    match v {
-        None => &[],
-        Some(JVal::Null) => &[],
-        Some(JVal::Bool(_)) => &[],
-        Some(JVal::Int(_)) => &[],
-        Some(JVal::Text(_)) => &[],
-        Some(JVal::List(items)) => items.as_slice(),
-        Some(JVal::Obj(_)) => &[],
     }
 }
 
