@@ -39,6 +39,7 @@ pub use faults::badly_kept;
 pub use filling::filled;
 pub use hubs::{Weighed, hub_value};
 pub use measuring::measure_within;
+pub use metadata::metadata_field;
 pub use opening::{defaults_of, order_of};
 pub use passing::{Passed, pass};
 pub use version_texts::is_version_text;

@@ -3,10 +3,11 @@ ghost use Rattle.std.specs.Prelude.{◌≡◌, Some, Option, IfOk, option_map};
 ghost use Rattle.kj_value.specs.Json.{Json};
 ghost use Rattle.object_reading.specs.Refusal.{first_holding, Tells};
 ghost use Rattle.api_calls.specs.Versions.{Refused};
-ghost use Rattle.crd_meaning.specs.Request.{metadata_fault, metadata_field};
+ghost use Rattle.crd_meaning.specs.Request.{metadata_fault};
 ghost use Rattle.crd_meaning.specs.Document.{judged_metadata};
 
 use api_calls::{AdmitFault, Cause};
+use crd_admission::metadata_field;
 use kj_value::{NoMemory, Rule, Txt};
 use object_reading::ObjectFault;
 use std::alloc::Global;
@@ -32,17 +33,4 @@ pub(crate) fn broken(alloc: Global, name: Txt, fault: ObjectFault) -> Result<Adm
         ObjectFault::WrongKind => unreachable!(),
         ObjectFault::BadName => unreachable!(),
     }
-}
-
-// The path of a field of the metadata; of the empty one, the metadata's own.
-#[tactic(auto, unfolding(crd_meaning::specs::Request::metadata_path, crd_meaning::specs::Request::metadata_prefix))]
-fn metadata_field(alloc: Global, field: &str) -> Result<Txt, NoMemory>
-    ensures { IfOk result (λ t. t.bytes ≡ metadata_field field.now) }
-{
-    if field.is_empty() {
-        return Txt::of(alloc, "metadata");
-    }
-    let mut path = String::from_str(alloc, "metadata.")?;
-    path.push_str(field)?;
-    Ok(Txt::of_string(path))
 }
