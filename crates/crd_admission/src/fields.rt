@@ -9,17 +9,7 @@ ghost use Rattle.object_reading.specs.Rules.{keeps, is_text as is_text_value};
 ghost use Rattle.crd_meaning.specs.Request.{meta_fields};
 
 use kj_value::{JFields, JVal};
-
-// The value at a name, where it isn't null.
-fn given<'a>(fields: &'a JFields, name: &str) -> Option<&'a JVal>
-    ensures { option_map (λ v. json v.now) result ≡ given (field name.now fields.entry.now) }
-{
-    match fields.get(name) {
-        Some(JVal::Null) => None,
-        Some(value) => Some(value),
-        None => None,
-    }
-}
+use object_reading::given;
 
 /// The value at a name of the metadata, where it isn't null.
 #[tactic(auto, using(crate::proofs::Lists::pairs_members))]

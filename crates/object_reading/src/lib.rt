@@ -23,3 +23,4 @@ pub use finalizers::{FINALIZER_BYTES, FINALIZERS, finalizer_ok};
 pub use labels::{KEY_NAME_BYTES, annotation_key_ok, label_key_ok, label_value_ok};
 pub use laws::{accepted, numbers, read_back};
 pub use reading::{read_object, read_unnamed, read_written};
+pub use rules::given;

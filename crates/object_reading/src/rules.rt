@@ -18,7 +18,7 @@ use kj_value::{Field, JFields, JItems, JVal};
 use kube_meta::{name_ok, namespace_ok};
 
 /// The value at a name, where it isn't null.
-pub(crate) fn given<'a>(fields: &'a JFields, name: &str) -> Option<&'a JVal>
+pub fn given<'a>(fields: &'a JFields, name: &str) -> Option<&'a JVal>
     ensures { option_map (λ v. json v.now) result ≡ given (field name.now fields.entry.now) }
 {
     match fields.get(name) {
