@@ -22,13 +22,8 @@ pub(crate) fn inside(v: Option<&JVal>, word: Word) -> Option<&JVal>
         ≡ inside word (option_map (λ w. json w.now) v.entry) }
 {
     match v {
-        None => None,
-        Some(JVal::Null) => None,
-        Some(JVal::Bool(_)) => None,
-        Some(JVal::Int(_)) => None,
-        Some(JVal::Text(_)) => None,
-        Some(JVal::List(_)) => None,
         Some(JVal::Obj(fields)) => value_at(fields, word),
+        _ => None,
     }
 }
 
@@ -37,13 +32,8 @@ pub(crate) fn text_in(v: Option<&JVal>) -> &str
     ensures { result.now ≡ text_in (option_map (λ w. json w.now) v.entry) }
 {
     match v {
-        None => "",
-        Some(JVal::Null) => "",
-        Some(JVal::Bool(_)) => "",
-        Some(JVal::Int(_)) => "",
         Some(JVal::Text(t)) => t.as_str(),
-        Some(JVal::List(_)) => "",
-        Some(JVal::Obj(_)) => "",
+        _ => "",
     }
 }
 
@@ -52,13 +42,8 @@ pub fn is_yes(v: Option<&JVal>) -> bool
     ensures { result ≡ is_yes (option_map (λ w. json w.now) v.entry) }
 {
     match v {
-        None => false,
-        Some(JVal::Null) => false,
         Some(JVal::Bool(b)) => *b,
-        Some(JVal::Int(_)) => false,
-        Some(JVal::Text(_)) => false,
-        Some(JVal::List(_)) => false,
-        Some(JVal::Obj(_)) => false,
+        _ => false,
     }
 }
 
@@ -67,13 +52,8 @@ pub fn items_in(v: Option<&JVal>) -> &[JVal]
     ensures { items_of (map json result.now) ≡ items_in (option_map (λ w. json w.now) v.entry) }
 {
     match v {
-        None => &[],
-        Some(JVal::Null) => &[],
-        Some(JVal::Bool(_)) => &[],
-        Some(JVal::Int(_)) => &[],
-        Some(JVal::Text(_)) => &[],
         Some(JVal::List(items)) => items.as_slice(),
-        Some(JVal::Obj(_)) => &[],
+        _ => &[],
     }
 }
 

@@ -104,11 +104,7 @@ fn into_spec(doc: JVal) -> JVal
 {
     match doc {
         JVal::Obj(fields) => take_spec(fields),
-        JVal::Null => JVal::Null,
-        JVal::Bool(_) => JVal::Null,
-        JVal::Int(_) => JVal::Null,
-        JVal::Text(_) => JVal::Null,
-        JVal::List(_) => JVal::Null,
+        _ => JVal::Null,
     }
 }
 
