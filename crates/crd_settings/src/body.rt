@@ -19,12 +19,8 @@ fn into_fields(v: JVal) -> Option<JFields>
         (λ fields. json v ≡ object (members_of fields)) }
 {
     match v {
-        JVal::Null => None,
-        JVal::Bool(_) => None,
-        JVal::Int(_) => None,
-        JVal::Text(_) => None,
-        JVal::List(_) => None,
         JVal::Obj(fields) => Some(fields),
+        _ => None,
     }
 }
 

@@ -22,13 +22,8 @@ fn stored_in(fields: &JFields) -> Option<&JVal>
     ensures { option_map (λ w. json w.now) result ≡ stored_given fields.now }
 {
     match fields.get("status") {
-        None => None,
-        Some(JVal::Null) => None,
-        Some(JVal::Bool(_)) => None,
-        Some(JVal::Int(_)) => None,
-        Some(JVal::Text(_)) => None,
-        Some(JVal::List(_)) => None,
         Some(JVal::Obj(status)) => status.get("storedVersions"),
+        _ => None,
     }
 }
 
@@ -39,13 +34,8 @@ fn items_in(given: Option<&JVal>) -> Option<&[JVal]>
         (λ items. option_map (λ w. json w.now) given.entry ≡ Some (list (items_of (map json items.now)))) }
 {
     match given {
-        None => None,
-        Some(JVal::Null) => None,
-        Some(JVal::Bool(_)) => None,
-        Some(JVal::Int(_)) => None,
-        Some(JVal::Text(_)) => None,
         Some(JVal::List(items)) => Some(items.as_slice()),
-        Some(JVal::Obj(_)) => None,
+        _ => None,
     }
 }
 
@@ -59,12 +49,8 @@ fn text_in(v: &JVal) -> &str
     ensures { result.now ≡ text_in (Some (json v.now)) }
 {
     match v {
-        JVal::Null => "",
-        JVal::Bool(_) => "",
-        JVal::Int(_) => "",
         JVal::Text(t) => t.as_str(),
-        JVal::List(_) => "",
-        JVal::Obj(_) => "",
+        _ => "",
     }
 }
 

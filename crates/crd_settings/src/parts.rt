@@ -49,13 +49,8 @@ fn at_name<'a>(v: Option<&'a JVal>, name: &str) -> Option<&'a JVal>
         ≡ at_name name.now (option_map (λ w. json w.now) v.entry) }
 {
     match v {
-        None => None,
-        Some(JVal::Null) => None,
-        Some(JVal::Bool(_)) => None,
-        Some(JVal::Int(_)) => None,
-        Some(JVal::Text(_)) => None,
-        Some(JVal::List(_)) => None,
         Some(JVal::Obj(fields)) => value_at(fields, name),
+        _ => None,
     }
 }
 
