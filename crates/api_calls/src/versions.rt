@@ -184,6 +184,21 @@ pub trait Versions {
         ensures tool { IsErrOf result ConvFault.Tool → Self.Tool.faults tool.old < Self.Tool.faults tool.new }
         ensures rises { Self.Tool.faults tool.old ≤ Self.Tool.faults tool.new };
 
+    /// The same object, where the hub value isn't wanted any more: what it has in common with its form is moved.
+    fn into_form(
+        &self,
+        alloc: Global,
+        tool: &mut Self::Tool,
+        v: u8,
+        hub: Object,
+    ) -> Result<Object, ConvFault>
+        requires known { v < (meaning self.now).count }
+        requires whole { (meaning self.now).whole (object_of hub) }
+        ensures ok { IfOk result (λ x. (meaning self.now).pair v (object_of hub) (object_of x)) }
+        ensures levels { IfOk result (λ x. depth (document (object_of x)) ≤ OBJECT_LEVELS) }
+        ensures tool { IsErrOf result ConvFault.Tool → Self.Tool.faults tool.old < Self.Tool.faults tool.new }
+        ensures rises { Self.Tool.faults tool.old ≤ Self.Tool.faults tool.new };
+
     /// The flags of a body that sets them. `BadRequest` and `Invalid` come exactly where the meaning refuses the body so,
     /// `Tool` never.
     fn read_flags(&self, alloc: Global, bytes: &[u8]) -> Result<Flags, AdmitFault>

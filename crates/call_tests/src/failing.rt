@@ -139,6 +139,24 @@ impl<V: Versions<Tool = NoTool> + Drop> Versions for Failing<V> {
         }
     }
 
+    fn into_form(
+        &self,
+        alloc: Global,
+        tool: &mut Chosen,
+        v: u8,
+        hub: Object,
+    ) -> Result<Object, ConvFault> {
+        tool.meet(Place::Form);
+        if tool.fails() {
+            return Err(ConvFault::Tool);
+        }
+        match self.inner.into_form(alloc, &mut NoTool, v, hub) {
+            Ok(form) => Ok(form),
+            Err(ConvFault::Tool) => unreachable!(),
+            Err(ConvFault::NoMemory) => Err(ConvFault::NoMemory),
+        }
+    }
+
     fn read_flags(&self, alloc: Global, bytes: &[u8]) -> Result<Flags, AdmitFault> {
         self.inner.read_flags(alloc, bytes)
     }

@@ -40,6 +40,27 @@ impl<V: Versions> Given<'_, V> {
         Ok(text)
     }
 
+    /// The same text, where the hub value isn't wanted any more.
+    pub fn into_shown(
+        &self,
+        tool: &mut V::Tool,
+        v: u8,
+        number: u64,
+        born: u64,
+        hub: Object,
+    ) -> Result<Txt, ConvFault>
+        requires known { v < (V.meaning self.now.versions.now).count }
+        requires whole { (V.meaning self.now.versions.now).whole (object_of hub) }
+        requires born { born < BORN_END }
+        ensures shown { IfOk result (λ t. IsShown (V.meaning self.now.versions.now) self.now.boot v (object_of hub) number born t.bytes) }
+        ensures tool { IsErrOf result ConvFault.Tool → V.Tool.faults tool.old < V.Tool.faults tool.new }
+        ensures rises { V.Tool.faults tool.old ≤ V.Tool.faults tool.new }
+    {
+        let form = self.versions.into_form(self.alloc, tool, v, hub)?;
+        let text = reply_text(self.alloc, self.boot, number, born, form)?;
+        Ok(text)
+    }
+
     /// The text in which a hub value is stored at a version.
     pub fn stored(&self, tool: &mut V::Tool, at: u8, hub: &Object) -> Result<Txt, ConvFault>
         requires known { at < (V.meaning self.now.versions.now).count }
@@ -49,6 +70,19 @@ impl<V: Versions> Given<'_, V> {
         ensures rises { V.Tool.faults tool.old ≤ V.Tool.faults tool.new }
     {
         let form = self.versions.form(self.alloc, tool, at, hub)?;
+        let text = stored_text(self.alloc, form)?;
+        Ok(text)
+    }
+
+    /// The same text, where the hub value isn't wanted any more.
+    pub fn into_stored(&self, tool: &mut V::Tool, at: u8, hub: Object) -> Result<Txt, ConvFault>
+        requires known { at < (V.meaning self.now.versions.now).count }
+        requires whole { (V.meaning self.now.versions.now).whole (object_of hub) }
+        ensures stored { IfOk result (λ t. IsStored (V.meaning self.now.versions.now) at (object_of hub) t.bytes) }
+        ensures tool { IsErrOf result ConvFault.Tool → V.Tool.faults tool.old < V.Tool.faults tool.new }
+        ensures rises { V.Tool.faults tool.old ≤ V.Tool.faults tool.new }
+    {
+        let form = self.versions.into_form(self.alloc, tool, at, hub)?;
         let text = stored_text(self.alloc, form)?;
         Ok(text)
     }

@@ -44,7 +44,7 @@ impl<V: Versions> Given<'_, V> {
         one_stored::<V>();
         let bytes = seen.bytes.as_str().as_bytes();
         let hub = self.versions.hub_of(self.alloc, tool, seen.at, bytes)?;
-        let text = self.shown(tool, v, seen.rv, seen.born, &hub)?;
+        let text = self.into_shown(tool, v, seen.rv, seen.born, hub)?;
         Ok(text)
     }
 

@@ -11,7 +11,7 @@ use crd_loading::LoadedVersions;
 use crd_meaning::standing;
 use kj_value::NoMemory;
 use kube_meta::{Object, copy_object};
-use spoke_keep::from_hub;
+use spoke_keep::{from_hub, into_spoke};
 use std::alloc::Global;
 
 /// The object at a version, counted from 0, that is one with a hub value: a copy of it at the hub. It is at most 64 levels
@@ -27,5 +27,25 @@ pub fn form(alloc: Global, set: &LoadedVersions, v: u8, hub: &Object) -> Result<
     match set.place(v) {
         Some(p) => from_hub(alloc, set.spokes(), p, hub),
         None => copy_object(alloc, hub),
+    }
+}
+
+/// The same object, where the hub value isn't wanted any more: at the hub it is moved, and elsewhere its metadata are.
+pub fn into_form(
+    alloc: Global,
+    set: &LoadedVersions,
+    v: u8,
+    hub: Object,
+) -> Result<Object, NoMemory>
+    requires known { v < count_of set.now }
+    requires whole { IsWholeValue set.now (object_of hub) }
+    ensures form { IfOk result (λ x. IsFormAt set.now v (object_of hub) (object_of x)) }
+    ensures levels { IfOk result (λ x. depth (document (object_of x)) ≤ OBJECT_LEVELS) }
+{
+    standing();
+    let _ = set.hub();
+    match set.place(v) {
+        Some(p) => into_spoke(alloc, set.spokes(), p, hub),
+        None => Ok(hub),
     }
 }

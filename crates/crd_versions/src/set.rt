@@ -13,7 +13,7 @@ ghost use Rattle.crd_laws.specs.OneText.{OneList-prop};
 ghost use Rattle.crd_settings.specs.Pieces.{AreItsPieces, AreItsPieces-prop};
 
 use crate::admission::admitted;
-use crate::forms::form;
+use crate::forms::{form, into_form};
 use crate::hub_values::hub_of;
 use crate::names::{count, find, name};
 use api_calls::{AdmitFault, Admitted, ConvFault, Flags, Incoming, NoTool, StoredList, Versions};
@@ -167,6 +167,16 @@ impl Versions for VersionSet {
         hub: &Object,
     ) -> Result<Object, ConvFault> {
         Ok(form(alloc, &self.set, v, hub)?)
+    }
+
+    fn into_form(
+        &self,
+        alloc: Global,
+        _tool: &mut NoTool,
+        v: u8,
+        hub: Object,
+    ) -> Result<Object, ConvFault> {
+        Ok(into_form(alloc, &self.set, v, hub)?)
     }
 
     fn read_flags(&self, alloc: Global, bytes: &[u8]) -> Result<Flags, AdmitFault> {

@@ -149,6 +149,16 @@ impl Versions for TwoNames {
         hub_form(alloc, v, hub)
     }
 
+    fn into_form(
+        &self,
+        alloc: Global,
+        _tool: &mut NoTool,
+        v: u8,
+        hub: Object,
+    ) -> Result<Object, ConvFault> {
+        hub_form(alloc, v, &hub)
+    }
+
     fn read_flags(&self, _alloc: Global, bytes: &[u8]) -> Result<Flags, AdmitFault> {
         flags_in(bytes)
     }

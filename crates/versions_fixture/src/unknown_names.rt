@@ -128,6 +128,16 @@ impl Versions for UnknownNames {
         bare_form(alloc, v, hub)
     }
 
+    fn into_form(
+        &self,
+        alloc: Global,
+        _tool: &mut NoTool,
+        v: u8,
+        hub: Object,
+    ) -> Result<Object, ConvFault> {
+        bare_form(alloc, v, &hub)
+    }
+
     fn read_flags(&self, _alloc: Global, bytes: &[u8]) -> Result<Flags, AdmitFault> {
         flags_in(bytes)
     }

@@ -52,7 +52,7 @@ fn restored<V: Versions>(
     ensures rises { V.Tool.faults tool.old ≤ V.Tool.faults tool.new }
 {
     let hub = lent.versions.hub_of(lent.alloc, tool, at, bytes)?;
-    lent.stored(tool, target, &hub)
+    lent.into_stored(tool, target, hub)
 }
 
 /// What was seen of an object, ready to be stored at another version.
