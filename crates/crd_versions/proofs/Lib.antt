@@ -1,4 +1,3 @@
-pub mod Places
 pub mod StoredForms
 pub mod Weights
 pub mod Stored

@@ -19,7 +19,7 @@ use Rattle.crd_meaning.specs.Objects.{IsWholeValue, PairsAt, IsFormAt}
 use Rattle.crd_meaning.specs.Meant.{meant}
 use Rattle.crd_versions.specs.Forms.{IsFormOf}
 
-if_ok : (P Q : Object → Type 0) (r : Result Object NoMemory) → ((x : Object) → P x → Q x) → IfOk r P → IfOk r Q
+pub if_ok : (P Q : Object → Type 0) (r : Result Object NoMemory) → ((x : Object) → P x → Q x) → IfOk r P → IfOk r Q
 if_ok P Q (Ok x) f h = f x h
 if_ok P Q (Err e) f h = h
 

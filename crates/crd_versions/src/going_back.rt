@@ -6,11 +6,11 @@ ghost use Rattle.crd_versions.specs.Forms.{IsFormOf};
 use keep_laws::object_laws::{one_each, over_and_back};
 use kj_value::NoMemory;
 use kube_meta::Object;
-use spoke_keep::{KeepFault, Spokes, to_hub};
+use spoke_keep::{Spokes, back_to_hub};
 use std::alloc::Global;
 
-/// The hub value that is one with an object of the spoke at place `p`, whose metadata are moved. Its annotations can be read, since the hub value was
-/// whole.
+/// The hub value that is one with an object of the spoke at place `p`, whose metadata are moved. What its annotations keep
+/// is alive, since the hub value was whole.
 pub(crate) fn taken_back(alloc: Global, all: &Spokes, p: u8, x: Object) -> Result<Object, NoMemory>
     requires { (h : ObjectView) × IsFormOf all.now p (object_of x) h }
     ensures { (h : ObjectView) → IsFormOf all.now p (object_of x) h → IfOk result (λ g. object_of g ≡ h) }
@@ -18,9 +18,5 @@ pub(crate) fn taken_back(alloc: Global, all: &Spokes, p: u8, x: Object) -> Resul
     one_each();
     over_and_back();
     let _ = all.items();
-    match to_hub(alloc, all, p, x) {
-        Ok(hub) => Ok(hub),
-        Err(KeepFault::NoMemory) => Err(NoMemory),
-        Err(KeepFault::BadKept { annotation: _ }) => unreachable!(),
-    }
+    back_to_hub(alloc, all, p, x)
 }

@@ -1,2 +1,3 @@
+pub mod Alive
 pub mod Loops
 pub mod Steps

@@ -31,6 +31,11 @@ spells_read (Some u) es t h e =
     let same : u ≡ t = cc in
     (es, subst (λ (w : Name). IsKept w es) same h)
 
+-- an annotation that can be read isn't told as a fault
+pub no_fault : (o : Option Name) (es : List Entry) (a k : Name) → Spells o es → IsBadNote a k o → ⊥
+no_fault None es a k s b = b
+no_fault (Some t) es a k s b = b.1 es s
+
 pub hub_read : (own : Option Name) (k : Name) (ns : Texts) (es : List Entry) → k ≡ hub_key → Spells (field k ns) es → HubIsRead own ns
 hub_read own k ns es e h = λ side t f. spells_read (field k ns) es t h (ap (λ (j : Name). field j ns) e ∙ f)
 
