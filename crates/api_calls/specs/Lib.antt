@@ -13,8 +13,8 @@ pub mod Legal
 pub mod Named
 pub mod Snap
 pub mod Laws
-pub mod EachObject
-pub mod Growth
+pub mod ObjectLaws
+pub mod GrowthLaws
 pub mod Versions
 pub mod Spelled
 pub mod SpelledLaws
@@ -24,7 +24,6 @@ pub mod Writes
 pub mod Settings
 pub mod Work
 pub mod Pages
-pub mod WriteGuards
 pub mod SettingGuards
 pub mod WorkGuards
 pub mod Token

@@ -144,7 +144,7 @@ pub record AdmitsWhole (m : Meaning) : Type 0 where
   pub admitted : (r : Request) (h : ObjectView) (e : Option ℕ) → m.admits r h e → IsAdmitted m r h e
 
 -- a request is admitted in one way or refused, and not both
-pub record Decides (m : Meaning) : Type 0 where
+pub record DecidesAdmission (m : Meaning) : Type 0 where
   pub one : (r : Request) (g h : ObjectView) (d e : Option ℕ) → m.admits r g d → m.admits r h e → (g ≡ h) × (d ≡ e)
   pub excludes : (r : Request) (h : ObjectView) (e : Option ℕ) (f : Fault) → m.admits r h e → m.refuses r f → ⊥
   pub complete : (r : Request) → IsRequest m r → ((h : ObjectView) (e : Option ℕ) → m.admits r h e → ⊥) → ((f : Fault) → m.refuses r f → ⊥) → ⊥

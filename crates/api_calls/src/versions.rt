@@ -5,7 +5,7 @@ ghost use Rattle.kube_meta.specs.Document.{document};
 ghost use Rattle.kube_meta.specs.Names.{is_namespace};
 ghost use Rattle.kube_meta.specs.View.{ObjectView, object_of};
 ghost use Rattle.api_calls.specs.Meaning.{Meaning, Weighs, stamped, stored_text};
-ghost use Rattle.api_calls.specs.Versions.{AdmitsWhole, AreFlags, Decides, DecidesBodies, IgnoresStamps, IsOneToOne, IsRequest, IsStored, IsStoredList, KeepsFinalizers, NamesDiffer, Refused, RefusesOnce, RefusesUnread, Stand, StandsAt, request_of, versions_of};
+ghost use Rattle.api_calls.specs.Versions.{AdmitsWhole, AreFlags, DecidesAdmission, DecidesBodies, IgnoresStamps, IsOneToOne, IsRequest, IsStored, IsStoredList, KeepsFinalizers, NamesDiffer, Refused, RefusesOnce, RefusesUnread, Stand, StandsAt, request_of, versions_of};
 ghost use Rattle.api_calls.specs.declared.flags.Flags.{Flags};
 ghost use Rattle.object_reading.specs.Refusal.{refusal};
 
@@ -253,7 +253,7 @@ pub trait Versions {
     ghost admitted: { (it : Self) → AdmitsWhole (meaning it) };
 
     /// A request is admitted in one way or refused, and not both.
-    ghost decides: { (it : Self) → IsTrue HONEST → Decides (meaning it) };
+    ghost decides: { (it : Self) → IsTrue HONEST → DecidesAdmission (meaning it) };
 
     /// A request is refused for one reason.
     ghost refuses_once: { (it : Self) → IsTrue HONEST → RefusesOnce (meaning it) };

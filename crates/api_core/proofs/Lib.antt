@@ -5,3 +5,15 @@ pub mod Opened
 pub mod PageTurns
 pub mod Ready
 pub mod Leaving
+pub mod Creating
+pub mod Growing
+pub mod Removing
+pub mod Replacing
+pub mod Sets
+pub mod SettingSteps
+pub mod StoredLists
+pub mod Superseding
+pub mod TouchSteps
+pub mod Touches
+pub mod WorkSteps
+pub mod Works

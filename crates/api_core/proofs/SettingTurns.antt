@@ -21,11 +21,11 @@ use Rattle.api_calls.specs.Laws.{IsSoundState}
 use Rattle.api_calls.specs.Ends as ends
 use Rattle.api_calls.specs.Ends.{EndsAsDecided, bound}
 use Rattle.api_calls.specs.Settings.{same_flags, set_decision, first_unknown, trim_decision, start_decision}
-use Rattle.api_core.specs.Sets.{Decided, start-decided}
+use Rattle.api_core.proofs.Sets.{Decided, start-decided}
 use Rattle.api_core.specs.Steps.{migrations-stand}
-use Rattle.api_core.specs.StoredLists.{room-joined, are_versions-joined, are_versions-filter}
-use Rattle.api_core.specs.Trims.{unkept, until, held_from}
-use Rattle.api_core.specs.SettingSteps.{set-entered, trim-held_end, trim-unchanged, trim-entered, start-entered}
+use Rattle.api_core.proofs.StoredLists.{room-joined, are_versions-joined, are_versions-filter}
+use Rattle.api_core.specs.TrimLaws.{unkept, until, held_from}
+use Rattle.api_core.proofs.SettingSteps.{set-entered, trim-held_end, trim-unchanged, trim-entered, start-entered}
 use Rattle.api_core.specs.CoreOf.{CoreOf, StandsFor, IsCore}
 
 -- a core by its parts

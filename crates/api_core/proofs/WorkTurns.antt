@@ -24,14 +24,14 @@ use Rattle.api_calls.specs.Ends.{EndsAsDecided, bound}
 use Rattle.api_calls.specs.Work.{turn_decision, touch_decision, give_back_decision, work_of}
 use Rattle.api_calls.specs.WorkGuards.{MayFinish}
 use Rattle.api_core.specs.WorkRows.{rows_of, migrations_of}
-use Rattle.api_core.specs.Works.{Advanced, advanced, claim-taken, mark-done, mark-none}
+use Rattle.api_core.proofs.Works.{Advanced, advanced, claim-taken, mark-done, mark-none}
 use Rattle.api_core.specs.Steps.{item_row, migrations-stand, rows-stand}
 use Rattle.api_core.specs.declared.seen.Prepared.{Prepared}
 use Rattle.api_core.specs.Prepared.{PreparesValue, KnownAt, FitsAt, record_for}
 use Rattle.api_core.specs.Ready.{is_ready_item, IsNext, next-advance}
-use Rattle.api_core.specs.TouchSteps.{touch-missed_end, touch-done_end, touched-store, ready-in_work}
+use Rattle.api_core.proofs.TouchSteps.{touch-missed_end, touch-done_end, touched-store, ready-in_work}
 use Rattle.api_core.specs.Turned.{WorkerTurned}
-use Rattle.api_core.specs.WorkSteps.{turn-prepare, turn-done, turn-lost, turn-claimed, turn-finished, turn-idle, given-back}
+use Rattle.api_core.proofs.WorkSteps.{turn-prepare, turn-done, turn-lost, turn-claimed, turn-finished, turn-idle, given-back}
 use Rattle.api_core.specs.CoreOf.{CoreOf, StandsFor}
 
 -- where all is done, the running migration may be marked

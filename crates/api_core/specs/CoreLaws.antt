@@ -18,7 +18,7 @@ use Rattle.api_core.specs.View.{CoreView}
 use Rattle.api_core.specs.Keeps.{IsFound}
 use Rattle.api_core.specs.Stands.{Stands}
 use Rattle.api_core.specs.Prepared.{FitsAt, KnownAt}
-use Rattle.api_core.specs.Pairing.{pairs-find}
+use Rattle.api_core.specs.PairLaws.{pairs-find}
 use Rattle.api_core.specs.WorkRows.{row_of, elsewhere-rows}
 use Rattle.api_core.specs.Steps.{migrations-stand, rows-stand}
 use Rattle.api_core.specs.Ready.{IsFirst, IsNext}

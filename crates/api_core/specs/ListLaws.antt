@@ -12,7 +12,7 @@ use Rattle.api_calls.specs.State.{entries, opening, revision, state}
 use Rattle.api_calls.specs.Legal.{In, guard, legal, CountsFrom, IsLegal}
 use Rattle.api_calls.specs.Ends.{grown}
 use Rattle.api_calls.specs.Snap.{upto, snap, page_at}
-use Rattle.api_calls.specs.Growth.{legal-more, legal-front}
+use Rattle.api_calls.specs.GrowthLaws.{legal-more, legal-front}
 use Rattle.api_calls.proofs.Numbers.{one-value, one-from, numbered-opening}
 
 -- ---- counts

@@ -1,2 +1,4 @@
 pub mod Made
 pub mod Reaching
+pub mod Bridges
+pub mod Sizes

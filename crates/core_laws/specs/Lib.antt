@@ -1,5 +1,3 @@
 pub mod Asked
 pub mod Known
 pub mod Runs
-pub mod Sizes
-pub mod Bridges

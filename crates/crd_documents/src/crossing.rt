@@ -10,7 +10,7 @@ ghost use Rattle.spoke_keep.specs.Fault.{IsFaultOf};
 ghost use Rattle.crd_meaning.specs.Definition.{count_of, seat};
 ghost use Rattle.crd_meaning.specs.Objects.{IsFormAt};
 ghost use Rattle.crd_meaning.specs.Admission.{own_name};
-ghost use Rattle.crd_meaning.specs.Converted.{IsOneWith, IsUnread};
+ghost use Rattle.crd_meaning.specs.Converted.{IsOneWith, IsUnreadDocument};
 ghost use Rattle.crd_admission.specs.NoHub.{IsUnreadAt};
 ghost use Rattle.crd_documents.specs.Steps.{IsOfVersion, HasHub};
 
@@ -35,7 +35,7 @@ pub(crate) fn crossed(
     requires of { IsOfVersion set.now v (object_of x) }
     requires known { to < count_of set.now }
     ensures one { IfOk result (λ y. IsOneWith set.now v (object_of x) to (object_of y)) }
-    ensures read { IfOk result (λ _. (k : Name) → IsUnread set.now v (object_of x) k → ⊥) }
+    ensures read { IfOk result (λ _. (k : Name) → IsUnreadDocument set.now v (object_of x) k → ⊥) }
     ensures levels { IfOk result (λ y. depth (object (members_of y.body)) ≤ OBJECT_LEVELS) }
     ensures refused { IfErr result (Refused (IsUnreadAt set.now v (object_of x)) ⊥) }
 {

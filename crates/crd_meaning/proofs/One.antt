@@ -20,8 +20,8 @@ use Rattle.crd_meaning.specs.Admission.{IsFilling, LeftAt}
 use Rattle.crd_meaning.specs.Refusal.{cause_at}
 use Rattle.crd_meaning.specs.Given.{Given}
 use Rattle.crd_meaning.specs.Document.{early, IsGiven}
-use Rattle.crd_meaning.specs.Converted.{schema_at, IsPassed, IsUnread, IsOneWith, document_with, metadata_in, IsConverted}
-use Rattle.crd_meaning.specs.Unconverted.{IsBroken, IsBadlyKept, IsUnconverted, is_early, is_broken, badly_kept}
+use Rattle.crd_meaning.specs.Converted.{schema_at, IsPassed, IsUnreadDocument, IsOneWith, document_with, metadata_in, IsConverted}
+use Rattle.crd_meaning.specs.Unconverted.{IsBrokenDocument, IsBadlyKeptDocument, IsUnconverted, is_early, is_broken, badly_kept}
 use Rattle.crd_meaning.proofs.Versions.{one_version}
 
 -- ---- fields of an object
@@ -125,7 +125,7 @@ module _ (known : Given) (d : Definition) (loaded : IsLoaded d) where
       lies : None ≡ Some f → ⊥
       lies e = cc
 
-  excludes_broken : (j : Json) (v : ℕ) (x : ObjectView) (f : Fault) → IsPassed d j v x → IsBroken d j f → ⊥
+  excludes_broken : (j : Json) (v : ℕ) (x : ObjectView) (f : Fault) → IsPassed d j v x → IsBrokenDocument d j f → ⊥
   excludes_broken j v x f a b =
       let t = taken_one j v b.version a.taken b.object a.is b.taken in
       let filling : IsFilling (schema_at d b.version) b.object.body x.body = subst (λ (y : ObjectView). IsFilling (schema_at d b.version) y.body x.body) t.1 (subst (λ (u : ℕ). IsFilling (schema_at d u) a.taken.body x.body) t.0 a.filling) in
@@ -135,10 +135,10 @@ module _ (known : Given) (d : Definition) (loaded : IsLoaded d) where
       lies : (c : CauseView) → None ≡ Some c → ⊥
       lies c e = cc
 
-  excludes_kept : (j : Json) (v : ℕ) (x : ObjectView) (f : Fault) → IsPassed d j v x → ((k : Name) → IsUnread d v x k → ⊥) → IsBadlyKept d j f → ⊥
+  excludes_kept : (j : Json) (v : ℕ) (x : ObjectView) (f : Fault) → IsPassed d j v x → ((k : Name) → IsUnreadDocument d v x k → ⊥) → IsBadlyKeptDocument d j f → ⊥
   excludes_kept j v x f a r b =
       let t = passed_one j v b.version x b.object a b.passed in
-      r b.key (subst (λ (u : ℕ). IsUnread d u x b.key) (sym t.0) (subst (λ (y : ObjectView). IsUnread d b.version y b.key) (sym t.1) b.unread))
+      r b.key (subst (λ (u : ℕ). IsUnreadDocument d u x b.key) (sym t.0) (subst (λ (y : ObjectView). IsUnreadDocument d b.version y b.key) (sym t.1) b.unread))
 
   pub excludes : (j : Json) (to : ℕ) (k : Json) (f : Fault) → IsConverted d j to k → IsUnconverted d j f → ⊥
   excludes j to k f a (is_early e) = excludes_early j f a.passed.is.nothing e

@@ -18,7 +18,7 @@ use Rattle.object_reading.specs.Parts.{text_or_empty, meta_in, object_in}
 use Rattle.object_reading.specs.Refusal.{is_given_text}
 use Rattle.api_calls.specs.Cause.{CauseView, not_json, too_deep, not_whole, not_object, wrong_version, wrong_kind, wrong_namespace, wrong_name, bad_query, bad_token, bad_options}
 use Rattle.api_calls.specs.Meaning.{Request, Fault, bad_request, invalid}
-use Rattle.api_calls.specs.Versions.{IsAdmitted, AdmitsWhole, Decides, RefusesUnread}
+use Rattle.api_calls.specs.Versions.{IsAdmitted, AdmitsWhole, DecidesAdmission, RefusesUnread}
 use Rattle.api_calls.specs.declared.versions.TheConstants.{OBJECT_LEVELS}
 use Rattle.hub_cells.specs.Level.{Name}
 use Rattle.keep_laws.specs.Spokes.{Spokes}
@@ -286,7 +286,7 @@ module _ (known : Given) (o : Settings) (d : Definition) (loaded : IsLoaded d) w
     decided : ⊥
     decided = never_refused (bad_request not_json) (no_value data_decided)
 
-  pub decides : Decides (meaning_of d o)
+  pub decides : DecidesAdmission (meaning_of d o)
   decides = record {
     one = one;
     excludes = excludes;

@@ -30,8 +30,8 @@ pub record IsPassed (d : Definition) (j : Json) (v : ℕ) (x : ObjectView) : Typ
   pub valid : fault (schema_at d v) (object (members_of x.body)) ≡ None
 
 -- k is the key of the first reserved annotation that can't be read
-abbrev pub IsUnread : Definition → ℕ → ObjectView → Name → Type 0
-IsUnread d v x k = IsFirstBad d.spokes (own_name (seat d v)) x.meta.annotations k
+abbrev pub IsUnreadDocument : Definition → ℕ → ObjectView → Name → Type 0
+IsUnreadDocument d v x k = IsFirstBad d.spokes (own_name (seat d v)) x.meta.annotations k
 
 -- ---- at another version
 
@@ -69,7 +69,7 @@ pub record IsConverted (d : Definition) (j : Json) (to : ℕ) (k : Json) : Type 
   pub version : ℕ
   pub object : ObjectView
   pub passed : IsPassed d j version object
-  pub read : (key : Name) → IsUnread d version object key → ⊥
+  pub read : (key : Name) → IsUnreadDocument d version object key → ⊥
   pub form : ObjectView
   pub one : IsOneWith d version object to form
   pub document : k ≡ document_with (metadata_in j) form

@@ -13,10 +13,10 @@ use Rattle.crd_meaning.specs.Request.{breaks}
 use Rattle.crd_meaning.specs.Admission.{IsFilling}
 use Rattle.crd_meaning.specs.Refusal.{broken_at, annotation_prefix}
 use Rattle.crd_meaning.specs.Document.{early, IsGiven}
-use Rattle.crd_meaning.specs.Converted.{schema_at, IsPassed, IsUnread}
+use Rattle.crd_meaning.specs.Converted.{schema_at, IsPassed, IsUnreadDocument}
 
 -- the filled body breaks a rule of the schema
-pub record IsBroken (d : Definition) (j : Json) (f : Fault) : Type 0 where
+pub record IsBrokenDocument (d : Definition) (j : Json) (f : Fault) : Type 0 where
   pub version : ℕ
   pub object : ObjectView
   pub taken : IsGiven d j version object
@@ -25,15 +25,15 @@ pub record IsBroken (d : Definition) (j : Json) (f : Fault) : Type 0 where
   pub broken : (k : Pairs) → IsFilling (schema_at d version) object.body k → broken_at (schema_at d version) k ≡ Some cause
 
 -- a reserved annotation isn't well formed
-pub record IsBadlyKept (d : Definition) (j : Json) (f : Fault) : Type 0 where
+pub record IsBadlyKeptDocument (d : Definition) (j : Json) (f : Fault) : Type 0 where
   pub version : ℕ
   pub object : ObjectView
   pub passed : IsPassed d j version object
   pub key : Name
-  pub unread : IsUnread d version object key
+  pub unread : IsUnreadDocument d version object key
   pub told : f ≡ breaks object.meta.name (annotation_prefix ++ key) rule.Kept
 
 pub data IsUnconverted (d : Definition) (j : Json) (f : Fault) : Type 0 where
   is_early : early d j ≡ Some f → IsUnconverted d j f
-  is_broken : IsBroken d j f → IsUnconverted d j f
-  badly_kept : IsBadlyKept d j f → IsUnconverted d j f
+  is_broken : IsBrokenDocument d j f → IsUnconverted d j f
+  badly_kept : IsBadlyKeptDocument d j f → IsUnconverted d j f

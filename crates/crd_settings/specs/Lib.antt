@@ -5,5 +5,5 @@ pub mod Keeping
 pub mod Shown
 pub mod Pieces
 pub mod Depth
-pub mod Settled
+pub mod SettledLaws
 pub mod Decided

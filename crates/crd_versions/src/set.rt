@@ -66,7 +66,7 @@ impl VersionSet {
 
 impl Versions for VersionSet {
     ghost use Rattle.std.specs.Prelude.{true, refl};
-    ghost use Rattle.crd_settings.specs.Settled.{settings_of};
+    ghost use Rattle.crd_settings.specs.SettledLaws.{settings_of};
     ghost use Rattle.crd_settings.specs.Decided.{decides_flags, decides_keep};
     ghost use Rattle.crd_laws.specs.Loaded.{loaded_meaning};
     ghost use Rattle.crd_laws.specs.Laws.{few, opens, names, stand, unstamped, one_to_one, finalizers, admits_whole, decides, refuses_once, unread};

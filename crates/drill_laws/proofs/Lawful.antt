@@ -2,13 +2,13 @@
 use Rattle.std.specs.Prelude.{◌≡◌, List, ℕ, IsTrue}
 use Rattle.api_calls.specs.Bodies.{RefusesStart, Starts}
 use Rattle.api_calls.specs.Meaning.{Meaning, Fault}
-use Rattle.api_calls.specs.Versions.{AdmitsWhole, Decides, DecidesBodies, IgnoresStamps, IsOneToOne, NamesDiffer, Stand}
+use Rattle.api_calls.specs.Versions.{AdmitsWhole, DecidesAdmission, DecidesBodies, IgnoresStamps, IsOneToOne, NamesDiffer, Stand}
 use Rattle.api_calls.specs.declared.flags.Flags.{Flags}
 
 pub record Lawful (m : Meaning) : Type 0 where
   pub honest : IsTrue m.honest
   pub admitted : AdmitsWhole m
-  pub decides : Decides m
+  pub decides : DecidesAdmission m
   pub one : IsOneToOne m
   pub unstamped : IgnoresStamps m
   pub stands : Stand m

@@ -7,7 +7,7 @@ use Rattle.kj_value.specs.declared.reading.TheConstants.{MAX_JSON_LEVELS}
 use Rattle.kube_meta.specs.Key.{KeyView}
 use Rattle.api_calls.specs.Calls.{Server, Call, create, replace, get, delete, set_versions, start, list, Told, answered, Answers}
 use Rattle.api_calls.specs.Ends.{grown}
-use Rattle.api_calls.specs.Growth.{legal-front}
+use Rattle.api_calls.specs.GrowthLaws.{legal-front}
 use Rattle.api_calls.specs.Item.{Item}
 use Rattle.api_calls.specs.Legal.{legal}
 use Rattle.api_calls.specs.Refusal.{RefusalView}
@@ -20,7 +20,7 @@ use Rattle.drill_requests.specs.Bodies.{stamp, spoke_version, hub_version, spoke
 use Rattle.drill_requests.specs.Replies.{AsRead, value, no_value, IsEdited, edited}
 use Rattle.drill_requests.specs.declared.steps.Step.{Step}
 use Rattle.drill_requests.specs.declared.steps.Step.TheVariants.{CreateSpoke, CreateHub, Edit, Delete, Turn, Switch}
-use Rattle.drill_steps.specs.Calling.{Tally, Requests, request, Creates, Replaces, PutsBack, Edits, Deletes, Sets, Starts, Switches}
+use Rattle.drill_steps.specs.Calling.{Tally, Requests, request, CountsCreate, CountsReplace, PutsBack, Edits, CountsDelete, CountsSet, CountsStart, Switches}
 use Rattle.drill_steps.specs.Counting.{one_more, with_create, with_replace, with_delete, with_refusal, with_setting}
 use Rattle.drill_steps.specs.Settings.{switch_body}
 use Rattle.drill_steps.specs.Steps.{Point, turned, Does}
@@ -78,7 +78,7 @@ module _ (s : Server) (laws : Lawful s.meaning) (one_reading : IsOneReading) (st
         (whole-grown s.meaning laws stamps s.limits log p.item (subst (λ (is : List Item). legal s.meaning s.limits is) p.grows l) stamped all);
   }
 
-  creates_one : (version body : List ℕ) (p q r : Tally) → HasVersion s.meaning version → Creates s version body p q → Creates s version body p r
+  creates_one : (version body : List ℕ) (p q r : Tally) → HasVersion s.meaning version → CountsCreate s version body p q → CountsCreate s version body p r
       → (q ≡ r) × (legal s.meaning s.limits q.log → Whole p.log → Whole q.log)
   creates_one version body p q r has x y =
       let place : y.v ≡ x.v = place_is s.meaning version has y.v laws.names.differ y.place ∙ sym (place_is s.meaning version has x.v laws.names.differ x.place) in
@@ -90,7 +90,7 @@ module _ (s : Server) (laws : Lawful s.meaning) (one_reading : IsOneReading) (st
       (create_stamped s.meaning s.limits s.boot (revision p.log + 1) (state s.meaning p.log) (request x.v None body) stamp x.answer x.requests.item (reply decides x.answer x.requests.item x.requests.decides)) in
       (same_tally q r to.same (x.counts ∙ create_counts x.answer y.answer p to.alike ∙ sym y.counts), to.whole)
 
-  replaces_one : (n t : ℕ) (got : List ℕ) (p q r : Tally) → Replaces s n t got p q → Replaces s n t got p r
+  replaces_one : (n t : ℕ) (got : List ℕ) (p q r : Tally) → CountsReplace s n t got p q → CountsReplace s n t got p r
       → (q ≡ r) × (legal s.meaning s.limits q.log → Whole p.log → Whole q.log)
   replaces_one n t got p q r x y =
       let place : y.v ≡ x.v = place_is s.meaning spoke_version has_spoke y.v laws.names.differ y.place ∙ sym (place_is s.meaning spoke_version has_spoke x.v laws.names.differ x.place) in
@@ -127,7 +127,7 @@ module _ (s : Server) (laws : Lawful s.meaning) (one_reading : IsOneReading) (st
       let to = puts_one n t x.answer p q r put also in
       (to.0, λ l. to.1 l all)
 
-  deletes_one : (n : ℕ) (p q r : Tally) → Deletes s n p q → Deletes s n p r → (q ≡ r) × (legal s.meaning s.limits q.log → Whole p.log → Whole q.log)
+  deletes_one : (n : ℕ) (p q r : Tally) → CountsDelete s n p q → CountsDelete s n p r → (q ≡ r) × (legal s.meaning s.limits q.log → Whole p.log → Whole q.log)
   deletes_one n p q r x y =
       let place : y.v ≡ x.v = place_is s.meaning hub_version has_hub y.v laws.names.differ y.place ∙ sym (place_is s.meaning hub_version has_hub x.v laws.names.differ x.place) in
       let other = subst (λ (v : ℕ). Requests s p.log (delete v (object_key n) []) y.answer r.log) place y.requests in
@@ -138,7 +138,7 @@ module _ (s : Server) (laws : Lawful s.meaning) (one_reading : IsOneReading) (st
       (delete_stamped s.meaning s.boot (revision p.log + 1) (state s.meaning p.log) x.v (object_key n) [] x.answer x.requests.item (reply decides x.answer x.requests.item x.requests.decides)) in
       (same_tally q r to.same (x.counts ∙ delete_counts x.answer y.answer p to.alike ∙ sym y.counts), to.whole)
 
-  sets_one : (switches : ℕ) (p q r : Tally) → Sets s switches p q → Sets s switches p r → (q ≡ r) × (legal s.meaning s.limits q.log → Whole p.log → Whole q.log)
+  sets_one : (switches : ℕ) (p q r : Tally) → CountsSet s switches p q → CountsSet s switches p r → (q ≡ r) × (legal s.meaning s.limits q.log → Whole p.log → Whole q.log)
   sets_one switches p q r x y =
       let decides = (SetReply s.meaning (state s.meaning p.log) (switch_body switches)) in
       let to = leads p.log (set_versions (switch_body switches)) q.log r.log x.answer y.answer x.requests y.requests
@@ -147,7 +147,7 @@ module _ (s : Server) (laws : Lawful s.meaning) (one_reading : IsOneReading) (st
       (set_stamped s.meaning (state s.meaning p.log) (switch_body switches) x.answer x.requests.item (reply decides x.answer x.requests.item x.requests.decides)) in
       (same_tally q r to.same (x.counts ∙ setting_counts x.answer y.answer p to.alike ∙ sym y.counts), to.whole)
 
-  starts_one : (switches : ℕ) (p q r : Tally) → Starts s switches p q → Starts s switches p r → (q ≡ r) × (legal s.meaning s.limits q.log → Whole p.log → Whole q.log)
+  starts_one : (switches : ℕ) (p q r : Tally) → CountsStart s switches p q → CountsStart s switches p r → (q ≡ r) × (legal s.meaning s.limits q.log → Whole p.log → Whole q.log)
   starts_one switches p q r x y =
       let decides = (StartReply s.meaning s.limits (state s.meaning p.log) (start_body switches)) in
       let to = leads p.log (start (start_body switches)) q.log r.log x.answer y.answer x.requests y.requests
@@ -159,7 +159,7 @@ module _ (s : Server) (laws : Lawful s.meaning) (one_reading : IsOneReading) (st
   switches_one : (switches : ℕ) (p q r : Tally) → Switches s switches p q → Switches s switches p r → (q ≡ r) × (legal s.meaning s.limits q.log → Whole p.log → Whole q.log)
   switches_one switches p q r x y =
       let mid = sets_one switches p x.mid y.mid x.sets y.sets in
-      let to = starts_one switches x.mid q r x.starts (subst (λ (u : Tally). Starts s switches u r) (sym mid.0) y.starts) in
+      let to = starts_one switches x.mid q r x.starts (subst (λ (u : Tally). CountsStart s switches u r) (sym mid.0) y.starts) in
       (to.0, λ l all. to.1 l (mid.1 (before s x.mid.log q.log (start (start_body switches)) x.starts.answer x.starts.requests l) all))
 
   -- ---- steps

@@ -13,7 +13,7 @@ use Rattle.shared_api.specs.Answered.{CallsOn}
 use Rattle.drill_requests.specs.Bodies.{stamp, spoke_version, hub_version, object_key, start_body}
 use Rattle.drill_requests.specs.Replies.{IsEdited, Shows}
 use Rattle.drill_steps.specs.declared.counts.Counts.{Counts}
-use Rattle.drill_steps.specs.Calling.{Tally, Requests, request, Creates, Replaces, PutsBack, Edits, Deletes, Sets, Starts, Lists}
+use Rattle.drill_steps.specs.Calling.{Tally, Requests, request, CountsCreate, CountsReplace, PutsBack, Edits, CountsDelete, CountsSet, CountsStart, Lists}
 use Rattle.drill_steps.specs.Counting.{with_create, with_replace, with_delete, with_setting}
 use Rattle.drill_steps.specs.Settings.{switch_body}
 use Rattle.drill_steps.proofs.Alone.{requested}
@@ -28,7 +28,7 @@ standing v counts = record { log = items v.seen; counts = counts }
 
 module _ {B : Type 0} (s : Server) (rose : Type 0) (v z : View B) (never : ¬ rose) (alone : IsAlone v) (a : Answer) (had : a ≢ Err refusal.no_memory) (before after : Counts) where
   pub creates : (given version bytes body : List ℕ) (n : ℕ) → given ≡ stamp → bytes ≡ body → IsPlace s.meaning version n → after ≡ with_create a before
-      → CallsOn s rose given v z (create (request n None bytes)) (answered a) → Creates s version body (standing v before) (standing z after)
+      → CallsOn s rose given v z (create (request n None bytes)) (answered a) → CountsCreate s version body (standing v before) (standing z after)
   creates given version bytes body n stamped same place counted calls = record {
     v = n;
     place = place;
@@ -41,7 +41,7 @@ module _ {B : Type 0} (s : Server) (rose : Type 0) (v z : View B) (never : ¬ ro
 
   pub replaces : (object t n : ℕ) (got bytes body : List ℕ) (k : KeyView) → bytes ≡ body → k ≡ object_key object → IsEdited t got body → IsPlace s.meaning spoke_version n
       → after ≡ with_replace a before → CallsOn s rose [] v z (replace (record { version = n; ns = k.ns; name = Some k.name; bytes = bytes }) k) (answered a)
-      → Replaces s object t got (standing v before) (standing z after)
+      → CountsReplace s object t got (standing v before) (standing z after)
   replaces object t n got bytes body k same key edited place counted calls = record {
     body = body;
     edited = edited;
@@ -60,7 +60,7 @@ module _ {B : Type 0} (s : Server) (rose : Type 0) (v z : View B) (never : ¬ ro
       (requested s rose [] v z (get n k) a never alone had (λ i d. d) calls)
 
   pub deletes : (given bytes : List ℕ) (object n : ℕ) (k : KeyView) → given ≡ stamp → bytes ≡ [] → k ≡ object_key object → IsPlace s.meaning hub_version n → after ≡ with_delete a before
-      → CallsOn s rose given v z (delete n k bytes) (answered a) → Deletes s object (standing v before) (standing z after)
+      → CallsOn s rose given v z (delete n k bytes) (answered a) → CountsDelete s object (standing v before) (standing z after)
   deletes given bytes object n k stamped empty key place counted calls = record {
     v = n;
     place = place;
@@ -72,7 +72,7 @@ module _ {B : Type 0} (s : Server) (rose : Type 0) (v z : View B) (never : ¬ ro
   }
 
   pub sets : (bytes : List ℕ) (switches : ℕ) → bytes ≡ switch_body switches → after ≡ with_setting a before → CallsOn s rose [] v z (set_versions bytes) (answered a)
-      → Sets s switches (standing v before) (standing z after)
+      → CountsSet s switches (standing v before) (standing z after)
   sets bytes switches same counted calls = record {
     answer = a;
     requests = subst (λ (x : List ℕ). Requests s (items v.seen) (set_versions x) a (items z.seen)) same (requested s rose [] v z (set_versions bytes) a never alone had (λ i d. d) calls);
@@ -80,7 +80,7 @@ module _ {B : Type 0} (s : Server) (rose : Type 0) (v z : View B) (never : ¬ ro
   }
 
   pub starts : (bytes : List ℕ) (switches : ℕ) → bytes ≡ start_body switches → after ≡ with_setting a before → CallsOn s rose [] v z (start bytes) (answered a)
-      → Starts s switches (standing v before) (standing z after)
+      → CountsStart s switches (standing v before) (standing z after)
   starts bytes switches same counted calls = record {
     answer = a;
     requests = subst (λ (x : List ℕ). Requests s (items v.seen) (start x) a (items z.seen)) same (requested s rose [] v z (start bytes) a never alone had (λ i d. d) calls);

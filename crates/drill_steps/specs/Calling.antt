@@ -27,7 +27,7 @@ abbrev pub request : ℕ → Option (List ℕ) → List ℕ → Request
 request v name body = record { version = v; ns = namespace; name = name; bytes = body }
 
 -- an object is created at the version of this name
-pub record Creates (s : Server) (version body : List ℕ) (p q : Tally) : Type 0 where
+pub record CountsCreate (s : Server) (version body : List ℕ) (p q : Tally) : Type 0 where
   pub v : ℕ
   pub place : IsPlace s.meaning version v
   pub answer : Answer
@@ -35,7 +35,7 @@ pub record Creates (s : Server) (version body : List ℕ) (p q : Tally) : Type 0
   pub counts : q.counts ≡ with_create answer p.counts
 
 -- what was got is put back with another `hostPort`
-pub record Replaces (s : Server) (n t : ℕ) (got : List ℕ) (p q : Tally) : Type 0 where
+pub record CountsReplace (s : Server) (n t : ℕ) (got : List ℕ) (p q : Tally) : Type 0 where
   pub body : List ℕ
   pub edited : IsEdited t got body
   pub v : ℕ
@@ -46,7 +46,7 @@ pub record Replaces (s : Server) (n t : ℕ) (got : List ℕ) (p q : Tally) : Ty
 
 -- it is, unless nothing was got: then no other request comes
 abbrev pub PutsBack : Server → ℕ → ℕ → Answer → Tally → Tally → Type 0
-PutsBack s n t (Ok r) p q = Replaces s n t r.text p q
+PutsBack s n t (Ok r) p q = CountsReplace s n t r.text p q
 PutsBack s n t (Err e) p q = q ≡ record p { counts = with_refusal e p.counts }
 
 -- an object is got at the version that is stored at first, and put back
@@ -59,7 +59,7 @@ pub record Edits (s : Server) (n t : ℕ) (p q : Tally) : Type 0 where
   pub puts : PutsBack s n t answer (record p { log = mid }) q
 
 -- an object is deleted at the hub
-pub record Deletes (s : Server) (n : ℕ) (p q : Tally) : Type 0 where
+pub record CountsDelete (s : Server) (n : ℕ) (p q : Tally) : Type 0 where
   pub v : ℕ
   pub place : IsPlace s.meaning hub_version v
   pub answer : Answer
@@ -67,13 +67,13 @@ pub record Deletes (s : Server) (n : ℕ) (p q : Tally) : Type 0 where
   pub counts : q.counts ≡ with_delete answer p.counts
 
 -- the storage version is set to the other one
-pub record Sets (s : Server) (switches : ℕ) (p q : Tally) : Type 0 where
+pub record CountsSet (s : Server) (switches : ℕ) (p q : Tally) : Type 0 where
   pub answer : Answer
   pub requests : Requests s p.log (set_versions (switch_body switches)) answer q.log
   pub counts : q.counts ≡ with_setting answer p.counts
 
 -- a migration to it is started
-pub record Starts (s : Server) (switches : ℕ) (p q : Tally) : Type 0 where
+pub record CountsStart (s : Server) (switches : ℕ) (p q : Tally) : Type 0 where
   pub answer : Answer
   pub requests : Requests s p.log (start (start_body switches)) answer q.log
   pub counts : q.counts ≡ with_setting answer p.counts
@@ -81,8 +81,8 @@ pub record Starts (s : Server) (switches : ℕ) (p q : Tally) : Type 0 where
 -- both, one after the other
 pub record Switches (s : Server) (switches : ℕ) (p q : Tally) : Type 0 where
   pub mid : Tally
-  pub sets : Sets s switches p mid
-  pub starts : Starts s switches mid q
+  pub sets : CountsSet s switches p mid
+  pub starts : CountsStart s switches mid q
 
 -- all objects are listed at the version that is stored at first: so many, at this resource version
 pub record Lists (s : Server) (log : List Item) (objects : ℕ) (revision : List ℕ) : Type 0 where

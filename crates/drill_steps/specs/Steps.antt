@@ -7,7 +7,7 @@ use Rattle.api_calls.specs.Work.{Turn as WorkersTurn, work_decision}
 use Rattle.drill_requests.specs.declared.steps.Step.{Step}
 use Rattle.drill_requests.specs.declared.steps.Step.TheVariants.{CreateSpoke, CreateHub, Edit, Delete, Turn, Switch}
 use Rattle.drill_requests.specs.Bodies.{spoke_version, hub_version, spoke_body, hub_body}
-use Rattle.drill_steps.specs.Calling.{Tally, Creates, Edits, Deletes, Switches}
+use Rattle.drill_steps.specs.Calling.{Tally, CountsCreate, Edits, CountsDelete, Switches}
 use Rattle.drill_steps.specs.Counting.{no_counts, one_more, with_turn}
 use Rattle.drill_requests.specs.Draws.{drawn, third_state, step_of}
 
@@ -43,10 +43,10 @@ pub data Rests (s : Server) : Point → Point → Type 0 where
 -- ---- a step
 
 abbrev pub Does : Server → Step → Point → Point → Type 0
-Does s (CreateSpoke n t) p q = Creates s spoke_version (spoke_body n t) p.tally q.tally × (q ≡ record p { tally = q.tally })
-Does s (CreateHub n t) p q = Creates s hub_version (hub_body n t) p.tally q.tally × (q ≡ record p { tally = q.tally })
+Does s (CreateSpoke n t) p q = CountsCreate s spoke_version (spoke_body n t) p.tally q.tally × (q ≡ record p { tally = q.tally })
+Does s (CreateHub n t) p q = CountsCreate s hub_version (hub_body n t) p.tally q.tally × (q ≡ record p { tally = q.tally })
 Does s (Edit n t) p q = Edits s n t p.tally q.tally × (q ≡ record p { tally = q.tally })
-Does s (Delete n) p q = Deletes s n p.tally q.tally × (q ≡ record p { tally = q.tally })
+Does s (Delete n) p q = CountsDelete s n p.tally q.tally × (q ≡ record p { tally = q.tally })
 Does s Turn p q = q ≡ turned s p
 Does s Switch p q = Switches s p.switches p.tally q.tally × (q ≡ record p { switches = one_more p.switches; tally = q.tally })
 

@@ -7,7 +7,7 @@ ghost use Rattle.shared_api.specs.Base.{server_of};
 ghost use Rattle.shared_api.specs.Passes.{IsOf};
 ghost use Rattle.drill_requests.specs.Bodies.{object_key};
 ghost use Rattle.drill_requests.specs.Replies.{IsEdited};
-ghost use Rattle.drill_steps.specs.Calling.{Creates, Deletes, Edits, Lists, Replaces};
+ghost use Rattle.drill_steps.specs.Calling.{CountsCreate, CountsDelete, Edits, Lists, CountsReplace};
 
 use crate::counts::{Counts, one_more};
 use api_calls::{NoTool, Versions};
@@ -31,7 +31,7 @@ pub(crate) fn create<V: Versions<Tool = NoTool> + Drop, R: Wait>(
     requires alone { IsAlone pass.old.view }
     ensures of { IsOf V.meaning api.now pass.new }
     ensures alone { IsAlone pass.new.view }
-    ensures creates { OnOk result (Creates (server_of V.meaning api.now.base) version.now body.now
+    ensures creates { OnOk result (CountsCreate (server_of V.meaning api.now.base) version.now body.now
         (record { log = items pass.old.view.seen; counts = counts.old }) (record { log = items pass.new.view.seen; counts = counts.new })) }
 {
     match api.create(rt, pass, version, NAMESPACE, body.as_bytes(), stamp()) {
@@ -58,7 +58,7 @@ fn put<V: Versions<Tool = NoTool> + Drop, R: Wait>(
     ensures of { IsOf V.meaning api.now pass.new }
     ensures alone { IsAlone pass.new.view }
     ensures replaces { (object t : ℕ) (got : List ℕ) → key.now ≡ object_key object → IsEdited t got body.now
-        → OnOk result (Replaces (server_of V.meaning api.now.base) object t got
+        → OnOk result (CountsReplace (server_of V.meaning api.now.base) object t got
         (record { log = items pass.old.view.seen; counts = counts.old }) (record { log = items pass.new.view.seen; counts = counts.new })) }
 {
     match api.replace(rt, pass, SPOKE, key, body.as_bytes()) {
@@ -87,7 +87,7 @@ fn put_back<V: Versions<Tool = NoTool> + Drop, R: Wait>(
     ensures of { IsOf V.meaning api.now pass.new }
     ensures alone { IsAlone pass.new.view }
     ensures replaces { (object : ℕ) → key.now ≡ object_key object
-        → OnOk result (Replaces (server_of V.meaning api.now.base) object value got.now
+        → OnOk result (CountsReplace (server_of V.meaning api.now.base) object value got.now
         (record { log = items pass.old.view.seen; counts = counts.old }) (record { log = items pass.new.view.seen; counts = counts.new })) }
 {
     let body = edited(alloc, got, value)?;
@@ -162,7 +162,7 @@ fn delete_at<V: Versions<Tool = NoTool> + Drop, R: Wait>(
     ensures of { IsOf V.meaning api.now pass.new }
     ensures alone { IsAlone pass.new.view }
     ensures deletes { (object : ℕ) → key.now ≡ object_key object
-        → OnOk result (Deletes (server_of V.meaning api.now.base) object
+        → OnOk result (CountsDelete (server_of V.meaning api.now.base) object
         (record { log = items pass.old.view.seen; counts = counts.old }) (record { log = items pass.new.view.seen; counts = counts.new })) }
 {
     match api.delete(rt, pass, HUB, key, b"", stamp()) {
@@ -187,7 +187,7 @@ pub(crate) fn delete<V: Versions<Tool = NoTool> + Drop, R: Wait>(
     requires alone { IsAlone pass.old.view }
     ensures of { IsOf V.meaning api.now pass.new }
     ensures alone { IsAlone pass.new.view }
-    ensures deletes { OnOk result (Deletes (server_of V.meaning api.now.base) object
+    ensures deletes { OnOk result (CountsDelete (server_of V.meaning api.now.base) object
         (record { log = items pass.old.view.seen; counts = counts.old }) (record { log = items pass.new.view.seen; counts = counts.new })) }
 {
     let key = object_key(alloc, object)?;

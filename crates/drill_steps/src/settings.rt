@@ -5,7 +5,7 @@ ghost use Rattle.turn_cell.specs.Views.{IsAlone};
 ghost use Rattle.shared_api.specs.Base.{server_of};
 ghost use Rattle.shared_api.specs.Passes.{IsOf};
 ghost use Rattle.drill_requests.specs.Bodies.{start_body};
-ghost use Rattle.drill_steps.specs.Calling.{Sets, Starts, Switches};
+ghost use Rattle.drill_steps.specs.Calling.{CountsSet, CountsStart, Switches};
 
 use crate::counts::Counts;
 use crate::switching::switch_body;
@@ -28,7 +28,7 @@ fn set<V: Versions<Tool = NoTool> + Drop, R: Wait>(
     requires alone { IsAlone pass.old.view }
     ensures of { IsOf V.meaning api.now pass.new }
     ensures alone { IsAlone pass.new.view }
-    ensures sets { OnOk result (Sets (server_of V.meaning api.now.base) switches
+    ensures sets { OnOk result (CountsSet (server_of V.meaning api.now.base) switches
         (record { log = items pass.old.view.seen; counts = counts.old }) (record { log = items pass.new.view.seen; counts = counts.new })) }
 {
     match api.set_versions(rt, pass, switch_body(switches).as_bytes()) {
@@ -50,7 +50,7 @@ fn start_by<V: Versions<Tool = NoTool> + Drop, R: Wait>(
     ensures of { IsOf V.meaning api.now pass.new }
     ensures alone { IsAlone pass.new.view }
     ensures starts { (switches : ℕ) → body.now ≡ start_body switches
-        → OnOk result (Starts (server_of V.meaning api.now.base) switches
+        → OnOk result (CountsStart (server_of V.meaning api.now.base) switches
         (record { log = items pass.old.view.seen; counts = counts.old }) (record { log = items pass.new.view.seen; counts = counts.new })) }
 {
     match api.start_migration(rt, pass, body.as_bytes()) {
@@ -72,7 +72,7 @@ fn start<V: Versions<Tool = NoTool> + Drop, R: Wait>(
     requires alone { IsAlone pass.old.view }
     ensures of { IsOf V.meaning api.now pass.new }
     ensures alone { IsAlone pass.new.view }
-    ensures starts { OnOk result (Starts (server_of V.meaning api.now.base) switches
+    ensures starts { OnOk result (CountsStart (server_of V.meaning api.now.base) switches
         (record { log = items pass.old.view.seen; counts = counts.old }) (record { log = items pass.new.view.seen; counts = counts.new })) }
 {
     let body = start_body(alloc, switches)?;

@@ -6,7 +6,7 @@ pub mod Calls
 pub mod Memory
 pub mod MemoryFiles
 pub mod MemoryEars
-pub mod Numbered
+pub mod NumberLaws
 pub mod Returned
 pub mod Stamps
 pub mod Sends

@@ -266,7 +266,7 @@ impl Ears for MemEars {
 
     type Ended = MemClosed;
 
-    ghost use Rattle.edge_io.specs.Numbered.{numbers_differ as numbered_differ};
+    ghost use Rattle.edge_io.specs.NumberLaws.{numbers_differ as numbered_differ};
 
     ghost origins = { λ e. Some (numbered 0 e.heard) };
 

@@ -7,7 +7,7 @@ use Rattle.std.proofs.lemmas.Bool.{cases_lt}
 use Rattle.std.proofs.lemmas.Bool.Decides.{nat_tests}
 use Rattle.http_wire.specs.Head.{Request}
 use Rattle.http_wire.specs.Response.{HasPhrase}
-use Rattle.http_wire.specs.Phrases.{phrase-200, phrase-201}
+use Rattle.http_wire.specs.PhraseLaws.{phrase-200, phrase-201}
 use Rattle.api_calls.specs.Calls.{Server, Call, Told, answered, Comes, decided as as_decided, wants_memory as as_wanted, not_converted, moved, lost, Decides}
 use Rattle.api_calls.specs.Item.{Item, Logged, items, items_of}
 use Rattle.api_calls.specs.Meaning.{Meaning}
@@ -18,7 +18,7 @@ use Rattle.api_calls.specs.Reply.{ReplyView, reply_of}
 use Rattle.api_calls.specs.Versions.{NamesDiffer}
 use Rattle.api_calls.specs.declared.reply.Reply.{Reply}
 use Rattle.api_calls.specs.declared.refusal.Refusal.{Refusal}
-use Rattle.http_routes.specs.Paths.{Resource, IsServed}
+use Rattle.http_routes.specs.Paths.{Resource, IsResource}
 use Rattle.http_routes.specs.Paths as path
 use Rattle.http_routes.specs.Actions.{Action, Row, Paging, row_of, cell, call_of}
 use Rattle.http_routes.specs.Actions as action
@@ -38,8 +38,8 @@ use Rattle.shared_api.specs.Answered.{CallsOn}
 use Rattle.call_texts.specs.Places.{IsPlace}
 use Rattle.http_front.specs.Replies.{Front, MayStamp, Replies, WantsMemory, about, refused, wants_memory}
 use Rattle.http_front.specs.declared.reply.About.TheVariants.{Objects}
-use Rattle.http_front.specs.Steps.{Answers, IsSameBut, Quiet, added}
-use Rattle.http_front.specs.Going.{Goes, MayCall, MayRoute, Routed, Tells, decided}
+use Rattle.http_front.specs.Steps.{StepAnswers, IsSameBut, Quiet, added}
+use Rattle.http_front.specs.Going.{PassGoes, MayCall, MayRoute, Routed, Tells, decided}
 use Rattle.http_front.specs.Going as going
 use Rattle.http_front.proofs.Sound.{IsSuccess, comes_fair}
 
@@ -100,7 +100,7 @@ pub same_but : {B : Type 0} (v z : View B) (log : List Logged) (item : Option It
 same_but {B = B} v z log item t =
     t.3 ∙ (λ i. set_stage v (sym (ap (λ (q : View B). q.seen) t.3) i) (sym (ap (λ (q : View B). q.stage) t.3) i))
 
-pub goes : {B : Type 0} (n : ℕ) (v z : View B) (log : List Logged) (item : Option Item) → v.number ≡ Some n → Turned v z log item → Goes n v z log item
+pub goes : {B : Type 0} (n : ℕ) (v z : View B) (log : List Logged) (item : Option Item) → v.number ≡ Some n → Turned v z log item → PassGoes n v z log item
 goes {B = B} n v z log item named t = record {
   grows = t.0;
   own = t.1 n own;
@@ -117,7 +117,7 @@ goes {B = B} n v z log item named t = record {
     seen : z.seen ≡ log ++ added n log item
     seen = ap (λ (q : View B). q.seen) t.3 ∙ ap (λ (ys : List Logged). log ++ ys) (addition_is v n log item named)
 
-pub stays : {B : Type 0} (n : ℕ) (v : View B) → Goes n v v v.seen None
+pub stays : {B : Type 0} (n : ℕ) (v : View B) → PassGoes n v v v.seen None
 stays n v = record {
   grows = prefix_self v.seen;
   own = refl;
@@ -153,7 +153,7 @@ routed_call f rose stamp seen log c (Err e) a i may comes (inr tells) = inr (tel
 
 pub comes_call : {B : Type 0} (f : Front) (rose : Type 0) (n : ℕ) (stamp : List ℕ) (v z : View B) (c : Call) (r : Result Reply Refusal) (a : ReplyView)
     → v.number ≡ Some n → MayStamp f.told stamp → CallsOn f.server rose stamp v z c (told r) → Tells f.server.meaning (about c) (decided r) a
-    → going.Comes f rose n v z (route.calls c) a
+    → going.PassComes f rose n v z (route.calls c) a
 comes_call f rose n stamp v z c r a named may calls tells = record {
   log = calls.log;
   item = calls.item;
@@ -163,7 +163,7 @@ comes_call f rose n stamp v z c r a named may calls tells = record {
 
 -- a request that calls nothing
 pub comes_still : {B : Type 0} (f : Front) (rose : Type 0) (n : ℕ) (v : View B) (r : Route) (a : ReplyView)
-    → Routed f rose (items v.seen) (items v.seen) r a None → going.Comes f rose n v v r a
+    → Routed f rose (items v.seen) (items v.seen) r a None → going.PassComes f rose n v v r a
 comes_still f rose n v r a routed = record { log = v.seen; item = None; goes = stays n v; routed = routed }
 
 -- it is refused, or there is no memory for the text
@@ -173,11 +173,11 @@ either_told f a e i none (inl is) = inl (is, none)
 either_told f a e i none (inr is) = inr (is, none)
 
 pub comes_nowhere : {B : Type 0} (f : Front) (rose : Type 0) (n : ℕ) (v : View B) (a : ReplyView)
-    → (a ≡ refused f.server.meaning Objects refusal.no_resource) ⊎ (a ≡ wants_memory) → going.Comes f rose n v v route.no_resource a
+    → (a ≡ refused f.server.meaning Objects refusal.no_resource) ⊎ (a ≡ wants_memory) → going.PassComes f rose n v v route.no_resource a
 comes_nowhere f rose n v a tells = comes_still f rose n v route.no_resource a (either_told f a refusal.no_resource None refl tells)
 
 pub comes_bad : {B : Type 0} (f : Front) (rose : Type 0) (n : ℕ) (v : View B) (a : ReplyView) (why : WhyView)
-    → (a ≡ refused f.server.meaning Objects (refusal.bad_request why)) ⊎ (a ≡ wants_memory) → going.Comes f rose n v v (route.bad_request why) a
+    → (a ≡ refused f.server.meaning Objects (refusal.bad_request why)) ⊎ (a ≡ wants_memory) → going.PassComes f rose n v v (route.bad_request why) a
 comes_bad f rose n v a why tells = comes_still f rose n v (route.bad_request why) a (either_told f a (refusal.bad_request why) None refl tells)
 
 routed_replies : (f : Front) (rose : Type 0) (seen log : List Item) (q : Request) (r : Route) (a : ReplyView) (i : Option Item)
@@ -186,8 +186,8 @@ routed_replies f rose seen log q r a i routes (inl exact) = inl (record { route 
 routed_replies f rose seen log q r a i routes (inr wants) = inr wants
 
 replies_answer : {B : Type 0} (f : Front) (n : ℕ) (v z : View B) (j k : ℕ) (q : Request) (a : ReplyView) (log : List Logged) (item : Option Item)
-    → j ≤ k → Goes n v z log item → Replies f (j < k) (items v.seen) (items log) q a item
-    → Answers f n (record { seen = v.seen; faults = j }) q a (record { seen = z.seen; faults = k })
+    → j ≤ k → PassGoes n v z log item → Replies f (j < k) (items v.seen) (items log) q a item
+    → StepAnswers f n (record { seen = v.seen; faults = j }) q a (record { seen = z.seen; faults = k })
 replies_answer f n v z j k q a log item later goes replies =
     let whole : v.seen ++ goes.grows.0 ≡ log = goes.grows.1 in
     record {
@@ -201,15 +201,15 @@ replies_answer f n v z j k q a log item later goes replies =
 
 -- the answer of a route is the request's
 pub answers : {B : Type 0} (f : Front) (n : ℕ) (v z : View B) (j k : ℕ) (q : Request) (r : Route) (a : ReplyView)
-    → j ≤ k → Routes f.server.meaning q.method q.target q.body r → going.Comes f (j < k) n v z r a
-    → Answers f n (record { seen = v.seen; faults = j }) q a (record { seen = z.seen; faults = k })
+    → j ≤ k → Routes f.server.meaning q.method q.target q.body r → going.PassComes f (j < k) n v z r a
+    → StepAnswers f n (record { seen = v.seen; faults = j }) q a (record { seen = z.seen; faults = k })
 answers f n v z j k q r a later routes comes =
     replies_answer f n v z j k q a comes.log comes.item later comes.goes
     (routed_replies f (j < k) (items v.seen) (items comes.log) q r a comes.item routes comes.routed)
 
 -- a request without memory for its route
 pub answers_wanting : {B : Type 0} (f : Front) (n : ℕ) (v : View B) (j : ℕ) (q : Request)
-    → Answers f n (record { seen = v.seen; faults = j }) q wants_memory (record { seen = v.seen; faults = j })
+    → StepAnswers f n (record { seen = v.seen; faults = j }) q wants_memory (record { seen = v.seen; faults = j })
 answers_wanting f n v j q = replies_answer f n v v j j q wants_memory v.seen None (omega arith) (stays n v) (inr (refl, refl))
 
 -- ---- arguments
@@ -264,7 +264,7 @@ record AreActs (m : Meaning) (r : Row) : Type 0 where
   put : IfSome r.put (λ x. MayAct m x)
   delete : IfSome r.delete (λ x. MayAct m x)
 
-acts : (m : Meaning) (r : Resource) → IsServed m r → AreActs m (row_of r)
+acts : (m : Meaning) (r : Resource) → IsResource m r → AreActs m (row_of r)
 acts m path.group is = record { get = tt; post = tt; put = tt; delete = tt }
 acts m (path.everywhere v) is = record { get = is.0; post = tt; put = tt; delete = tt }
 acts m (path.collection v ns) is = record { get = is.0; post = is; put = tt; delete = tt }

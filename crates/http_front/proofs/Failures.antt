@@ -12,7 +12,7 @@ use Rattle.http_routes.specs.Routes.{Route}
 use Rattle.http_routes.specs.Routes as route
 use Rattle.http_front.specs.Replies.{Front, RoutedReply, about, no_method, refused, replied, wants_memory}
 use Rattle.http_front.specs.declared.reply.About.TheVariants.{Objects}
-use Rattle.http_front.specs.Steps.{Point, Answers}
+use Rattle.http_front.specs.Steps.{Point, StepAnswers}
 use Rattle.http_front.specs.Talk.{Exchange, Steps}
 use Rattle.http_front.specs.Failures.{failures}
 use Rattle.http_front.proofs.Sound.{comes_fair, told_502}
@@ -31,7 +31,7 @@ routed_502 f rose seen log route.method_not_allowed a i reply is = let e : 405 �
 routed_502 f rose seen log (route.bad_request why) a i reply is =
     let e : 400 ≡ 502 = code_is a (refused f.server.meaning Objects (refusal.bad_request why)) reply.0 is in absurd (omega (arith, e))
 
-pub step_502 : (f : Front) (n : ℕ) (p q : Point) (r : Request) (a : ReplyView) → Answers f n p r a q → a.code ≡ code_bad_gateway → p.faults < q.faults
+pub step_502 : (f : Front) (n : ℕ) (p q : Point) (r : Request) (a : ReplyView) → StepAnswers f n p r a q → a.code ≡ code_bad_gateway → p.faults < q.faults
 step_502 f n p q r a step is = elim step.replies [
   | inl exact ↦ routed_502 f (p.faults < q.faults) (items p.seen) (items (p.seen ++ step.others)) exact.route a step.item exact.reply is
   | inr wants ↦ let e : 503 ≡ 502 = code_is a wants_memory wants.0 is in absurd (omega (arith, e))
@@ -45,7 +45,7 @@ one_more : (b : Bool) (before mid after more : ℕ) → before ≤ mid → (b �
 one_more true before mid after more later rose rest = let strict = rose refl in omega (arith, strict, rest)
 one_more false before mid after more later rose rest = omega (arith, later, rest)
 
-pub few_failures : (f : Front) (n : ℕ) (s t : Point) (xs : List Exchange) → Steps (Answers f n) s xs t → failures xs + s.faults ≤ t.faults
+pub few_failures : (f : Front) (n : ℕ) (s t : Point) (xs : List Exchange) → Steps (StepAnswers f n) s xs t → failures xs + s.faults ≤ t.faults
 unfolding Steps failures
 few_failures f n s t [] steps = let e : t.faults ≡ s.faults = ap (λ (p : Point). p.faults) steps in omega (arith, e)
 few_failures f n s t (x ∷ xs) steps =

@@ -36,7 +36,7 @@ Tells m subject (Ok r) a = a ≡ r
 Tells m subject (Err e) a = (a ≡ refused m subject e) ⊎ (a ≡ wants_memory)
 
 -- the pass of the number n went from v to z: others made the list log, and then it added its item, if any
-pub record Goes {B : Type 0} (n : ℕ) (v z : View B) (log : List Logged) (item : Option Item) : Type 0 where
+pub record PassGoes {B : Type 0} (n : ℕ) (v z : View B) (log : List Logged) (item : Option Item) : Type 0 where
   pub grows : IsPrefix v.seen log
   pub own : items_of n log ≡ items_of n v.seen
   pub seen : z.seen ≡ log ++ added n log item
@@ -65,10 +65,10 @@ abbrev pub Routed : Front → Type 0 → List Item → List Item → Route → R
 Routed f rose seen log r a i = RoutedReply f rose seen log r a i ⊎ WantsMemory a i
 
 -- what a request comes to on a pass
-pub record Comes {B : Type 0} (f : Front) (rose : Type 0) (n : ℕ) (v z : View B) (r : Route) (a : ReplyView) : Type 0 where
+pub record PassComes {B : Type 0} (f : Front) (rose : Type 0) (n : ℕ) (v z : View B) (r : Route) (a : ReplyView) : Type 0 where
   pub log : List Logged
   pub item : Option Item
-  pub goes : Goes n v z log item
+  pub goes : PassGoes n v z log item
   pub routed : Routed f rose (items v.seen) (items log) r a item
 
 -- a route's call has arguments such as calls take

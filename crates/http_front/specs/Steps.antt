@@ -25,7 +25,7 @@ added n log (Some item) = record { by = n; nth = length (items_of n log); item =
 
 -- The pass of the number n answers a request. Behind what it had seen stand items of others; the answer is the one at that
 -- list; and then comes the item that the request enters, if any.
-pub record Answers (f : Front) (n : ℕ) (p : Point) (r : Request) (a : ReplyView) (q : Point) : Type 0 where
+pub record StepAnswers (f : Front) (n : ℕ) (p : Point) (r : Request) (a : ReplyView) (q : Point) : Type 0 where
   pub others : List Logged
   pub item : Option Item
   pub strangers : items_of n others ≡ []

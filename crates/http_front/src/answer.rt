@@ -7,8 +7,8 @@ ghost use Rattle.http_routes.specs.Views.{call_view, route_of};
 ghost use Rattle.shared_api.specs.Base.{server_of};
 ghost use Rattle.shared_api.specs.Passes.{IsOf};
 ghost use Rattle.http_front.specs.Replies.{about};
-ghost use Rattle.http_front.specs.Steps.{Answers, IsSameBut, Quiet, point_of};
-ghost use Rattle.http_front.specs.Going.{answer_of, Comes, MayRoute};
+ghost use Rattle.http_front.specs.Steps.{StepAnswers, IsSameBut, Quiet, point_of};
+ghost use Rattle.http_front.specs.Going.{answer_of, PassComes, MayRoute};
 
 use crate::call::make_call;
 use crate::reply::{About, Answer, refused, told};
@@ -55,7 +55,7 @@ fn answer_route<V: Versions + Drop, C: Clock, R: Wait>(
     ensures of { IsOf V.meaning api.now pass.new }
     ensures same { IsSameBut pass.old.view pass.new.view }
     ensures comes { (n : ℕ) → pass.old.view.number ≡ Some n
-        → Comes (record { server = server_of V.meaning api.now.base; told = C.told clock.now }) (V.Tool.faults pass.old.tool < V.Tool.faults pass.new.tool) n
+        → PassComes (record { server = server_of V.meaning api.now.base; told = C.told clock.now }) (V.Tool.faults pass.old.tool < V.Tool.faults pass.new.tool) n
         pass.old.view pass.new.view (route_of route.entry) (answer_of result) }
     ensures phrase { HasPhrase (answer_of result).code }
     ensures rises { V.Tool.faults pass.old.tool ≤ V.Tool.faults pass.new.tool }
@@ -99,7 +99,7 @@ pub fn answer_request<V: Versions + Drop, C: Clock, R: Wait>(
     ensures same { IsSameBut pass.old.view pass.new.view }
     ensures quiet { (n : ℕ) → pass.old.view.number ≡ Some n → Quiet n pass.old.view pass.new.view }
     ensures answers { (n : ℕ) → pass.old.view.number ≡ Some n
-        → Answers (record { server = server_of V.meaning api.now.base; told = C.told clock.now }) n
+        → StepAnswers (record { server = server_of V.meaning api.now.base; told = C.told clock.now }) n
         (point_of V.Tool.faults pass.old) (request_at inbox.now.bytes parts) (answer_of result) (point_of V.Tool.faults pass.new) }
     ensures phrase { HasPhrase (answer_of result).code }
     ensures rises { V.Tool.faults pass.old.tool ≤ V.Tool.faults pass.new.tool }

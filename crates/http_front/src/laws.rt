@@ -5,7 +5,7 @@ ghost use Rattle.api_calls.specs.Status.{code_bad_gateway};
 ghost use Rattle.http_wire.specs.Head.{Request};
 ghost use Rattle.shared_api.specs.Base.{server_of};
 ghost use Rattle.shared_api.specs.declared.cell.CoreBase.{CoreBase};
-ghost use Rattle.http_front.specs.Steps.{Answers, Point};
+ghost use Rattle.http_front.specs.Steps.{StepAnswers, Point};
 ghost use Rattle.http_front.specs.Talk.{Exchange, Steps};
 ghost use Rattle.http_front.specs.Failures.{failures};
 
@@ -16,7 +16,7 @@ use api_calls::Versions;
 /// last.
 pub fn few_failures<V: Versions>()
     ensures one { (b : CoreBase V) (told : Option (List ℕ)) (n : ℕ) (s t : Point) (r : Request) (a : ReplyView)
-        → Answers (record { server = server_of V.meaning b; told = told }) n s r a t → a.code ≡ code_bad_gateway → s.faults < t.faults }
+        → StepAnswers (record { server = server_of V.meaning b; told = told }) n s r a t → a.code ≡ code_bad_gateway → s.faults < t.faults }
     ensures all { (b : CoreBase V) (told : Option (List ℕ)) (n : ℕ) (s t : Point) (xs : List Exchange)
-        → Steps (Answers (record { server = server_of V.meaning b; told = told }) n) s xs t → failures xs + s.faults ≤ t.faults }
+        → Steps (StepAnswers (record { server = server_of V.meaning b; told = told }) n) s xs t → failures xs + s.faults ≤ t.faults }
 {}

@@ -4,7 +4,7 @@ ghost use Rattle.edge_io.specs.Causes.{Rose};
 ghost use Rattle.http_wire.specs.declared.limits.TheConstants.{MOST_REQUESTS};
 ghost use Rattle.shared_api.specs.Base.{server_of};
 ghost use Rattle.shared_api.specs.Passes.{IsOf};
-ghost use Rattle.http_front.specs.Steps.{Answers, IsSameBut, Quiet, point_of};
+ghost use Rattle.http_front.specs.Steps.{StepAnswers, IsSameBut, Quiet, point_of};
 ghost use Rattle.http_front.specs.Link.{LinkBlames, Links, UnlessUnwritten};
 
 use crate::one::{OneEnd, serve_one};
@@ -48,7 +48,7 @@ pub fn serve_requests<V: Versions + Drop, S: Source, K: Sink, C: Clock, R: Wait>
     requires empty { inbox.old.bytes ≡ [] }
     ensures of { IsOf V.meaning api.now pass.new }
     ensures links { (n : ℕ) → pass.old.view.number ≡ Some n
-        → Links (Answers (record { server = server_of V.meaning api.now.base; told = C.told clock.now }) n) MOST_REQUESTS ⊥ result
+        → Links (StepAnswers (record { server = server_of V.meaning api.now.base; told = C.told clock.now }) n) MOST_REQUESTS ⊥ result
         (point_of V.Tool.faults pass.old) (point_of V.Tool.faults pass.new) (S.left input.old) (K.written output.old) (K.written output.new) }
     ensures same { IsSameBut pass.old.view pass.new.view }
     ensures quiet { (n : ℕ) → pass.old.view.number ≡ Some n → Quiet n pass.old.view pass.new.view }
@@ -89,7 +89,7 @@ pub fn serve_link<V: Versions + Drop, S: Source, K: Sink, C: Clock, R: Wait>(
     // The requests are those that all the input spells; each is answered at the list that the pass then sees, and what is
     // written is the responses.
     ensures links { (n : ℕ) → pass.old.view.number ≡ Some n
-        → Links (Answers (record { server = server_of V.meaning api.now.base; told = C.told clock.now }) n) MOST_REQUESTS (input.new ≡ input.old) result
+        → Links (StepAnswers (record { server = server_of V.meaning api.now.base; told = C.told clock.now }) n) MOST_REQUESTS (input.new ≡ input.old) result
         (point_of V.Tool.faults pass.old) (point_of V.Tool.faults pass.new) (S.left input.old) (K.written output.old) (K.written output.new) }
     // Of the pass only its list changes, and no item is new of a pass that was met into it; where it is alone, none of any other.
     ensures same { IsSameBut pass.old.view pass.new.view }

@@ -6,7 +6,7 @@ ghost use Rattle.http_wire.specs.Head.{Request, Reads, HasNoWhole};
 ghost use Rattle.shared_api.specs.Base.{server_of};
 ghost use Rattle.shared_api.specs.Passes.{IsOf};
 ghost use Rattle.http_front.specs.Faults.{IsHeadFault};
-ghost use Rattle.http_front.specs.Steps.{Answers, IsSameBut, Quiet, point_of};
+ghost use Rattle.http_front.specs.Steps.{StepAnswers, IsSameBut, Quiet, point_of};
 ghost use Rattle.http_front.specs.One.{Blames, Did, HandsOn, IfAnswered, RefusesHead, step_of as step_for};
 
 use crate::answer::answer_request;
@@ -78,7 +78,7 @@ pub fn serve_one<V: Versions + Drop, S: Source, K: Sink, C: Clock, R: Wait>(
     ensures of { IsOf V.meaning api.now pass.new }
     // The request is the next one of all the input, and it is answered at the list that the pass sees.
     ensures did { (n : ℕ) → pass.old.view.number ≡ Some n
-        → Did (Answers (record { server = server_of V.meaning api.now.base; told = C.told clock.now }) n) result (point_of V.Tool.faults pass.old) (point_of V.Tool.faults pass.new)
+        → Did (StepAnswers (record { server = server_of V.meaning api.now.base; told = C.told clock.now }) n) result (point_of V.Tool.faults pass.old) (point_of V.Tool.faults pass.new)
         (prepend_known inbox.old.bytes (S.left input.old)) (prepend_known inbox.new.bytes (S.left input.new)) (K.written output.old) (K.written output.new) }
     // Of the pass only its list changes, and no item is new of a pass that was met into it; where it is alone, none of any other.
     ensures same { IsSameBut pass.old.view pass.new.view }

@@ -147,7 +147,7 @@ pub fn hand_on<K: Sink>(output: &mut K, answer: &Answer, closing: bool) -> Resul
 }
 
 /// Writes the one response where there is no memory for a connection, and flushes.
-#[tactic(auto, using(http_wire::specs::Phrases::phrases))]
+#[tactic(auto, using(http_wire::specs::PhraseLaws::phrases))]
 pub fn refuse_link<K: Sink>(output: &mut K) -> Result<(), Failed>
     ensures sent { Sends (K.written output.old) (K.written output.new) memory_words result }
     ensures flushed { OnOk result (K.flushed output.new ≡ K.written output.new) }

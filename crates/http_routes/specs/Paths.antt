@@ -78,16 +78,16 @@ pub record IsKey (key : KeyView) : Type 0 where
 
 -- The version is one of the definition's, and namespaces and names keep their rules. One path may stand in two lines of
 -- the table, that of all namespaces' objects and that of the migrations: the lower line alone counts.
-abbrev pub IsServed : Meaning → Resource → Type 0
-IsServed m group = Unit {0}
-IsServed m (everywhere v) = (v < m.count) × (path_of m (everywhere v) ≢ path_of m migrations)
-IsServed m (collection v ns) = (v < m.count) × IsTrue (is_namespace ns)
-IsServed m (object v key) = (v < m.count) × IsKey key
-IsServed m crd = Unit {0}
-IsServed m crd_status = Unit {0}
-IsServed m migrations = Unit {0}
-IsServed m (migration name) = IsTrue (is_name name)
-IsServed m (raw key) = IsKey key
+abbrev pub IsResource : Meaning → Resource → Type 0
+IsResource m group = Unit {0}
+IsResource m (everywhere v) = (v < m.count) × (path_of m (everywhere v) ≢ path_of m migrations)
+IsResource m (collection v ns) = (v < m.count) × IsTrue (is_namespace ns)
+IsResource m (object v key) = (v < m.count) × IsKey key
+IsResource m crd = Unit {0}
+IsResource m crd_status = Unit {0}
+IsResource m migrations = Unit {0}
+IsResource m (migration name) = IsTrue (is_name name)
+IsResource m (raw key) = IsKey key
 
 -- `/`
 abbrev pub slash : ℕ
@@ -103,10 +103,10 @@ segments path = map percent_decode (pieces path)
 
 -- these segments name a resource; they name none
 abbrev pub Names : Meaning → List (List ℕ) → Resource → Type 0
-Names m ss r = IsServed m r × (ss ≡ path_of m r)
+Names m ss r = IsResource m r × (ss ≡ path_of m r)
 
 abbrev pub NamesNothing : Meaning → List (List ℕ) → Type 0
-NamesNothing m ss = (r : Resource) → IsServed m r → ss ≡ path_of m r → ⊥
+NamesNothing m ss = (r : Resource) → IsResource m r → ss ≡ path_of m r → ⊥
 
 -- ---- for private clauses
 

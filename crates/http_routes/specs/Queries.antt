@@ -109,17 +109,17 @@ OtherReads ps (paged p) = (first_refused common_rules ps ≡ None) × (p ≡ unp
 OtherReads ps (bad why) = (key : List ℕ) × (first_refused common_rules ps ≡ Some key) × (why ≡ bad_query key)
 
 -- any other key is passed over
-abbrev pub Reads : Action → Pairs → Verdict → Type 0
-Reads (action.list v ns) = ListReads ns
-Reads (action.get v key) = OtherReads
-Reads (action.create v ns) = OtherReads
-Reads (action.replace v key) = OtherReads
-Reads (action.delete v key) = OtherReads
-Reads action.group = OtherReads
-Reads action.crd = OtherReads
-Reads action.set_versions = OtherReads
-Reads action.trim = OtherReads
-Reads action.start = OtherReads
-Reads (action.migration name) = OtherReads
-Reads action.migrations = OtherReads
-Reads (action.raw key) = OtherReads
+abbrev pub ReadsQuery : Action → Pairs → Verdict → Type 0
+ReadsQuery (action.list v ns) = ListReads ns
+ReadsQuery (action.get v key) = OtherReads
+ReadsQuery (action.create v ns) = OtherReads
+ReadsQuery (action.replace v key) = OtherReads
+ReadsQuery (action.delete v key) = OtherReads
+ReadsQuery action.group = OtherReads
+ReadsQuery action.crd = OtherReads
+ReadsQuery action.set_versions = OtherReads
+ReadsQuery action.trim = OtherReads
+ReadsQuery action.start = OtherReads
+ReadsQuery (action.migration name) = OtherReads
+ReadsQuery action.migrations = OtherReads
+ReadsQuery (action.raw key) = OtherReads

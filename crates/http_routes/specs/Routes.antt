@@ -6,7 +6,7 @@ use Rattle.api_calls.specs.Calls.{Call}
 use Rattle.api_calls.specs.Cause.{WhyView}
 use Rattle.http_routes.specs.Paths.{Resource, Names, NamesNothing, segments}
 use Rattle.http_routes.specs.Actions.{Action, Paging, row_of, cell, call_of}
-use Rattle.http_routes.specs.Queries.{Pairs, Reads, pairs_of, paged, bad}
+use Rattle.http_routes.specs.Queries.{Pairs, ReadsQuery, pairs_of, paged, bad}
 
 pub data Route : Type 0 where
   calls : Call → Route
@@ -27,23 +27,23 @@ abbrev pub query_in : List ℕ → List ℕ
 query_in target = after_first (λ b. b == question_mark) target
 
 -- the path names this resource, and the method asks this of it
-pub record Asks (m : Meaning) (method target : List ℕ) (r : Resource) (a : Action) : Type 0 where
+pub record AsksOf (m : Meaning) (method target : List ℕ) (r : Resource) (a : Action) : Type 0 where
   pub named : Names m (segments (path_in target)) r
   pub asked : cell (row_of r) method ≡ Some a
 
 abbrev pub Routes : Meaning → List ℕ → List ℕ → List ℕ → Route → Type 0
-Routes m method target body (calls c) = (r : Resource) × (a : Action) × (p : Paging) × Asks m method target r a
-    × Reads a (pairs_of (query_in target)) (paged p) × (c ≡ call_of a body p)
+Routes m method target body (calls c) = (r : Resource) × (a : Action) × (p : Paging) × AsksOf m method target r a
+    × ReadsQuery a (pairs_of (query_in target)) (paged p) × (c ≡ call_of a body p)
 Routes m method target body no_resource = NamesNothing m (segments (path_in target))
 Routes m method target body method_not_allowed = (r : Resource) × Names m (segments (path_in target)) r × (cell (row_of r) method ≡ None)
-Routes m method target body (bad_request why) = (r : Resource) × (a : Action) × Asks m method target r a
-    × Reads a (pairs_of (query_in target)) (bad why)
+Routes m method target body (bad_request why) = (r : Resource) × (a : Action) × AsksOf m method target r a
+    × ReadsQuery a (pairs_of (query_in target)) (bad why)
 
 -- ---- for private clauses
 
 -- what a request comes to whose path and method are right
 abbrev pub IsAsked : Action → Pairs → List ℕ → Route → Type 0
-IsAsked a ps body (calls c) = (p : Paging) × Reads a ps (paged p) × (c ≡ call_of a body p)
+IsAsked a ps body (calls c) = (p : Paging) × ReadsQuery a ps (paged p) × (c ≡ call_of a body p)
 IsAsked a ps body no_resource = ⊥
 IsAsked a ps body method_not_allowed = ⊥
-IsAsked a ps body (bad_request why) = Reads a ps (bad why)
+IsAsked a ps body (bad_request why) = ReadsQuery a ps (bad why)

@@ -4,7 +4,7 @@ ghost use Rattle.std.specs.Str.{bytes_eq};
 ghost use Rattle.std.specs.Str.Parse.{digits_value};
 ghost use Rattle.kube_meta.specs.Page.{in_namespace};
 ghost use Rattle.api_calls.specs.Cause.{bad_query as bad_query_of};
-ghost use Rattle.http_routes.specs.Queries.{bad, pairs_of, value_of, is_off as is_off_of, is_any_version as is_any_version_of, is_limit as is_limit_of, first_refused as first_refused_of, common_rules, list_rules, GoesOn, HasNoToken, Reads, ListReads, OtherReads};
+ghost use Rattle.http_routes.specs.Queries.{bad, pairs_of, value_of, is_off as is_off_of, is_any_version as is_any_version_of, is_limit as is_limit_of, first_refused as first_refused_of, common_rules, list_rules, GoesOn, HasNoToken, ReadsQuery, ListReads, OtherReads};
 ghost use Rattle.http_routes.specs.Views.{action_of, lent, place_of, verdict_of, pair_texts};
 
 use crate::action::Action;
@@ -195,7 +195,7 @@ fn judge(
     action: Action<'_>,
     pairs: &[(CowStr<'_>, CowStr<'_>)],
 ) -> Result<Queried, NoMemory>
-    ensures { IfOk result (λ q. Reads (action_of action.entry) (map pair_texts pairs.now) (verdict_of q)) }
+    ensures { IfOk result (λ q. ReadsQuery (action_of action.entry) (map pair_texts pairs.now) (verdict_of q)) }
 {
     match action {
         Action::List {
@@ -237,7 +237,7 @@ fn judge(
 
 /// What the query of a request says that asks for this.
 pub fn read_query(alloc: Global, action: Action<'_>, query: &[u8]) -> Result<Queried, NoMemory>
-    ensures { IfOk result (λ q. Reads (action_of action.entry) (pairs_of query.now) (verdict_of q)) }
+    ensures { IfOk result (λ q. ReadsQuery (action_of action.entry) (pairs_of query.now) (verdict_of q)) }
 {
     let pairs = pairs(alloc, query)?;
     judge(alloc, action, pairs.as_slice())

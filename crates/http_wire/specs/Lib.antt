@@ -7,4 +7,4 @@ pub mod Inboxes
 pub mod Response
 pub mod Requesting
 pub mod Received
-pub mod Phrases
+pub mod PhraseLaws

@@ -5,7 +5,7 @@ use Rattle.std.proofs.lemmas.Nat.{div-mul-add}
 use Rattle.std.proofs.lemmas.Bool.Decides.{Decides-int_eq}
 use Rattle.std.specs.Prelude.{option_map, ◌⊎◌}
 use Rattle.kj_value.specs.Same.{json_same}
-use Rattle.kj_value.specs.Sameness.{json_same-Decides}
+use Rattle.kj_value.specs.SameLaws.{json_same-Decides}
 use Rattle.kj_value.specs.Json.{Json, null, boolean, whole, text, list, object}
 use Rattle.hub_cells.specs.Side.{Side, spoke, hub, other}
 use Rattle.hub_cells.specs.Colon.{has_colon, before_more, at_colon}

@@ -12,10 +12,10 @@ use Rattle.struct_schema.specs.Filled.{is_object}
 use Rattle.struct_schema.specs.Fault.{lesser}
 use Rattle.struct_schema.specs.declared.kind.NodeKind.{NodeKind}
 use Rattle.struct_schema.specs.declared.kind.NodeKind.TheVariants.{Object, Array, Text, Whole, Truth, IntOrText, Any}
-use Rattle.struct_schema.specs.Sameness.{shape_same-Decides}
-use Rattle.struct_schema.specs.Named.{own_name}
+use Rattle.struct_schema.specs.SameLaws.{shape_same-Decides}
+use Rattle.struct_schema.specs.NameLaws.{own_name}
 use Rattle.kj_value.specs.Same.{json_same}
-use Rattle.kj_value.specs.Sameness.{json_same-Decides}
+use Rattle.kj_value.specs.SameLaws.{json_same-Decides}
 use Rattle.hub_cells.specs.Side.{Side, spoke, hub}
 use Rattle.hub_cells.specs.Cell as cells
 use Rattle.hub_cells.specs.Cross.{partner}

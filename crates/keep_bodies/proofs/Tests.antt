@@ -2,7 +2,7 @@
 use Rattle.std.proofs.Common.{◌≡◌, Bool, true, false, ◌&&◌, ◌↔◌, IsTrue, Option, Some, None, refl, ap, sym, ◌∙◌}
 use Rattle.kj_value.specs.Json.{Json}
 use Rattle.kj_value.specs.Same.{json_same}
-use Rattle.kj_value.specs.Sameness.{json_same-Decides}
+use Rattle.kj_value.specs.SameLaws.{json_same-Decides}
 use Rattle.hub_cells.specs.Side.{Side, spoke, hub, other}
 use Rattle.hub_cells.specs.Cell.{Kind, same, Tuple}
 use Rattle.hub_cells.specs.Cross.{matched, shown}

@@ -28,7 +28,7 @@ use Rattle.http_routes.specs.Routes.{Route}
 use Rattle.http_routes.specs.Routes as route
 use Rattle.http_front.specs.One.{AnswersOne, EndsInput, Did}
 use Rattle.http_front.specs.Replies.{Front, Replies, RoutedReply}
-use Rattle.http_front.specs.Steps.{Point, Answers, IsSameBut, added}
+use Rattle.http_front.specs.Steps.{Point, StepAnswers, IsSameBut, added}
 use Rattle.http_front.specs.declared.one.OneEnd.TheVariants as steps
 use Rattle.kubeconv_cmd.specs.Serving.{At, AnswersAlone, AnswersAndWorks, TakesTurn, TakesTurns, no_turn, one_more, turn_at, turned}
 
@@ -116,7 +116,7 @@ nothing_behind m seen others more is =
 
 -- where a pass is alone, its answer is that of a server of one thread
 alone_step : (f : Front) (n : ℕ) (p q : Point) (r : Request) (a : ReplyView) → q.faults ≤ p.faults
-    → ((m : ℕ) → m ≢ n → items_of m q.seen ≡ items_of m p.seen) → Answers f n p r a q
+    → ((m : ℕ) → m ≢ n → items_of m q.seen ≡ items_of m p.seen) → StepAnswers f n p r a q
     → AnswersAlone f (items p.seen) r a (items q.seen)
 alone_step f n p q r a few quiet step = record {
   item = step.item;
@@ -149,7 +149,7 @@ would_take s w (suc n) =
 
 module _ (f : Front) (turns : ℕ) (p q : Point) (claim : Option ℕ) (known left before written : Option (List ℕ)) (few : q.faults ≤ p.faults)
     (quiet : (m : ℕ) → m ≢ 0 → items_of m q.seen ≡ items_of m p.seen) where
-  pub answered_and_worked : (closes : Bool) (u : At) → AnswersOne (Answers f 0) closes p q known left before written → TakesTurns f.server (at q.seen claim) turns u
+  pub answered_and_worked : (closes : Bool) (u : At) → AnswersOne (StepAnswers f 0) closes p q known left before written → TakesTurns f.server (at q.seen claim) turns u
       → AnswersOne (AnswersAndWorks f turns) closes (at p.seen claim) u known left before written
   answered_and_worked closes u one works = record {
     exchange = one.exchange;
@@ -173,7 +173,7 @@ module _ (f : Front) (turns : ℕ) (p q : Point) (claim : Option ℕ) (known lef
   pub unread_at : (q ≡ p) × (written ≡ before) → (at q.seen claim ≡ at p.seen claim) × (written ≡ before)
   unread_at did = (ap (λ (w : Point). at w.seen claim) did.0, did.1)
 
-  pub broke_at : Did (Answers f 0) steps.WriteFault p q known left before written
+  pub broke_at : Did (StepAnswers f 0) steps.WriteFault p q known left before written
       → (u : At) × Did (AnswersAndWorks f turns) steps.WriteFault (at p.seen claim) u known left before written
   broke_at did = elim did [
     | inl broke ↦

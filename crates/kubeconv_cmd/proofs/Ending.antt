@@ -9,7 +9,7 @@ use Rattle.kubeconv_cmd.specs.declared.pipe.PipeEnd.{PipeEnd}
 use Rattle.kubeconv_cmd.specs.declared.pipe.PipeEnd.TheVariants.{Closed, Torn, Refused, Spent, ReadFault, WriteFault}
 use Rattle.http_front.specs.Talk.{asked}
 use Rattle.kubeconv_cmd.specs.Lines.{Named}
-use Rattle.kubeconv_cmd.specs.Serving.{Start, Blames, ServesTexts, Converses, Held, IsUnheld}
+use Rattle.kubeconv_cmd.specs.Serving.{Start, Blames, ServesTexts, Converses, WasHeld, IsUnheld}
 use Rattle.kubeconv_cmd.specs.Refusal.{RefusesNamed, RefusesSome, IsServed}
 use Rattle.kubeconv_cmd.specs.Status.{status_of, pipe_status, error_line, refusal_line}
 use Rattle.kubeconv_cmd.specs.Ends.{OnRefused, OnUnread, status_at, line_at, why_text}
@@ -71,7 +71,7 @@ talks named crd rules turns start b before written files reads writes (Err stops
 pub held : (C : PipeEnd → Type 0) (U V files reads writes : Type 0) (came : Result PipeEnd Stop) (s : ℕ)
     → IfOk came C → IfOk came (λ end. Blames end reads writes) → OnErr came (U × V) → IfErr came (λ stop. OnUnread stop files)
     → s ≡ status_at came
-    → Held C reads writes s ⊎ (IsUnheld files s × U × V)
+    → WasHeld C reads writes s ⊎ (IsUnheld files s × U × V)
 held C U V files reads writes (Ok end) s talk blames u unread is = inl (record { end = end; conversed = talk; blames = blames; is_status = is })
 held C U V files reads writes (Err stops.ReadFailed) s talk blames u unread is = inr (inr (inr (is, unread)), u.0, u.1)
 held C U V files reads writes (Err (stops.Refused file why)) s talk blames u unread is = inr (inl is, u.0, u.1)

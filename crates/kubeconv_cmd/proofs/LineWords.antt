@@ -11,7 +11,7 @@ use Rattle.kubeconv_cmd.specs.declared.words.Given.{Given}
 use Rattle.kubeconv_cmd.specs.declared.words.Command.{Command}
 use Rattle.kubeconv_cmd.specs.declared.numbers.TheConstants.{MOST_STEPS}
 use Rattle.kubeconv_cmd.specs.Given.{line_of, values_in, TakesFirst, GivesOne, IsCommand}
-use Rattle.kubeconv_cmd.specs.Lines.{built_in, from_files, example, convert, review, Line, Service, pipe, task, drill, serve, Flag, crd_flag, rules_flag, to_flag, turns_flag, listen_flag, workers_flag, connections_flag, flag_text, IsValue, IsUnserved, Begins, apart, joined, Values, no_values, value_at, with_value, Gives, no_more, one_more, command_word, SpellsTurns, SpellsWorkers, SpellsConnections, HasValues, HasOptions, HasNumbers, IsLine}
+use Rattle.kubeconv_cmd.specs.Lines.{built_in, from_files, example, convert, review, Line, Service, pipe, task, drill, serve, Flag, crd_flag, rules_flag, to_flag, turns_flag, listen_flag, workers_flag, connections_flag, flag_text, IsValue, IsUnserved, BeginsWithOption, apart, joined, Values, no_values, value_at, with_value, Gives, no_more, one_more, command_word, SpellsTurns, SpellsWorkers, SpellsConnections, HasValues, HasOptions, HasNumbers, IsLine}
 
 -- ---- one option
 
@@ -65,12 +65,12 @@ no_name w turns crd rules to listen workers connections workers_flag = workers
 no_name w turns crd rules to listen workers connections connections_flag = connections
 
 -- the first word begins with the option's name
-pub front : (w : List ℕ) (ws : List (List ℕ)) (f : Flag) (v : List ℕ) (r : List (List ℕ)) → Begins (w ∷ ws) f v r
+pub front : (w : List ℕ) (ws : List (List ℕ)) (f : Flag) (v : List ℕ) (r : List (List ℕ)) → BeginsWithOption (w ∷ ws) f v r
     → (end : List ℕ) × (w ≡ flag_text f ++ end)
 front w ws f v r (apart is value) = let e : w ≡ flag_text f = cc in ([], e ∙ flag_alone f)
 front w ws f v r (joined is value) = (codes "=" ++ v, cc)
 
-pub none_begins : (f : Flag) (v : List ℕ) (r : List (List ℕ)) → Begins [] f v r → ⊥
+pub none_begins : (f : Flag) (v : List ℕ) (r : List (List ℕ)) → BeginsWithOption [] f v r → ⊥
 none_begins f v r (apart is value) = cc
 none_begins f v r (joined is value) = cc
 
@@ -80,7 +80,7 @@ pub record IsApart (f g : Flag) (ws : List (List ℕ)) (v : List ℕ) (r : List 
   pub words : ws ≡ v ∷ r
   pub value : IsValue v
 
-pub is_apart : (f g : Flag) (ws : List (List ℕ)) (v : List ℕ) (r : List (List ℕ)) → Begins (flag_text g ∷ ws) f v r → IsApart f g ws v r
+pub is_apart : (f g : Flag) (ws : List (List ℕ)) (v : List ℕ) (r : List (List ℕ)) → BeginsWithOption (flag_text g ∷ ws) f v r → IsApart f g ws v r
 is_apart f g ws v r (apart is value) =
     let e : flag_text f ≡ flag_text g = cc in
     let p : flag_text f ++ [] ≡ flag_text g ++ [] = sym (flag_alone f) ∙ e ∙ flag_alone g in
@@ -98,7 +98,7 @@ pub record IsJoined (f g : Flag) (end : List ℕ) (ws : List (List ℕ)) (v : Li
   pub value : IsValue v
 
 pub is_joined : (f g : Flag) (end : List ℕ) (ws : List (List ℕ)) (v : List ℕ) (r : List (List ℕ)) → end ≢ []
-    → Begins ((flag_text g ++ end) ∷ ws) f v r → IsJoined f g end ws v r
+    → BeginsWithOption ((flag_text g ++ end) ∷ ws) f v r → IsJoined f g end ws v r
 is_joined f g end ws v r some (apart is value) =
     let d : flag_text g ++ end ≡ flag_text f = cc in
     let p : flag_text g ++ end ≡ flag_text f ++ [] = d ∙ flag_alone f in
@@ -114,18 +114,18 @@ pub record AreSame (f g : Flag) (v w : List ℕ) (r s : List (List ℕ)) : Type 
   pub value : v ≡ w
   pub rest : r ≡ s
 
-pub one_option : (ws : List (List ℕ)) (f g : Flag) (v w : List ℕ) (r s : List (List ℕ)) → Begins ws f v r → Begins ws g w s → AreSame f g v w r s
+pub one_option : (ws : List (List ℕ)) (f g : Flag) (v w : List ℕ) (r s : List (List ℕ)) → BeginsWithOption ws f v r → BeginsWithOption ws g w s → AreSame f g v w r s
 one_option ws f g v w r s (apart is value) b =
-    let a = is_apart g f (v ∷ r) w s (subst (λ (x : List (List ℕ)). Begins x g w s) is b) in
+    let a = is_apart g f (v ∷ r) w s (subst (λ (x : List (List ℕ)). BeginsWithOption x g w s) is b) in
     let e : v ∷ r ≡ w ∷ s = a.words in
     record { flag = sym a.flag; value = cc; rest = cc }
 one_option ws f g v w r s (joined is value) b =
-    let a = is_joined g f (codes "=" ++ v) r w s (λ e. cc) (subst (λ (x : List (List ℕ)). Begins x g w s) is b) in
+    let a = is_joined g f (codes "=" ++ v) r w s (λ e. cc) (subst (λ (x : List (List ℕ)). BeginsWithOption x g w s) is b) in
     record { flag = sym a.flag; value = append_cancel_left (codes "=") v w a.end_is; rest = a.rest }
 
 -- ---- all options
 
-pub gives_rest : (ws : List (List ℕ)) (f : Flag) (v : List ℕ) (r : List (List ℕ)) (before after : Values) → Begins ws f v r
+pub gives_rest : (ws : List (List ℕ)) (f : Flag) (v : List ℕ) (r : List (List ℕ)) (before after : Values) → BeginsWithOption ws f v r
     → Gives ws before after → (value_at f before ≡ None) × Gives r (with_value f v before) after
 gives_rest ws f v r before after b (no_more values) = absurd (none_begins f v r b)
 gives_rest ws f v r before after b (one_more words g w s first last c free gives) =
@@ -245,21 +245,21 @@ first_word (x ∷ ws) first w n is spelled =
 
 -- the first word begins with no option's name
 pub no_flag : (w : List ℕ) (ws all : List (List ℕ)) → all ≡ w ∷ ws → ((f : Flag) (end : List ℕ) → w ≢ flag_text f ++ end)
-    → (f : Flag) (v : List ℕ) (r : List (List ℕ)) → Begins all f v r → ⊥
+    → (f : Flag) (v : List ℕ) (r : List (List ℕ)) → BeginsWithOption all f v r → ⊥
 no_flag w ws all is none f v r begins =
-    let e = front w ws f v r (subst (λ (x : List (List ℕ)). Begins x f v r) is begins) in
+    let e = front w ws f v r (subst (λ (x : List (List ℕ)). BeginsWithOption x f v r) is begins) in
     none f e.0 e.1
 
 pub no_words : (ws : List Txt) (values : Values) → length ws < 1 → Gives (map bytes_of ws) values values
 no_words [] values n = no_more values
 no_words (x ∷ ws) values n = absurd (omega (arith, n))
 
-pub none_given : (ws : List (List ℕ)) (before after : Values) → 1 ≤ length ws → ((f : Flag) (v : List ℕ) (r : List (List ℕ)) → Begins ws f v r → ⊥)
+pub none_given : (ws : List (List ℕ)) (before after : Values) → 1 ≤ length ws → ((f : Flag) (v : List ℕ) (r : List (List ℕ)) → BeginsWithOption ws f v r → ⊥)
     → Gives ws before after → ⊥
 none_given ws before after n none (no_more values) = omega (arith, n)
 none_given ws before after n none (one_more words f v r first last begins free gives) = none f v r begins
 
-pub gives_more : (ws : List (List ℕ)) (f : Flag) (v : List ℕ) (r : List (List ℕ)) (before more : Values) (o : Option Given) → Begins ws f v r
+pub gives_more : (ws : List (List ℕ)) (f : Flag) (v : List ℕ) (r : List (List ℕ)) (before more : Values) (o : Option Given) → BeginsWithOption ws f v r
     → value_at f before ≡ None → more ≡ with_value f v before → GivesOne r more o → GivesOne ws before o
 gives_more ws f v r before more None begins free is gives = λ after g.
     gives after (rw is (gives_rest ws f v r before after begins g).1)

@@ -12,7 +12,7 @@ use Rattle.api_calls.specs.Meaning.{Fault}
 use Rattle.api_calls.specs.Readings.{IsFaulty}
 use Rattle.api_calls.specs.declared.versions.TheConstants.{OBJECT_LEVELS}
 use Rattle.kubeconv_cmd.specs.Lines.{Task, convert, review}
-use Rattle.kubeconv_cmd.specs.Tasks.{IsVersion, IsValueOf, Answers, Refuses, unknown, long_document, faulty as faulty_document, long_review, no_review, AnswersTexts, RefusesTexts, Wrote, Broke, no_version, too_long, IsWithout, fault_words, not_review}
+use Rattle.kubeconv_cmd.specs.Tasks.{IsVersionNamed, IsValueOf, AnswersDocument, RefusesDocument, unknown, long_document, faulty as faulty_document, long_review, no_review, AnswersTexts, RefusesTexts, Wrote, Broke, no_version, too_long, IsWithout, fault_words, not_review}
 use Rattle.kubeconv_cmd.specs.Ends.{OnRefused}
 use Rattle.kubeconv_cmd.specs.Halts.{OnUnread, Follows, OnHalt, NoValue, NoAnswer, long, faulty, none, Past, halt_of}
 use Rattle.kubeconv_cmd.specs.declared.input.TheConstants.{MOST_INPUT_BYTES}
@@ -59,7 +59,7 @@ unread_halt P Q I unread.NoMemory h p is f = rw is tt
 
 -- ---- a conversion
 
-pub no_value : (d : Definition) (name : List ℕ) (v : ℕ) (b why : List ℕ) → IsVersion d name v → NoValue d v b why → Refuses d b (convert name) why
+pub no_value : (d : Definition) (name : List ℕ) (v : ℕ) (b why : List ℕ) → IsVersionNamed d name v → NoValue d v b why → RefusesDocument d b (convert name) why
 no_value d name v b why is (long more) = long_document name v is more
 no_value d name v b why is (faulty f short bad) = faulty_document name v f is short bad
 
@@ -70,17 +70,17 @@ faulty_at d v bytes b why is short h =
     subst (λ (x : List ℕ). NoValue d v x why) is (subst (λ (x : List ℕ). NoValue d v bytes x) (sym h.2) (faulty h.0 short h.1))
 
 pub unknown_version : (d : Definition) (name b why : List ℕ) → ((v : ℕ) → v < count_of d → (version_at d v).name ≢ name) → why ≡ no_version name
-    → Refuses d b (convert name) why
+    → RefusesDocument d b (convert name) why
 unknown_version d name b why never is = rw is (unknown name (λ v k. never v k.known k.named))
 
-pub converts : (result : Result Txt Halt) (d : Definition) (name : List ℕ) (v : ℕ) (b : List ℕ) → IsVersion d name v
-    → IfOk result (λ t. (length b ≤ MOST_INPUT_BYTES) × IsValueOf d v b t.bytes) → IfOk result (λ t. Answers d (convert name) b t.bytes)
+pub converts : (result : Result Txt Halt) (d : Definition) (name : List ℕ) (v : ℕ) (b : List ℕ) → IsVersionNamed d name v
+    → IfOk result (λ t. (length b ≤ MOST_INPUT_BYTES) × IsValueOf d v b t.bytes) → IfOk result (λ t. AnswersDocument d (convert name) b t.bytes)
 converts (Ok t) d name v b is h = (h.0, v, is, h.1)
 converts (Err e) d name v b is h = tt
 
 -- ---- a review
 
-pub no_answer : (d : Definition) (b why : List ℕ) → NoAnswer b why → Refuses d b review why
+pub no_answer : (d : Definition) (b why : List ℕ) → NoAnswer b why → RefusesDocument d b review why
 no_answer d b why (long more) = long_review more
 no_answer d b why (none path short bad) = no_review path short bad
 
@@ -90,25 +90,25 @@ no_review_at bytes b why is short h =
     subst (λ (x : List ℕ). NoAnswer x why) is (subst (λ (x : List ℕ). NoAnswer bytes x) (sym h.2) (none h.0 short h.1))
 
 pub answers : (result : Result Txt Halt) (d : Definition) (b : List ℕ)
-    → IfOk result (λ t. (length b ≤ MOST_INPUT_BYTES) × IsAnswer d b t.bytes) → IfOk result (λ t. Answers d review b t.bytes)
+    → IfOk result (λ t. (length b ≤ MOST_INPUT_BYTES) × IsAnswer d b t.bytes) → IfOk result (λ t. AnswersDocument d review b t.bytes)
 answers (Ok t) d b h = h
 answers (Err e) d b h = tt
 
 -- ---- by the texts of a definition
 
-pub of_texts : (crd rules : List ℕ) (l : LoadedView) (d : Definition) (t : Task) (b text : List ℕ) → Loads crd rules l → d ≡ set_of l → Answers d t b text → AnswersTexts crd rules t b text
-of_texts crd rules l d t b text loads is h = record { loaded = l; loads = loads; answers = subst (λ (x : Definition). Answers x t b text) is h }
+pub of_texts : (crd rules : List ℕ) (l : LoadedView) (d : Definition) (t : Task) (b text : List ℕ) → Loads crd rules l → d ≡ set_of l → AnswersDocument d t b text → AnswersTexts crd rules t b text
+of_texts crd rules l d t b text loads is h = record { loaded = l; loads = loads; answers = subst (λ (x : Definition). AnswersDocument x t b text) is h }
 
-pub refuses_texts : (crd rules : List ℕ) (l : LoadedView) (d : Definition) (t : Task) (b why : List ℕ) → Loads crd rules l → d ≡ set_of l → Refuses d b t why → RefusesTexts crd rules t b why
-refuses_texts crd rules l d t b why loads is h = record { loaded = l; loads = loads; refuses = subst (λ (x : Definition). Refuses x b t why) is h }
+pub refuses_texts : (crd rules : List ℕ) (l : LoadedView) (d : Definition) (t : Task) (b why : List ℕ) → Loads crd rules l → d ≡ set_of l → RefusesDocument d b t why → RefusesTexts crd rules t b why
+refuses_texts crd rules l d t b why loads is h = record { loaded = l; loads = loads; refuses = subst (λ (x : Definition). RefusesDocument x b t why) is h }
 
 pub wrote_texts : (crd rules : List ℕ) (l : LoadedView) (d : Definition) (t : Task) (b : List ℕ) (before written : Option (List ℕ)) (came : Result Unit Halt) → Loads crd rules l → d ≡ set_of l
-    → OnOk came (Wrote (Answers d t b) before written) → OnOk came (Wrote (AnswersTexts crd rules t b) before written)
+    → OnOk came (Wrote (AnswersDocument d t b) before written) → OnOk came (Wrote (AnswersTexts crd rules t b) before written)
 wrote_texts crd rules l d t b before written (Ok u) loads is h = record { text = h.text; is = of_texts crd rules l d t b h.text loads is h.is; wrote = h.wrote }
 wrote_texts crd rules l d t b before written (Err e) loads is h = tt
 
 pub broke_texts : (crd rules : List ℕ) (l : LoadedView) (d : Definition) (t : Task) (b : List ℕ) (before written : Option (List ℕ)) → Loads crd rules l → d ≡ set_of l
-    → Broke (Answers d t b) before written → Broke (AnswersTexts crd rules t b) before written
+    → Broke (AnswersDocument d t b) before written → Broke (AnswersTexts crd rules t b) before written
 broke_texts crd rules l d t b before written loads is h = record { text = h.text; is = of_texts crd rules l d t b h.text loads is h.is; front = h.front }
 
 pub past : (P Q : Type 0) (came : Result Unit Halt) → P → Past P Q came

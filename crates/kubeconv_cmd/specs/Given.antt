@@ -12,7 +12,7 @@ use Rattle.kubeconv_cmd.specs.declared.words.Flag.{Flag as FlagCode}
 use Rattle.kubeconv_cmd.specs.declared.words.Flag.TheVariants as flags
 use Rattle.kubeconv_cmd.specs.declared.words.Taken.{Taken}
 use Rattle.kubeconv_cmd.specs.declared.words.Given.{Given}
-use Rattle.kubeconv_cmd.specs.Lines.{Named, built_in, from_files, Task, convert, review, Line, Service, pipe, task, drill, serve, Flag, crd_flag, rules_flag, to_flag, turns_flag, listen_flag, workers_flag, connections_flag, Begins, Values, Gives, command_word, HasValues}
+use Rattle.kubeconv_cmd.specs.Lines.{Named, built_in, from_files, Task, convert, review, Line, Service, pipe, task, drill, serve, Flag, crd_flag, rules_flag, to_flag, turns_flag, listen_flag, workers_flag, connections_flag, BeginsWithOption, Values, Gives, command_word, HasValues}
 
 abbrev pub named_of : NamedCode → Named
 named_of named.BuiltIn = built_in
@@ -46,8 +46,8 @@ values_in g = record { crd = option_map (λ x. x.now) g.crd; rules = option_map 
 -- the option that the words begin with, and none where nothing is told
 abbrev pub TakesFirst : List (List ℕ) → Option Taken → Type 0
 TakesFirst words o = MatchOption o
-    ((f : Flag) (value : List ℕ) (rest : List (List ℕ)) → Begins words f value rest → ⊥)
-    (λ t. Begins words (flag_in t.flag) t.value.now (map bytes_of t.rest.now))
+    ((f : Flag) (value : List ℕ) (rest : List (List ℕ)) → BeginsWithOption words f value rest → ⊥)
+    (λ t. BeginsWithOption words (flag_in t.flag) t.value.now (map bytes_of t.rest.now))
 
 -- the options that the words are, behind those values, and none where nothing is told
 abbrev pub GivesOne : List (List ℕ) → Values → Option Given → Type 0

@@ -84,9 +84,9 @@ IsValue [] = ⊥
 IsValue (b ∷ bs) = b ≢ dash
 
 -- the words begin with an option and its value, as two words or as one with a `=` between them
-pub data Begins (words : List (List ℕ)) (flag : Flag) (value : List ℕ) (rest : List (List ℕ)) : Type 0 where
-  apart : words ≡ flag_text flag ∷ value ∷ rest → IsValue value → Begins words flag value rest
-  joined : words ≡ (flag_text flag ++ (codes "=" ++ value)) ∷ rest → IsValue value → Begins words flag value rest
+pub data BeginsWithOption (words : List (List ℕ)) (flag : Flag) (value : List ℕ) (rest : List (List ℕ)) : Type 0 where
+  apart : words ≡ flag_text flag ∷ value ∷ rest → IsValue value → BeginsWithOption words flag value rest
+  joined : words ≡ (flag_text flag ++ (codes "=" ++ value)) ∷ rest → IsValue value → BeginsWithOption words flag value rest
 
 -- the value of each option that is given
 pub record Values : Type 0 where
@@ -123,7 +123,7 @@ with_value connections_flag value values = record values { connections = Some va
 pub data Gives : List (List ℕ) → Values → Values → Type 0 where
   no_more : (values : Values) → Gives [] values values
   one_more : (words : List (List ℕ)) (flag : Flag) (value : List ℕ) (rest : List (List ℕ)) (before after : Values)
-      → Begins words flag value rest → value_at flag before ≡ None → Gives rest (with_value flag value before) after
+      → BeginsWithOption words flag value rest → value_at flag before ≡ None → Gives rest (with_value flag value before) after
       → Gives words before after
 
 -- ---- lines

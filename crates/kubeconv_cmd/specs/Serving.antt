@@ -10,7 +10,7 @@ use Rattle.api_calls.specs.State.{revision, state}
 use Rattle.api_calls.specs.Work.{Turn, work_decision}
 use Rattle.crd_meaning.specs.Definition.{Definition}
 use Rattle.crd_laws.specs.Loaded.{loaded_meaning}
-use Rattle.crd_settings.specs.Settled.{settings_of}
+use Rattle.crd_settings.specs.SettledLaws.{settings_of}
 use Rattle.crd_loading.specs.Load.{Loads}
 use Rattle.crd_loading.specs.View.{LoadedView}
 use Rattle.crd_loading.specs.Set.{set_of}
@@ -137,7 +137,7 @@ pub record Converses (crd rules : List ℕ) (turns : ℕ) (start : Start) (input
 
 -- A conversation was held to this end, and the status is that of the end. A fault of the input has one cause, and one of the
 -- output another.
-pub record Held (converses : PipeEnd → Type 0) (reads writes : Type 0) (status : ℕ) : Type 0 where
+pub record WasHeld (converses : PipeEnd → Type 0) (reads writes : Type 0) (status : ℕ) : Type 0 where
   pub end : PipeEnd
   pub conversed : converses end
   pub blames : Blames end reads writes

@@ -23,7 +23,7 @@ use Rattle.kubeconv_cmd.specs.declared.input.TheConstants.{MOST_INPUT_BYTES}
 -- ---- a document that is converted
 
 -- v is the version of that name
-pub record IsVersion (d : Definition) (name : List ℕ) (v : ℕ) : Type 0 where
+pub record IsVersionNamed (d : Definition) (name : List ℕ) (v : ℕ) : Type 0 where
   pub known : v < count_of d
   pub named : (version_at d v).name ≡ name
 
@@ -57,31 +57,31 @@ not_review path = codes "NotReview " ++ path
 -- ---- by a definition
 
 -- the text that is written of the bytes
-abbrev pub Answers : Definition → Task → List ℕ → List ℕ → Type 0
-Answers d (convert name) bytes text =
-    (length bytes ≤ MOST_INPUT_BYTES) × (v : ℕ) × IsVersion d name v × IsValueOf d v bytes text
-Answers d review bytes text = (length bytes ≤ MOST_INPUT_BYTES) × IsAnswer d bytes text
+abbrev pub AnswersDocument : Definition → Task → List ℕ → List ℕ → Type 0
+AnswersDocument d (convert name) bytes text =
+    (length bytes ≤ MOST_INPUT_BYTES) × (v : ℕ) × IsVersionNamed d name v × IsValueOf d v bytes text
+AnswersDocument d review bytes text = (length bytes ≤ MOST_INPUT_BYTES) × IsAnswer d bytes text
 
 -- Why there is none. That there is no version of the name is told before anything is read.
-pub data Refuses (d : Definition) (bytes : List ℕ) : Task → List ℕ → Type 0 where
-  unknown : (name : List ℕ) → ((v : ℕ) → IsVersion d name v → ⊥) → Refuses d bytes (convert name) (no_version name)
-  long_document : (name : List ℕ) (v : ℕ) → IsVersion d name v → MOST_INPUT_BYTES < length bytes → Refuses d bytes (convert name) too_long
-  faulty : (name : List ℕ) (v : ℕ) (f : Fault) → IsVersion d name v → length bytes ≤ MOST_INPUT_BYTES
-      → IsFaulty bytes OBJECT_LEVELS (IsWithout d v) f → Refuses d bytes (convert name) (fault_words f)
-  long_review : MOST_INPUT_BYTES < length bytes → Refuses d bytes review too_long
-  no_review : (path : List ℕ) → length bytes ≤ MOST_INPUT_BYTES → IsNoRequest bytes path → Refuses d bytes review (not_review path)
+pub data RefusesDocument (d : Definition) (bytes : List ℕ) : Task → List ℕ → Type 0 where
+  unknown : (name : List ℕ) → ((v : ℕ) → IsVersionNamed d name v → ⊥) → RefusesDocument d bytes (convert name) (no_version name)
+  long_document : (name : List ℕ) (v : ℕ) → IsVersionNamed d name v → MOST_INPUT_BYTES < length bytes → RefusesDocument d bytes (convert name) too_long
+  faulty : (name : List ℕ) (v : ℕ) (f : Fault) → IsVersionNamed d name v → length bytes ≤ MOST_INPUT_BYTES
+      → IsFaulty bytes OBJECT_LEVELS (IsWithout d v) f → RefusesDocument d bytes (convert name) (fault_words f)
+  long_review : MOST_INPUT_BYTES < length bytes → RefusesDocument d bytes review too_long
+  no_review : (path : List ℕ) → length bytes ≤ MOST_INPUT_BYTES → IsNoRequest bytes path → RefusesDocument d bytes review (not_review path)
 
 -- ---- by the definition and the rules that two texts are
 
 pub record AnswersTexts (crd rules : List ℕ) (t : Task) (bytes text : List ℕ) : Type 0 where
   pub loaded : LoadedView
   pub loads : Loads crd rules loaded
-  pub answers : Answers (set_of loaded) t bytes text
+  pub answers : AnswersDocument (set_of loaded) t bytes text
 
 pub record RefusesTexts (crd rules : List ℕ) (t : Task) (bytes why : List ℕ) : Type 0 where
   pub loaded : LoadedView
   pub loads : Loads crd rules loaded
-  pub refuses : Refuses (set_of loaded) bytes t why
+  pub refuses : RefusesDocument (set_of loaded) bytes t why
 
 -- a line with its end
 abbrev pub ended_line : List ℕ → List ℕ

@@ -11,7 +11,7 @@ ghost use Rattle.crd_loading.specs.View.{LoadedView};
 ghost use Rattle.crd_loading.specs.Set.{set_of};
 ghost use Rattle.crd_versions.specs.Set.{definition_of};
 ghost use Rattle.kubeconv_cmd.specs.Lines.{Texts};
-ghost use Rattle.kubeconv_cmd.specs.Serving.{Blames, ServesTexts, Converses, Held, IsUnheld};
+ghost use Rattle.kubeconv_cmd.specs.Serving.{Blames, ServesTexts, Converses, WasHeld, IsUnheld};
 ghost use Rattle.kubeconv_cmd.specs.Refusal.{RefusesNamed, RefusesSome, IsServed};
 ghost use Rattle.kubeconv_cmd.specs.Status.{status_of, error_line, refusal_line};
 ghost use Rattle.kubeconv_cmd.specs.Given.{named_of};
@@ -98,7 +98,7 @@ pub(crate) fn run_pipe<R: Wait, F: Files, S: Source, K: Sink, E: Sink, C: Clock>
         → ¬ (Rose (F.faults files.old) (F.faults files.new)) → ¬ (Rose (S.faults input.old) (S.faults input.new)) → ¬ (Rose (K.faults output.old) (K.faults output.new))
         → ServesTexts crd rules turns (record { boot = boot; told = C.told clock.now }) b (K.written output.old) (K.written output.new) result
         ⊎ (((result ≡ REFUSED) × RefusesSome (named_of named.entry) crd rules) ⊎ (result ≡ NO_MEMORY)) }
-    ensures held { Held (λ end. (crd rules b : List ℕ) → Texts (F.file files.old) (named_of named.entry) crd rules → S.left input.old ≡ Some b
+    ensures held { WasHeld (λ end. (crd rules b : List ℕ) → Texts (F.file files.old) (named_of named.entry) crd rules → S.left input.old ≡ Some b
         → Converses crd rules turns (record { boot = boot; told = C.told clock.now }) b (K.written output.old) (K.written output.new) end)
         (Rose (S.faults input.old) (S.faults input.new)) (Rose (K.faults output.old) (K.faults output.new)) result
         ⊎ (IsUnheld (Rose (F.faults files.old) (F.faults files.new)) result × (input.new ≡ input.old) × (output.new ≡ output.old)) }

@@ -17,7 +17,7 @@ ghost use Rattle.kj_value.specs.Text.{text_of};
 ghost use Rattle.kubeconv_cmd.specs.declared.input.TheConstants.{MOST_INPUT_BYTES};
 ghost use Rattle.kubeconv_cmd.specs.Given.{task_of};
 ghost use Rattle.kubeconv_cmd.specs.Halts.{Follows, OnHalt, Unwritten, NoValue, NoAnswer};
-ghost use Rattle.kubeconv_cmd.specs.Tasks.{Answers, Refuses, Wrote, Broke, IsValueOf, IsWithout, fault_words, no_version as no_version_text, not_review as not_review_text, ended_line};
+ghost use Rattle.kubeconv_cmd.specs.Tasks.{AnswersDocument, RefusesDocument, Wrote, Broke, IsValueOf, IsWithout, fault_words, no_version as no_version_text, not_review as not_review_text, ended_line};
 
 use crate::halt::Halt;
 use crate::input::{Unread, read_input};
@@ -223,13 +223,13 @@ fn answer_input<'a, S: Source>(
     input: &mut S,
 ) -> Result<Txt, Halt<'a>>
     ensures answered { (b : List ℕ) → S.left input.old ≡ Some b
-        → IfOk result (λ t. Answers (definition_of versions.now) (task_of task.entry) b t.bytes) }
+        → IfOk result (λ t. AnswersDocument (definition_of versions.now) (task_of task.entry) b t.bytes) }
     ensures none { (b : List ℕ) → S.left input.old ≡ Some b
         → IfErr result (OnHalt (record {
           reads = Rose (S.faults input.old) (S.faults input.new);
           writes = ⊥;
           file = λ _ _. ⊥;
-          input = Refuses (definition_of versions.now) b (task_of task.entry);
+          input = RefusesDocument (definition_of versions.now) b (task_of task.entry);
         })) }
     ensures cause { IfErr result (OnHalt (record { reads = Rose (S.faults input.old) (S.faults input.new); writes = ⊥; file = λ _ _. ⊥; input = λ _. Unit {0} })) }
     ensures end { OnOk result (IsAtEnd (S.left input.new)) }
@@ -271,13 +271,13 @@ pub(crate) fn do_task<'a, S: Source, K: Sink>(
     output: &mut K,
 ) -> Result<(), Halt<'a>>
     ensures wrote { (b : List ℕ) → S.left input.old ≡ Some b
-        → OnOk result (Wrote (Answers (definition_of versions.now) (task_of task.entry) b) (K.written output.old) (K.written output.new)) }
+        → OnOk result (Wrote (AnswersDocument (definition_of versions.now) (task_of task.entry) b) (K.written output.old) (K.written output.new)) }
     ensures failed { (b : List ℕ) → S.left input.old ≡ Some b
         → IfErr result (OnHalt (record {
           reads = Rose (S.faults input.old) (S.faults input.new);
-          writes = Broke (Answers (definition_of versions.now) (task_of task.entry) b) (K.written output.old) (K.written output.new);
+          writes = Broke (AnswersDocument (definition_of versions.now) (task_of task.entry) b) (K.written output.old) (K.written output.new);
           file = λ _ _. ⊥;
-          input = Refuses (definition_of versions.now) b (task_of task.entry);
+          input = RefusesDocument (definition_of versions.now) b (task_of task.entry);
         })) }
     ensures cause { IfErr result (OnHalt (record {
       reads = Rose (S.faults input.old) (S.faults input.new);

@@ -10,7 +10,7 @@ ghost use Rattle.kubeconv_cmd.specs.Lines.{Named, Task as TaskView, Line, Servic
 ghost use Rattle.kubeconv_cmd.specs.Listening.{Announced, SaysOfService};
 ghost use Rattle.kubeconv_cmd.specs.Beside.{RunsService, ServesAll};
 ghost use Rattle.kubeconv_cmd.specs.Tasks.{AnswersTexts, Wrote, Broke, RefusesTexts};
-ghost use Rattle.kubeconv_cmd.specs.Serving.{DrillsTexts, Ran, Converses, Held, IsUnheld};
+ghost use Rattle.kubeconv_cmd.specs.Serving.{DrillsTexts, Ran, Converses, WasHeld, IsUnheld};
 ghost use Rattle.kubeconv_cmd.specs.Refusal.{RefusesNamed, RefusesSome, IsServed};
 ghost use Rattle.kubeconv_cmd.specs.Status.{status_of, error_line, line_saying, refusal_line};
 ghost use Rattle.kubeconv_cmd.specs.Given.{line_of};
@@ -56,7 +56,7 @@ fn run_command<
         → Ran line crd rules (record { boot = boot; told = C.told clock.now }) b (K.written output.old) (K.written output.new) result
         ⊎ (((result ≡ REFUSED) × RefusesSome (named_in line) crd rules) ⊎ (result ≡ NO_MEMORY)) }
     ensures held { (named : Named) (turns : ℕ) → line_of command.entry ≡ pipe named turns
-        → Held (λ end. (crd rules b : List ℕ) → Texts (F.file files.old) named crd rules → S.left input.old ≡ Some b
+        → WasHeld (λ end. (crd rules b : List ℕ) → Texts (F.file files.old) named crd rules → S.left input.old ≡ Some b
         → Converses crd rules turns (record { boot = boot; told = C.told clock.now }) b (K.written output.old) (K.written output.new) end)
         (Rose (S.faults input.old) (S.faults input.new)) (Rose (K.faults output.old) (K.faults output.new)) result
         ⊎ (IsUnheld (Rose (F.faults files.old) (F.faults files.new)) result × (input.new ≡ input.old) × (output.new ≡ output.old)) }
@@ -198,7 +198,7 @@ pub fn run<
     // Whatever the outside did, a conversation was held to some end, and the status is that of the end; or none was held, and
     // nothing was read of the input or written.
     ensures held { (named : Named) (turns : ℕ) → IsLine words.now (pipe named turns)
-        → Held (λ end. (crd rules b : List ℕ) → Texts (F.file files.old) named crd rules → S.left input.old ≡ Some b
+        → WasHeld (λ end. (crd rules b : List ℕ) → Texts (F.file files.old) named crd rules → S.left input.old ≡ Some b
         → Converses crd rules turns (record { boot = boot; told = C.told clock.now }) b (K.written output.old) (K.written output.new) end)
         (Rose (S.faults input.old) (S.faults input.new)) (Rose (K.faults output.old) (K.faults output.new)) result
         ⊎ (IsUnheld (Rose (F.faults files.old) (F.faults files.new)) result × (input.new ≡ input.old) × (output.new ≡ output.old)) }

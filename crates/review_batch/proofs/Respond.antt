@@ -7,12 +7,12 @@ use Rattle.kj_value.specs.Txt.{Bytes}
 use Rattle.crd_meaning.specs.Definition.{Definition}
 use Rattle.review_batch.specs.Page.{PageView}
 use Rattle.review_batch.specs.Request.{RequestView}
-use Rattle.review_batch.specs.Answer.{Comes, IsVersion, success, failure, all}
+use Rattle.review_batch.specs.Answer.{ComesOfReview, IsGroupVersion, success, failure, all}
 use Rattle.review_batch.specs.Spelling.{success_front, success_middle, failure_front, failure_middle, review_end}
 use Rattle.review_batch.specs.Steps.{GoesOn, IsResponse}
 use Rattle.review_batch.proofs.Spelled.{success-text, failure-text}
 
-pub failed : {E : Type 0} (d : Definition) (r : RequestView) (message page : List ℕ) (res : Result Bytes E) → Comes d r (failure message) → page ≡ []
+pub failed : {E : Type 0} (d : Definition) (r : RequestView) (message page : List ℕ) (res : Result Bytes E) → ComesOfReview d r (failure message) → page ≡ []
     → IfOk res (λ t. t.bytes ≡ page ++ failure_front ++ quoted message ++ failure_middle ++ quoted r.uid ++ review_end)
     → IfOk res (λ t. IsResponse d r t.bytes)
 failed d r message page (Ok t) comes empty e = record {
@@ -22,7 +22,7 @@ failed d r message page (Ok t) comes empty e = record {
 }
 failed d r message page (Err x) comes empty e = tt
 
-pub succeeded : {E : Type 0} (d : Definition) (r : RequestView) (v : ℕ) (before now : PageView) (res : Result Bytes E) → IsVersion d r.desired v
+pub succeeded : {E : Type 0} (d : Definition) (r : RequestView) (v : ℕ) (before now : PageView) (res : Result Bytes E) → IsGroupVersion d r.desired v
     → GoesOn d v r.objects before now → before.text ≡ success_front
     → IfOk res (λ t. t.bytes ≡ now.text ++ success_middle ++ quoted r.uid ++ review_end)
     → IfOk res (λ t. IsResponse d r t.bytes)

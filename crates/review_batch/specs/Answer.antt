@@ -22,7 +22,7 @@ pub data Outcome : Type 0 where
   failure : List ℕ → Outcome
 
 -- the text is group and version of version v
-pub record IsVersion (d : Definition) (s : List ℕ) (v : ℕ) : Type 0 where
+pub record IsGroupVersion (d : Definition) (s : List ℕ) (v : ℕ) : Type 0 where
   pub known : v < count_of d
   pub named : s ≡ api_version d.view.group (version_at d v).name
 
@@ -55,10 +55,10 @@ pub record IsFirstWithout (d : Definition) (v : ℕ) (js : List Json) (message :
   pub told : message ≡ blame (length before) cause
 
 -- what comes of the request
-pub data Comes (d : Definition) (r : RequestView) : Outcome → Type 0 where
-  unknown : ((v : ℕ) → IsVersion d r.desired v → ⊥) → Comes d r (failure unknown_version)
-  without : (v : ℕ) (message : List ℕ) → IsVersion d r.desired v → IsFirstWithout d v r.objects message → Comes d r (failure message)
-  all : (v : ℕ) (ks : List Json) → IsVersion d r.desired v → AreConverted d v r.objects ks → Comes d r (success ks)
+pub data ComesOfReview (d : Definition) (r : RequestView) : Outcome → Type 0 where
+  unknown : ((v : ℕ) → IsGroupVersion d r.desired v → ⊥) → ComesOfReview d r (failure unknown_version)
+  without : (v : ℕ) (message : List ℕ) → IsGroupVersion d r.desired v → IsFirstWithout d v r.objects message → ComesOfReview d r (failure message)
+  all : (v : ℕ) (ks : List Json) → IsGroupVersion d r.desired v → AreConverted d v r.objects ks → ComesOfReview d r (success ks)
 
 -- ---- the document of a response
 
@@ -88,7 +88,7 @@ pub record IsAnswer (d : Definition) (bytes answer : List ℕ) : Type 0 where
   pub reads : Reads bytes REVIEW_LEVELS review
   pub form : request_fault review ≡ None
   pub outcome : Outcome
-  pub comes : Comes d (request_of (part request_part review)) outcome
+  pub comes : ComesOfReview d (request_of (part request_part review)) outcome
   pub spelled : answer ≡ text_of (response_document (request_of (part request_part review)).uid outcome)
 
 -- the bytes are no review of a request: they aren't read, or the place has another form, and none before it has

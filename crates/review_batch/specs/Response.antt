@@ -118,7 +118,7 @@ refusal asked j = first_told (option_map not_review (first_told (review_faults r
 -- ---- of bytes
 
 -- nothing is refused of the response, and its objects are taken
-pub record IsTaken (bytes : List ℕ) (asked : Asked) (ks : List Json) : Type 0 where
+pub record IsTakenResponse (bytes : List ℕ) (asked : Asked) (ks : List Json) : Type 0 where
   pub review : Json
   pub reads : Reads bytes REVIEW_LEVELS review
   pub nothing : refusal asked review ≡ None

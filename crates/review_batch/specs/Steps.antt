@@ -9,7 +9,7 @@ use Rattle.crd_meaning.specs.Converted.{IsConverted}
 use Rattle.crd_meaning.specs.Unconverted.{IsUnconverted}
 use Rattle.review_batch.specs.Page.{PageView}
 use Rattle.review_batch.specs.Request.{RequestView}
-use Rattle.review_batch.specs.Answer.{AreConverted, Outcome, Comes, blame, response_document}
+use Rattle.review_batch.specs.Answer.{AreConverted, Outcome, ComesOfReview, blame, response_document}
 
 -- the text is that of the document's value
 pub record HasValue (d : Definition) (v : ℕ) (j : Json) (s : List ℕ) : Type 0 where
@@ -34,5 +34,5 @@ pub record GoesOn (d : Definition) (v : ℕ) (js : List Json) (before now : Page
 -- the text is that of the response to a request
 pub record IsResponse (d : Definition) (r : RequestView) (s : List ℕ) : Type 0 where
   pub outcome : Outcome
-  pub comes : Comes d r outcome
+  pub comes : ComesOfReview d r outcome
   pub spelled : s ≡ text_of (response_document r.uid outcome)

@@ -6,7 +6,7 @@ ghost use Rattle.api_calls.specs.declared.versions.TheConstants.{OBJECT_LEVELS};
 ghost use Rattle.crd_versions.specs.Set.{definition_of};
 ghost use Rattle.review_batch.specs.Form.{no_object};
 ghost use Rattle.review_batch.specs.Request.{objects_path};
-ghost use Rattle.review_batch.specs.Answer.{IsAnswer, IsNoRequest, IsVersion};
+ghost use Rattle.review_batch.specs.Answer.{IsAnswer, IsNoRequest, IsGroupVersion};
 ghost use Rattle.review_batch.specs.Faults.{OnNotReview};
 ghost use Rattle.review_batch.specs.Seen.{view_of};
 ghost use Rattle.review_batch.specs.Steps.{IsResponse};
@@ -111,8 +111,8 @@ fn failure(alloc: Global, page: Page, uid: Txt, message: Txt) -> Result<Txt, NoM
 
 // The version whose group and name the text is, or `None` exactly where there is none.
 fn version_of(set: &VersionSet, text: &str) -> Option<u8>
-    ensures { MatchOption result ((v : ℕ) → IsVersion (definition_of set.now) text.now v → ⊥)
-        (λ v. IsVersion (definition_of set.now) text.now v) }
+    ensures { MatchOption result ((v : ℕ) → IsGroupVersion (definition_of set.now) text.now v → ⊥)
+        (λ v. IsGroupVersion (definition_of set.now) text.now v) }
 {
     let group = set.group();
     match text.strip_prefix(group.as_str()) {

@@ -6,7 +6,7 @@ ghost use Rattle.edge_io.specs.Causes.{Rose};
 ghost use Rattle.api_calls.specs.declared.versions.TheConstants.{OBJECT_LEVELS};
 ghost use Rattle.review_batch.specs.Form.{no_object};
 ghost use Rattle.review_batch.specs.Request.{request_document, objects_path};
-ghost use Rattle.review_batch.specs.Response.{IsTaken, IsRefused};
+ghost use Rattle.review_batch.specs.Response.{IsTakenResponse, IsRefused};
 ghost use Rattle.review_batch.specs.Faults.{WasAnswered, AskFailed};
 ghost use Rattle.review_batch.specs.Spelling.{request_front, request_middle, request_end, review_end};
 
@@ -35,7 +35,7 @@ pub fn ask<L: Link>(
     ensures later { L.faults link.old ≤ L.faults link.new }
     ensures taken { IfOk result (λ ks. WasAnswered (L.exchanges link.old) (L.exchanges link.new)
         (text_of (request_document (record { uid = uid.now; desired = desired.now; objects = objects.now })))
-        (λ bytes. IsTaken bytes (record { uid = uid.now; desired = desired.now; sent = objects.now }) ks)) }
+        (λ bytes. IsTakenResponse bytes (record { uid = uid.now; desired = desired.now; sent = objects.now }) ks)) }
     ensures failed { IfErr result (AskFailed (L.exchanges link.old) (L.exchanges link.new)
         (text_of (request_document (record { uid = uid.now; desired = desired.now; objects = objects.now })))
         (Rose (L.faults link.old) (L.faults link.new))

@@ -1,6 +1,6 @@
 //! A review's response to the objects that are taken of it.
 ghost use Rattle.std.specs.Prelude.{◌≡◌, IfOk, IfErr};
-ghost use Rattle.review_batch.specs.Response.{IsTaken, IsRefused};
+ghost use Rattle.review_batch.specs.Response.{IsTakenResponse, IsRefused};
 ghost use Rattle.review_batch.specs.Faults.{OnRefusal};
 
 use crate::fault::ResponseFault;
@@ -26,7 +26,7 @@ pub fn take_response(
     desired: &str,
     sent: &JItems,
 ) -> Result<JItems, ResponseFault>
-    ensures taken { IfOk result (IsTaken bytes.now (record { uid = uid.now; desired = desired.now; sent = sent.now })) }
+    ensures taken { IfOk result (IsTakenResponse bytes.now (record { uid = uid.now; desired = desired.now; sent = sent.now })) }
     ensures refused { IfErr result (OnRefusal (IsRefused bytes.now (record { uid = uid.now; desired = desired.now; sent = sent.now }))) }
 {
     let document = match read_review(alloc, bytes) {

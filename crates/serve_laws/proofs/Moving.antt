@@ -8,7 +8,7 @@ use Rattle.kube_meta.specs.Key.{KeyView, key_cmp}
 use Rattle.kube_meta.specs.KeyOrder.{key_cmp_one}
 use Rattle.kube_meta.specs.Plan.{Migration, running}
 use Rattle.kube_meta.specs.declared.limits.Limits.{Limits}
-use Rattle.api_calls.specs.Growth.{legal-front, state-more}
+use Rattle.api_calls.specs.GrowthLaws.{legal-front, state-more}
 use Rattle.api_calls.specs.Item.{Create, Replace, Mark, Release, Touch, Delete, SetVersions, Trim, StartMigration, MarkSucceeded, Claim, RangeDone, GiveBack, Item, Logged, entry, items, note}
 use Rattle.api_calls.specs.Laws.{KeepsStorage}
 use Rattle.api_calls.specs.Legal.{Each, MaySucceed, legal}

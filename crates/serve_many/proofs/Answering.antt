@@ -11,7 +11,7 @@ use Rattle.http_wire.specs.Head.{Request}
 use Rattle.http_wire.specs.declared.limits.TheConstants.{MOST_REQUESTS}
 use Rattle.http_front.specs.Link.{Breaks, answer, refusal, no_memory, Links, LinkBlames}
 use Rattle.http_front.specs.Replies.{Front}
-use Rattle.http_front.specs.Steps.{Answers, Point, added}
+use Rattle.http_front.specs.Steps.{StepAnswers, Point, added}
 use Rattle.http_front.specs.Talk.{Exchange, Steps}
 use Rattle.http_front.specs.declared.link.End.{End}
 use Rattle.http_front.specs.declared.link.End.TheVariants as ends
@@ -28,12 +28,12 @@ use Rattle.serve_many.specs.Answered.{IsAnswered}
 abbrev Later : Point → Point → Type 0
 Later s t = IsPrefix s.seen t.seen × (s.faults ≤ t.faults)
 
-step_later : (f : Front) (n : ℕ) (s : Point) (r : Request) (a : ReplyView) (t : Point) → Answers f n s r a t → Later s t
+step_later : (f : Front) (n : ℕ) (s : Point) (r : Request) (a : ReplyView) (t : Point) → StepAnswers f n s r a t → Later s t
 step_later f n s r a t h =
     let new : List Logged = added n (s.seen ++ h.others) h.item in
     ((h.others ++ new, sym (append_assoc s.seen h.others new) ∙ sym h.seen), h.faults)
 
-steps_later : (f : Front) (n : ℕ) (s : Point) (xs : List Exchange) (t : Point) → Steps (Answers f n) s xs t → Later s t
+steps_later : (f : Front) (n : ℕ) (s : Point) (xs : List Exchange) (t : Point) → Steps (StepAnswers f n) s xs t → Later s t
 unfolding Steps
 steps_later f n s [] t is = subst (λ (q : Point). Later s q) (sym is) (prefix_self s.seen, (let k : ℕ = s.faults in let r : k ≤ k = omega arith in r))
 steps_later f n s (x ∷ xs) t h =
@@ -42,7 +42,7 @@ steps_later f n s (x ∷ xs) t h =
     (prefix_trans s.seen h.0.seen t.seen one.0 rest.0, (let a = one.1 in let b = rest.1 in omega arith))
 
 links_later : (f : Front) (n budget : ℕ) (unread : Type 0) (end : End) (s t : Point) (known before written : Option (List ℕ))
-    → Links (Answers f n) budget unread end s t known before written → Later s t
+    → Links (StepAnswers f n) budget unread end s t known before written → Later s t
 links_later f n budget unread ends.Closed s t known before written (inl h) = steps_later f n s h.exchanges t h.steps
 links_later f n budget unread ends.Closed s t known before written (inr h) = steps_later f n s h.exchanges t h.steps
 links_later f n budget unread (ends.Torn held) s t known before written h = steps_later f n s h.exchanges t h.steps
@@ -90,7 +90,7 @@ rise_between j k up = omega (arith, up)
 
 pub closes : {B A : Type 0} (count : A → ℕ) (f : Front) (n : ℕ) (end : End) (v z : View B) (a b : A) (unread : Type 0) (o p : Option Origin) (left before written : Option (List ℕ)) (r0 r1 w0 w1 : ℕ)
     → HasAllLeft o left → IfSome before (λ (b : List ℕ). b ≡ []) → r0 ≡ 0 → w0 ≡ 0 → p ≡ o → (unread → r1 ≡ r0)
-    → Links (Answers f n) MOST_REQUESTS unread end (record { seen = v.seen; faults = count a }) (record { seen = z.seen; faults = count b }) left before written
+    → Links (StepAnswers f n) MOST_REQUESTS unread end (record { seen = v.seen; faults = count a }) (record { seen = z.seen; faults = count b }) left before written
     → IsSameBut v z → Quiet n v z → LinkBlames end (Rose r0 r1) (Rose w0 w1)
     → Linked (IsAnswered count f) n v o z (record { origin = p; read_faults = r1; write_faults = w1; written = written })
 closes count f n end v z a b unread o p left before written r0 r1 w0 w1 whole empty none_read none_written of still links same quiet blames =
@@ -110,7 +110,7 @@ closes count f n end v z a b unread o p left before written r0 r1 w0 w1 whole em
         before = before;
         whole = subst (λ (x : Option Origin). HasAllLeft x left) (sym of) whole;
         empty = empty;
-        links = links_unread (Answers f n) MOST_REQUESTS unread (r1 ≡ 0) (λ u. still u ∙ none_read) end s t left before written links;
+        links = links_unread (StepAnswers f n) MOST_REQUESTS unread (r1 ≡ 0) (λ u. still u ∙ none_read) end s t left before written links;
         blames = subst (λ (m : ℕ × ℕ). LinkBlames end (Rose m.0 r1) (Rose m.1 w1)) (λ i. (none_read i, none_written i)) blames;
       };
       quiet = quiet;

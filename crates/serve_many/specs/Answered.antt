@@ -7,7 +7,7 @@ use Rattle.edge_io.specs.Connections.{Ending, HasAllLeft}
 use Rattle.http_wire.specs.declared.limits.TheConstants.{MOST_REQUESTS}
 use Rattle.http_front.specs.Link.{Links, LinkBlames}
 use Rattle.http_front.specs.Replies.{Front}
-use Rattle.http_front.specs.Steps.{Answers}
+use Rattle.http_front.specs.Steps.{StepAnswers}
 use Rattle.http_front.specs.declared.link.End.{End}
 use Rattle.shared_api.specs.Base.{server_of}
 use Rattle.shared_api.specs.declared.cell.CoreBase.{CoreBase}
@@ -30,6 +30,6 @@ pub record IsAnswered {A : Type 0} (count : A → ℕ) (f : Front) (n : ℕ) (p 
   pub before : Option (List ℕ)
   pub whole : HasAllLeft e.origin known
   pub empty : IfSome before (λ bytes. bytes ≡ [])
-  pub links : Links (Answers f n) MOST_REQUESTS (e.read_faults ≡ 0) end
+  pub links : Links (StepAnswers f n) MOST_REQUESTS (e.read_faults ≡ 0) end
       (record { seen = p; faults = count tool }) (record { seen = q; faults = count left }) known before e.written
   pub blames : LinkBlames end (Rose 0 e.read_faults) (Rose 0 e.write_faults)

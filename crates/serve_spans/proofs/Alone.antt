@@ -9,7 +9,7 @@ use Rattle.api_calls.specs.Item.{Logged, Item, items_of}
 use Rattle.turn_cell.specs.Laws.{prefix_self, prefix_trans, items_of-append}
 use Rattle.turn_cell.specs.Numbers.{In}
 use Rattle.turn_cell.specs.Rule.{parts_of}
-use Rattle.turn_cell.specs.Shares.{parts_whole, parts_double, parts_half, parts_both, whole-parts}
+use Rattle.turn_cell.specs.ShareLaws.{parts_whole, parts_double, parts_half, parts_both, whole-parts}
 use Rattle.turn_cell.specs.Turns.{Meets, Turned, addition}
 use Rattle.turn_cell.specs.Views.{numbers_of, numbers_or, number_or, IsAlone, half, both_shares, set_stage}
 use Rattle.turn_cell.specs.declared.view.View.{View}

@@ -10,11 +10,11 @@ is_trimmed (unknown v) = false
 is_trimmed (still_stored v key) = false
 
 -- where the end tells flags and a stored list, they are these
-abbrev pub Shows : TrimEnd → Flags → List ℕ → Type 0
-Shows (trimmed f stored) g vs = (f ≡ g) × (stored ≡ vs)
-Shows (untrimmed f stored) g vs = (f ≡ g) × (stored ≡ vs)
-Shows (unknown v) g vs = Unit {0}
-Shows (still_stored v key) g vs = Unit {0}
+abbrev pub ShowsChange : TrimEnd → Flags → List ℕ → Type 0
+ShowsChange (trimmed f stored) g vs = (f ≡ g) × (stored ≡ vs)
+ShowsChange (untrimmed f stored) g vs = (f ≡ g) × (stored ≡ vs)
+ShowsChange (unknown v) g vs = Unit {0}
+ShowsChange (still_stored v key) g vs = Unit {0}
 
 -- a version that has to be kept is one of so many
 abbrev pub HasVersion : ℕ → TrimEnd → Type 0

@@ -9,7 +9,7 @@ ghost use Rattle.api_calls.specs.Versions.{IsStoredList, versions_of};
 ghost use Rattle.api_core.specs.Ends.{trim_end};
 ghost use Rattle.kj_value.specs.declared.rule.Rule.TheVariants as rule;
 ghost use Rattle.call_texts.specs.Told.{Came, decided};
-ghost use Rattle.setting_texts.specs.Changing.{HasVersion, Shows, is_trimmed};
+ghost use Rattle.setting_texts.specs.Changing.{HasVersion, ShowsChange, is_trimmed};
 
 use crate::set::{room_to_show, showing};
 use api_calls::{Cause, Flags, Refusal, Reply, StoredList, Versions};
@@ -81,7 +81,7 @@ pub fn trimmed<V: Versions>(
     requires flags { flags.now.storage < (V.meaning lent.now.versions.now).count }
     requires stored { IsStoredList (V.meaning lent.now.versions.now).count stored.now }
     requires held { HasVersion (V.meaning lent.now.versions.now).count (trim_end end) }
-    ensures came { Shows (trim_end end) flags.now (versions_of stored.now)
+    ensures came { ShowsChange (trim_end end) flags.now (versions_of stored.now)
         → (i : Option Item) → (is_trimmed (trim_end end) ≡ false → i ≡ None)
         → Came ⊥ (λ a j. (a ≡ trim_answer (V.meaning lent.now.versions.now) (trim_end end)) × (j ≡ i)) (decided result) i }
 {

@@ -4,7 +4,7 @@ use Rattle.std.proofs.lemmas.Bool.Decides.{nat_tests}
 use Rattle.std.proofs.lemmas.List.{append-nil}
 use Rattle.api_calls.specs.Calls.{Server, Call, Told, answered, Decides, Converts, Failure, Fails, failure_refusal, Comes}
 use Rattle.api_calls.specs.Ends.{grown}
-use Rattle.api_calls.specs.Growth.{items-more, items_of-other, items_of-same}
+use Rattle.api_calls.specs.GrowthLaws.{items-more, items_of-other, items_of-same}
 use Rattle.api_calls.specs.Item.{Logged, Item, items, items_of}
 use Rattle.api_calls.specs.Legal.{CountsFrom, IsLegal}
 use Rattle.api_calls.specs.Meaning.{Meaning}

@@ -6,7 +6,7 @@ use Rattle.kube_meta.specs.Page.{Page as PageOf, listed}
 use Rattle.kube_meta.specs.WindowPairs.{AllPair}
 use Rattle.kube_meta.specs.declared.limits.Limits.{Limits}
 use Rattle.api_calls.specs.Calls.{Told, answered, Failure, no_memory, converter, Fails, failure_refusal, list}
-use Rattle.api_calls.specs.Growth.{next_number-revision}
+use Rattle.api_calls.specs.GrowthLaws.{next_number-revision}
 use Rattle.api_calls.specs.Item.{Item, entry, note, items}
 use Rattle.api_calls.specs.Legal.{Each, In}
 use Rattle.api_calls.specs.Meaning.{Meaning}

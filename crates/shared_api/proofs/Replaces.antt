@@ -30,7 +30,7 @@ use Rattle.call_texts.specs.Told.{Came, decided}
 use Rattle.shared_api.specs.Answered.{CallsOn}
 use Rattle.write_texts.specs.Readying.{Tells}
 use Rattle.shared_api.specs.WriteTurns.{Commits, Rested, Results, SeenAt, is_done, releases, replaces}
-use Rattle.write_texts.specs.Replacing.{Goes, IsMade, Replies, StandsOver}
+use Rattle.write_texts.specs.Replacing.{GoesOver, IsMade, RepliesToReplace, StandsOver}
 use Rattle.shared_api.specs.ReplaceTurns.{Attempts, Settled}
 use Rattle.shared_api.specs.Turning.{Reads, Writes, item_if}
 use Rattle.write_texts.specs.declared.change.Change.{Change}
@@ -57,7 +57,7 @@ fault_converter m (invalid name cause) is = cc
 err_is : (d e : RefusalView) → refused_with d ≡ refused_with e → d ≡ e
 err_is d e is = cc
 
-pub memory-never : (s : Server) (q : Request) (k : KeyView) (log : List Item) (i : Option Item) → Replies s q k log (Err refusal.no_memory) i → ⊥
+pub memory-never : (s : Server) (q : Request) (k : KeyView) (log : List Item) (i : Option Item) → RepliesToReplace s q k log (Err refusal.no_memory) i → ⊥
 memory-never s q k log i r = by (served (state s.meaning log).flags q.version) r
   where
     by : (b : Bool) → MatchBool b (Accepts s q k log (Err refusal.no_memory) i) (Lacks (Err refusal.no_memory) i) → ⊥
@@ -65,7 +65,7 @@ memory-never s q k log i r = by (served (state s.meaning log).flags q.version) r
     by true (inr h) = never_memory s.meaning s.boot code_ok q.version k.name h.3 h.4.answer h.8
     by false h = let is = h.0 in cc
 
-pub converter-never : (s : Server) (q : Request) (k : KeyView) (log : List Item) (i : Option Item) → Replies s q k log (Err refusal.converter) i → ⊥
+pub converter-never : (s : Server) (q : Request) (k : KeyView) (log : List Item) (i : Option Item) → RepliesToReplace s q k log (Err refusal.converter) i → ⊥
 converter-never s q k log i r = by (served (state s.meaning log).flags q.version) r
   where
     by : (b : Bool) → MatchBool b (Accepts s q k log (Err refusal.converter) i) (Lacks (Err refusal.converter) i) → ⊥
@@ -73,9 +73,9 @@ converter-never s q k log i r = by (served (state s.meaning log).flags q.version
     by true (inr h) = never_converter s.meaning s.boot code_ok q.version k.name h.3 h.4.answer h.8
     by false h = let is = h.0 in cc
 
-pub reply-came : (s : Server) (rose : Type 0) (q : Request) (k : KeyView) (log : List Item) (a : Answer) (i : Option Item) → Replies s q k log a i → Came rose (Replies s q k log) a i
+pub reply-came : (s : Server) (rose : Type 0) (q : Request) (k : KeyView) (log : List Item) (a : Answer) (i : Option Item) → RepliesToReplace s q k log a i → Came rose (RepliesToReplace s q k log) a i
 reply-came s rose q k log a i r =
-    bound-came rose (Replies s q k log) (λ b. Replies s q k log b i) a i (memory-never s q k log i) (converter-never s q k log i) r r
+    bound-came rose (RepliesToReplace s q k log) (λ b. RepliesToReplace s q k log b i) a i (memory-never s q k log i) (converter-never s q k log i) r r
 
 -- ---- calls
 
@@ -85,9 +85,9 @@ replace_fails q k converter = refl
 
 -- a replace that came out so after its last turn
 pub replace_calls : {B : Type 0} (s : Server) (rose : Type 0) (v z : View B) (log : List Logged) (q : Request) (k : KeyView) (a : Answer) (i : Option Item)
-    → Writes s v z log i → Came rose (Replies s q k (items log)) a i → CallsOn s rose [] v z (replace q k) (answered a)
+    → Writes s v z log i → Came rose (RepliesToReplace s q k (items log)) a i → CallsOn s rose [] v z (replace q k) (answered a)
 replace_calls s rose v z log q k a i writes comes =
-    writes_calls s rose [] v z log (replace q k) (Replies s q k (items log)) (λ b j h. (b, refl, h)) (replace_fails q k) (λ h. tt) a (answered a) i writes comes refl
+    writes_calls s rose [] v z log (replace q k) (RepliesToReplace s q k (items log)) (λ b j h. (b, refl, h)) (replace_fails q k) (λ h. tt) a (answered a) i writes comes refl
 
 -- what was seen after a turn that added nothing
 pub seen-of : {B : Type 0} (s : Server) (v z : View B) (log : List Logged) → Reads s v z log → z.seen ≡ log
@@ -95,23 +95,23 @@ seen-of {B = B} s v z log reads = ap (λ (x : View B). x.seen) reads.turned.3 �
 
 -- a replace that came out so after a look
 pub looked_calls : {B : Type 0} (s : Server) (rose : Type 0) (v z : View B) (log : List Logged) (q : Request) (k : KeyView) (a : Answer)
-    → Reads s v z log → Came rose (Replies s q k (items log)) a None → CallsOn s rose [] v z (replace q k) (answered a)
+    → Reads s v z log → Came rose (RepliesToReplace s q k (items log)) a None → CallsOn s rose [] v z (replace q k) (answered a)
 looked_calls s rose v z log q k a reads came = replace_calls s rose v z log q k a None (reads-writes s v z log reads) came
 
 pub settled_calls : {B : Type 0} (s : Server) (rose : Type 0) (v w z : View B) (first : List Logged) (q : Request) (k : KeyView) (a : Answer)
-    → Reads s v w first → Settled s rose w z (Replies s q k) a → CallsOn s rose [] v z (replace q k) (answered a)
+    → Reads s v w first → Settled s rose w z (RepliesToReplace s q k) a → CallsOn s rose [] v z (replace q k) (answered a)
 settled_calls {B = B} s rose v w z first q k a reads (inl (inl d)) =
     replace_calls s rose v z d.log q k a d.item (writes-join s v w z first d.log d.item reads d.writes) (reply-came s rose q k (items d.log) a d.item d.answers)
 settled_calls {B = B} s rose v w z first q k a reads (inl (inr f)) = by f.rested
   where
     by : Rested s w z → CallsOn s rose [] v z (replace q k) (answered a)
     by (inl one) =
-        looked_calls s rose v z first q k a (subst (λ (x : View B). Reads s v x first) (sym one) reads) (failed-came rose (Replies s q k (items first)) a f.cause)
+        looked_calls s rose v z first q k a (subst (λ (x : View B). Reads s v x first) (sym one) reads) (failed-came rose (RepliesToReplace s q k (items first)) a f.cause)
     by (inr stays) =
-        looked_calls s rose v z stays.log q k a (reads-join s v w z first stays.log reads stays.reads) (failed-came rose (Replies s q k (items stays.log)) a f.cause)
+        looked_calls s rose v z stays.log q k a (reads-join s v w z first stays.log reads stays.reads) (failed-came rose (RepliesToReplace s q k (items stays.log)) a f.cause)
 settled_calls {B = B} s rose v w z first q k a reads (inr (one, d)) =
     looked_calls s rose v z first q k a (subst (λ (x : View B). Reads s v x first) (sym one) reads)
-    (reply-came s rose q k (items first) a None (subst (λ (l : List Logged). Replies s q k (items l) a None) (seen-of s v w first reads) d))
+    (reply-came s rose q k (items first) a None (subst (λ (l : List Logged). RepliesToReplace s q k (items l) a None) (seen-of s v w first reads) d))
 
 -- the answer of a later attempt
 pub settled-join : {B : Type 0} (s : Server) (rose later : Type 0) (v w z : View B) (D : List Item → Answer → Option Item → Type 0) (a : Answer) → (later → rose)
@@ -138,7 +138,7 @@ later-one m xs ys k over e f on seen at there later =
 
 -- what is asked of a value that is to be entered over the object
 pub over-seen : (m : Meaning) (q : Request) (k : KeyView) (log : List Item) (c : Change) (storage : ℕ) (p : Prepared)
-    → Goes m q k log c storage → c.release ≡ false → (IsTrue c.equal → c.at ≡ storage → ⊥) → p.key ≡ k → p.at ≡ storage
+    → GoesOver m q k log c storage → c.release ≡ false → (IsTrue c.equal → c.at ≡ storage → ⊥) → p.key ≡ k → p.at ≡ storage
     → SeenAt m log p.key c.over (Replacing p (object_of c.hub))
 over-seen m q k log c storage p goes stays changes key at =
     subst (λ (j : KeyView). SeenAt m log j c.over (Replacing p (object_of c.hub))) (sym key) (record {
@@ -154,7 +154,7 @@ over-seen m q k log c storage p goes stays changes key at =
     })
 
 -- what is asked of an object that is to be released
-pub ending-seen : (m : Meaning) (q : Request) (k : KeyView) (log : List Item) (c : Change) (storage : ℕ) → Goes m q k log c storage → c.release ≡ true → SeenAt m log k c.over IsEnding
+pub ending-seen : (m : Meaning) (q : Request) (k : KeyView) (log : List Item) (c : Change) (storage : ℕ) → GoesOver m q k log c storage → c.release ≡ true → SeenAt m log k c.over IsEnding
 ending-seen m q k log c storage goes ends = record {
   object = goes.stands.object;
   there = goes.stands.there;
@@ -202,10 +202,10 @@ over-reply : (s : Server) (q : Request) (k : KeyView) (log : List Item) (old : O
     → IsFinal (replace_commit s.limits (revision log + 1) (state s.meaning log) q.version at k c.over (object_of c.hub) c.weight).answer
     → Wrote s.meaning s.boot code_ok q.version k.name (object_of c.hub) (replace_commit s.limits (revision log + 1) (state s.meaning log) q.version at k c.over (object_of c.hub) c.weight).answer a
     → (b : Bool) → served (state s.meaning log).flags q.version ≡ b
-    → Replies s q k log a (replace_commit s.limits (revision log + 1) (state s.meaning log) q.version at k c.over (object_of c.hub) c.weight).item
+    → RepliesToReplace s q k log a (replace_commit s.limits (revision log + 1) (state s.meaning log) q.version at k c.over (object_of c.hub) c.weight).item
 over-reply s q k log old c at a made stays known final wrote false is =
     let none = unserved-ends s.limits (revision log + 1) (state s.meaning log) q.version at k c.over (object_of c.hub) c.weight is in
-    subst (λ (d : Decision WriteEnd). Replies s q k log a d.item) (sym none)
+    subst (λ (d : Decision WriteEnd). RepliesToReplace s q k log a d.item) (sym none)
     (subst (λ (b : Bool). MatchBool b (Accepts s q k log a None) (Lacks a None)) (sym is)
     (subst (λ (d : Decision WriteEnd). Wrote s.meaning s.boot code_ok q.version k.name (object_of c.hub) d.answer a) none wrote, refl))
 over-reply s q k log old c at a made stays known final wrote true is =
@@ -227,7 +227,7 @@ reads-none s v z log i writes is =
 
 -- an attempt at a replace, by the end of its commit
 pub over-attempts : {B : Type 0} (s : Server) (rose : Type 0) (v z : View B) (q : Request) (k : KeyView) (c : Change) (storage : ℕ) (p : Prepared) (name : List ℕ) (e : WriteEnd) (t : Tried)
-    → Goes s.meaning q k (items v.seen) c storage → c.release ≡ false → (IsTrue c.equal → c.at ≡ storage → ⊥)
+    → GoesOver s.meaning q k (items v.seen) c storage → c.release ≡ false → (IsTrue c.equal → c.at ≡ storage → ⊥)
     → Commits s v z (replaces s c.v c.over p (object_of c.hub)) e → p.key ≡ k → p.at ≡ storage → p.weight ≡ c.weight → name ≡ k.name
     → Tells s.meaning s.boot code_ok c.v name (object_of c.hub) e t
     → ((now : ℕ) → e ≡ storage_moved now → now < s.meaning.count) → Attempts s rose v z q k c t
@@ -250,7 +250,7 @@ over-attempts {B = B} s rose v z q k c storage p name e (tried.Told a) goes stay
       log = commits.log;
       item = (D c.v p.key p.weight).item;
       writes = commits.writes;
-      answers = subst (λ (i : Option Item). Replies s q k log (decided a) i) (sym (ap (λ (d : Decision WriteEnd). d.item) one))
+      answers = subst (λ (i : Option Item). RepliesToReplace s q k log (decided a) i) (sym (ap (λ (d : Decision WriteEnd). d.item) one))
           (over-reply s q k log goes.old c p.at (decided a) goes.made stays known (subst (λ (x : WriteEnd). IsFinal x) ends tells.0)
           (subst (λ (x : WriteEnd). Wrote s.meaning s.boot code_ok q.version k.name h x (decided a)) ends wrote)
           (served (state s.meaning log).flags q.version) refl);
@@ -303,12 +303,12 @@ came-cause rose D (Err refusal.converter) h = inr (inr (h.0, refl))
 came-cause rose D (Err refusal.no_memory) h = inr (inl refl)
 
 pub same-settled : {B : Type 0} (s : Server) (rose : Type 0) (v : View B) (q : Request) (k : KeyView) (c : Change) (storage : ℕ) (a : Answer)
-    → Goes s.meaning q k (items v.seen) c storage → c.release ≡ false → c.equal ≡ true → c.at ≡ storage
-    → Came rose (λ b i. ShowsObject s.meaning s.boot code_ok c.v (object_of c.hub) c.over c.born b) a None → Settled s rose v v (Replies s q k) a
+    → GoesOver s.meaning q k (items v.seen) c storage → c.release ≡ false → c.equal ≡ true → c.at ≡ storage
+    → Came rose (λ b i. ShowsObject s.meaning s.boot code_ok c.v (object_of c.hub) c.over c.born b) a None → Settled s rose v v (RepliesToReplace s q k) a
 same-settled {B = B} s rose v q k c storage a goes stays equal at came =
     by (came-cause rose (λ b i. ShowsObject s.meaning s.boot code_ok c.v (object_of c.hub) c.over c.born b) a came)
   where
-    by : ShowsObject s.meaning s.boot code_ok c.v (object_of c.hub) c.over c.born a ⊎ ((a ≡ Err refusal.no_memory) ⊎ (rose × (a ≡ Err refusal.converter))) → Settled s rose v v (Replies s q k) a
+    by : ShowsObject s.meaning s.boot code_ok c.v (object_of c.hub) c.over c.born a ⊎ ((a ≡ Err refusal.no_memory) ⊎ (rose × (a ≡ Err refusal.converter))) → Settled s rose v v (RepliesToReplace s q k) a
     by (inr cause) = inl (inr (record { rested = inl refl; cause = cause }))
     by (inl shows) =
         let log : List Item = items v.seen in
@@ -327,8 +327,8 @@ same-settled {B = B} s rose v q k c storage a goes stays equal at came =
 -- ---- a release
 
 pub release-results : {B : Type 0} (s : Server) (rose : Type 0) (v z : View B) (q : Request) (k : KeyView) (c : Change) (storage : ℕ) (name : List ℕ) (e : WriteEnd) (a : Answer)
-    → Goes s.meaning q k (items v.seen) c storage → c.release ≡ true → Commits s v z (releases s c.v k c.over) e → name ≡ k.name
-    → Wrote s.meaning s.boot code_ok c.v name (object_of c.hub) e a → Results s rose v z (Replies s q k) a
+    → GoesOver s.meaning q k (items v.seen) c storage → c.release ≡ true → Commits s v z (releases s c.v k c.over) e → name ≡ k.name
+    → Wrote s.meaning s.boot code_ok c.v name (object_of c.hub) e a → Results s rose v z (RepliesToReplace s q k) a
 release-results {B = B} s rose v z q k c storage name e a goes ends commits named tells =
     let log : List Item = items commits.log in
     let h : ObjectView = object_of c.hub in
@@ -342,7 +342,7 @@ release-results {B = B} s rose v z q k c storage name e a goes ends commits name
       log = commits.log;
       item = (D c.v).item;
       writes = commits.writes;
-      answers = subst (λ (i : Option Item). Replies s q k log a i) (sym (ap (λ (d : Decision WriteEnd). d.item) one))
+      answers = subst (λ (i : Option Item). RepliesToReplace s q k log a i) (sym (ap (λ (d : Decision WriteEnd). d.item) one))
           (release-reply s.meaning s.limits s.boot (revision log + 1) (state s.meaning log) q k c.over goes.made.new c.weight h goes.old c.equal a
           goes.made.admits goes.made.admitted goes.made.update goes.made.equals goes.made.allowed (goes.made.ends ∙ ends)
           (λ f there is_over.

@@ -28,7 +28,7 @@ use Rattle.call_texts.specs.Told.{Came}
 use Rattle.shared_api.specs.Answered.{CallsOn}
 use Rattle.shared_api.specs.Base.{StandsCell, base_of, server_of}
 use Rattle.setting_texts.specs.Starting.{HasTarget, IsUnstarted, is_started}
-use Rattle.shared_api.specs.StartTurns.{Begins}
+use Rattle.shared_api.specs.StartTurns.{BeginsStart}
 use Rattle.shared_api.specs.Turning.{Closes, Settles, Writes, item_if}
 use Rattle.shared_api.specs.declared.cell.CoreBase.{CoreBase}
 use Rattle.shared_api.proofs.Changing.{came-more}
@@ -92,7 +92,7 @@ pub begins : {V : Type 0} (meaning : V → Meaning) (c d : CoreOf V) (b : CoreBa
     → f ≡ c.view.flags → AreFlags (meaning c.versions).count f
     → e ≡ (start_decision c.view.limits (state (meaning c.versions) (items w.seen)) name).answer → done ≡ is_started e
     → Closes (item_if done (entry (StartMigration name))) w z → IsLegal (meaning d.versions) d.view.limits z.seen
-    → Begins (server_of meaning b) v z name e
+    → BeginsStart (server_of meaning b) v z name e
 begins {V = V} meaning c d b v w z name e done f based is took later stands short kept flags are_flags ended so closed legal =
     let m = meaning c.versions in
     let s : State = state m (items w.seen) in
@@ -101,7 +101,7 @@ begins {V = V} meaning c d b v w z name e done f based is took later stands shor
     ap (λ (x : Bool). item_if x (entry (StartMigration name))) so ∙ sym (start-item c.view.limits s name e ended) in
     let written = writes meaning c d (base_of c) v w z (item_if done (entry (StartMigration name))) based based took later stands short kept closed legal in
     let storage : f.storage ≡ s.flags.storage = ap (λ (x : Flags). x.storage) (flags ∙ stands.0.present.flags) in
-    subst (λ (x : CoreBase V). Begins (server_of meaning x) v z name e) same (record {
+    subst (λ (x : CoreBase V). BeginsStart (server_of meaning x) v z name e) same (record {
       log = w.seen;
       writes = subst (λ (i : Option Item). Writes (server_of meaning (base_of c)) v z w.seen i) item written;
       ended = ended;
@@ -129,7 +129,7 @@ start_refused {V = V} meaning b it v z body f stored e same settled came =
 
 -- a body that starts a migration
 pub start_calls : {V : Type 0} (meaning : V → Meaning) (b : CoreBase V) (it : V) (v z : View (CoreBase V)) (body name : List ℕ) (end : ends.StartEnd) (d : Answer) (t : Told)
-    → it ≡ b.versions → Starts (meaning it) body name → Begins (server_of meaning b) v z name end
+    → it ≡ b.versions → Starts (meaning it) body name → BeginsStart (server_of meaning b) v z name end
     → ((i : Option Item) → (is_started end ≡ false → i ≡ None) → Came ⊥ (λ a j. (a ≡ start_answer (meaning it) name end) × (j ≡ i)) d i)
     → t ≡ answered d
     → CallsOn (server_of meaning b) ⊥ [] v z (start body) t

@@ -29,7 +29,7 @@ use Rattle.turn_cell.specs.declared.view.View.{View}
 use Rattle.call_texts.specs.Told.{Came}
 use Rattle.shared_api.specs.Answered.{CallsOn}
 use Rattle.shared_api.specs.Base.{StandsCell, base_of, server_of}
-use Rattle.setting_texts.specs.Changing.{HasVersion, Shows, is_trimmed}
+use Rattle.setting_texts.specs.Changing.{HasVersion, ShowsChange, is_trimmed}
 use Rattle.shared_api.specs.ChangeTurns.{Trims}
 use Rattle.shared_api.specs.Turning.{Closes, Settles, Writes, item_if}
 use Rattle.shared_api.specs.declared.cell.CoreBase.{CoreBase}
@@ -63,7 +63,7 @@ trim-cases P s keep unknown held same done = by (first_unknown s.stored keep)
 
 -- flags and stored list that an end tells stand afterwards
 abbrev Tells : Flags → List ℕ → Decision ends.TrimEnd → Type 0
-Tells f stored d = (e : ends.TrimEnd) → e ≡ d.answer → Shows e f stored → d.item ≡ item_if (is_trimmed e) (entry (Trim stored))
+Tells f stored d = (e : ends.TrimEnd) → e ≡ d.answer → ShowsChange e f stored → d.item ≡ item_if (is_trimmed e) (entry (Trim stored))
 
 told-none : (f : Flags) (stored : List ℕ) (x : ends.TrimEnd) → is_trimmed x ≡ false → Tells f stored (ends.says x)
 told-none f stored x none e is shows = ap (λ (b : Bool). item_if b (entry (Trim stored))) (sym (ap is_trimmed is ∙ none))
@@ -76,7 +76,7 @@ trim-item s keep f stored =
     (λ v k is. told-none f stored (ends.still_stored v k) refl)
     (told-none f stored (ends.untrimmed s.flags s.stored) refl)
     (λ e is shows.
-    let both = subst (λ (x : ends.TrimEnd). Shows x f stored) is shows in
+    let both = subst (λ (x : ends.TrimEnd). ShowsChange x f stored) is shows in
     ap (λ (xs : List ℕ). Some (entry (Trim xs))) both.1 ∙ sym (ap (λ (x : ends.TrimEnd). item_if (is_trimmed x) (entry (Trim stored))) is))
 
 -- what isn't trimmed enters nothing
@@ -100,7 +100,7 @@ trim-flags s keep =
 
 -- the core tells the flags and the stored list that it then has
 pub trim-shows : (s : State) (keep : List ℕ) (c : CoreView) (r : TrimEnd) → trim_end r ≡ (trim_decision s keep).answer → c.flags ≡ s.flags → c.stored ≡ s.stored
-    → Shows (trim_end r) (after_trim r c).flags (after_trim r c).stored
+    → ShowsChange (trim_end r) (after_trim r c).flags (after_trim r c).stored
 trim-shows s keep c (core.Done rv f vs) is flags stored = ((trim-flags s keep).0 f (versions_of vs) is ∙ sym flags, refl)
 trim-shows s keep c (core.Unchanged f vs) is flags stored =
     let both = (trim-flags s keep).1 f (versions_of vs) is in (both.0 ∙ sym flags, both.1 ∙ sym stored)
@@ -134,12 +134,12 @@ trim-version count s keep e is all =
 -- what the core tells afterwards is what the end tells
 pub turn-shows : {V : Type 0} (c d : CoreOf V) (s : State) (keep : List ℕ) (r : TrimEnd) (f : Flags) (vs : List ℕ) → trim_end r ≡ (trim_decision s keep).answer
     → c.view.flags ≡ s.flags → c.view.stored ≡ s.stored → d ≡ record c { view = after_trim r c.view } → f ≡ d.view.flags → vs ≡ d.view.stored
-    → Shows (trim_end r) f vs
+    → ShowsChange (trim_end r) f vs
 turn-shows {V = V} c d s keep r f vs ended flags stored leaves is_flags is_stored =
     let fs : f ≡ (after_trim r c.view).flags = is_flags ∙ ap (λ (x : CoreOf V). x.view.flags) leaves in
     let ss : vs ≡ (after_trim r c.view).stored = is_stored ∙ ap (λ (x : CoreOf V). x.view.stored) leaves in
-    subst (λ (g : Flags). Shows (trim_end r) g vs) (sym fs)
-    (subst (λ (xs : List ℕ). Shows (trim_end r) (after_trim r c.view).flags xs) (sym ss) (trim-shows s keep c.view r ended flags stored))
+    subst (λ (g : Flags). ShowsChange (trim_end r) g vs) (sym fs)
+    (subst (λ (xs : List ℕ). ShowsChange (trim_end r) (after_trim r c.view).flags xs) (sym ss) (trim-shows s keep c.view r ended flags stored))
 
 -- a version that has to be kept stays in the list
 pub turn-version : {V : Type 0} (count : ℕ) (c d : CoreOf V) (s : State) (keep : List ℕ) (r : TrimEnd) (vs : List ℕ) → trim_end r ≡ (trim_decision s keep).answer
@@ -156,7 +156,7 @@ pub trims : {V : Type 0} (meaning : V → Meaning) (c d : CoreOf V) (b : CoreBas
     → v.base ≡ Some (base_of c) → v.base ≡ Some b → (t : ℕ) × (w ≡ set_stage v w.seen (Holds t 0)) → Later v w.seen
     → StandsCell meaning c w.seen → length w.seen < 2 ^ 61 → SameBase c d
     → trim_end r ≡ (trim_decision (state (meaning c.versions) (items w.seen)) keep).answer → entered ≡ is_trimmed (trim_end r)
-    → Shows (trim_end r) f (versions_of stored) → HasVersion (meaning c.versions).count (trim_end r)
+    → ShowsChange (trim_end r) f (versions_of stored) → HasVersion (meaning c.versions).count (trim_end r)
     → AreFlags (meaning d.versions).count f → IsStoredList (meaning d.versions).count stored
     → Closes (item_if entered (entry (Trim (versions_of stored)))) w z → IsLegal (meaning d.versions) d.view.limits z.seen
     → Trims (server_of meaning b) v z keep (trim_end r) f stored
@@ -200,7 +200,7 @@ trim_refused {V = V} meaning b it v z body f stored e same settled came =
 pub trim_calls : {V : Type 0} (meaning : V → Meaning) (b : CoreBase V) (it : V) (v z : View (CoreBase V)) (body keep : List ℕ) (end : ends.TrimEnd) (f : Flags) (stored : StoredList)
     (d : Answer) (t : Told)
     → it ≡ b.versions → (meaning it).keeps body keep → Trims (server_of meaning b) v z keep end f stored
-    → (Shows end f (versions_of stored) → (i : Option Item) → (is_trimmed end ≡ false → i ≡ None)
+    → (ShowsChange end f (versions_of stored) → (i : Option Item) → (is_trimmed end ≡ false → i ≡ None)
     → Came ⊥ (λ a j. (a ≡ trim_answer (meaning it) end) × (j ≡ i)) d i)
     → t ≡ answered d
     → CallsOn (server_of meaning b) ⊥ [] v z (trim body) t

@@ -9,7 +9,7 @@ use Rattle.kube_meta.specs.Key.{KeyView}
 use Rattle.kube_meta.specs.View.{ObjectView}
 use Rattle.api_calls.specs.Calls.{Server, Told, worked, failed, no_memory, converter, work, Comes}
 use Rattle.api_calls.specs.Calls as calls
-use Rattle.api_calls.specs.EachObject.{each-find}
+use Rattle.api_calls.specs.ObjectLaws.{each-find}
 use Rattle.api_calls.specs.Ends.{TurnEnd, prepare}
 use Rattle.api_calls.specs.Item.{Logged, Item, items}
 use Rattle.api_calls.specs.Laws.{IsCounted}
@@ -35,7 +35,7 @@ use Rattle.turn_cell.specs.Turns.{Turned}
 use Rattle.turn_cell.specs.Laws.{turns_join}
 use Rattle.shared_api.specs.Answered.{CallsOn}
 use Rattle.shared_api.specs.Steps.{IsStep, IsTold, IsToPrepare, failure_of}
-use Rattle.shared_api.specs.Working.{Begins, IsCopy, IsReady, Touches, first_of, second_of}
+use Rattle.shared_api.specs.Working.{BeginsTurn, IsCopy, IsReady, Touches, first_of, second_of}
 use Rattle.shared_api.specs.declared.step.Begun.{Begun}
 use Rattle.shared_api.specs.declared.step.Begun.TheVariants as begun
 use Rattle.shared_api.specs.declared.step.TurnStep.{TurnStep}
@@ -121,7 +121,7 @@ no_prepare step.RangeDone e is k rv told = cc
 no_prepare step.Finished e is k rv told = let at = is.1 in cc (at, told)
 
 -- a first turn that is the whole
-pub ended_calls : {B : Type 0} (s : Server) (rose : Type 0) (v z : View B) (claim left : Option ℕ) (r : TurnStep) → Begins s v z claim left (begun.Ended r)
+pub ended_calls : {B : Type 0} (s : Server) (rose : Type 0) (v z : View B) (claim left : Option ℕ) (r : TurnStep) → BeginsTurn s v z claim left (begun.Ended r)
     → (t : Told) × IsTold (Ok r) left t × CallsOn s rose [] v z (work claim) t
 ended_calls s rose v z claim left r b =
     let log : List Item = items b.log in
@@ -147,13 +147,13 @@ prepare-leaves m log claim k rv told =
     ∙ sym (work_of-claim claim (state m log) p.work p.held)
 
 -- a first turn that told to prepare entered nothing
-pub begun-none : {B : Type 0} (s : Server) (v z : View B) (claim left : Option ℕ) (r : Begun) (k : KeyView) (rv : ℕ) (b : Begins s v z claim left r)
+pub begun-none : {B : Type 0} (s : Server) (v z : View B) (claim left : Option ℕ) (r : Begun) (k : KeyView) (rv : ℕ) (b : BeginsTurn s v z claim left r)
     → (first_of s.meaning (items b.log) claim).decision.answer ≡ prepare k rv → Turned v z b.log None
 begun-none {B = B} s v z claim left r k rv b told =
     subst (λ (i : Option Item). Turned v z b.log i) (prepare-none (revision (items b.log) + 1) (state s.meaning (items b.log)) claim k rv told) b.writes.turned
 
 -- a call that failed after its first turn
-pub failed_calls : {B : Type 0} (s : Server) (rose : Type 0) (v z : View B) (claim left : Option ℕ) (r : Begun) (k : KeyView) (rv : ℕ) (f : WorkFault) (b : Begins s v z claim left r)
+pub failed_calls : {B : Type 0} (s : Server) (rose : Type 0) (v z : View B) (claim left : Option ℕ) (r : Begun) (k : KeyView) (rv : ℕ) (f : WorkFault) (b : BeginsTurn s v z claim left r)
     → (first_of s.meaning (items b.log) claim).decision.answer ≡ prepare k rv → (f ≡ fault.Converter → rose)
     → (t : Told) × IsTold (Err f) left t × CallsOn s rose [] v z (work claim) t
 failed_calls s rose v z claim left r k rv f b told rises = (
@@ -174,7 +174,7 @@ failed_calls s rose v z claim left r k rv f b told rises = (
     by fault.NoMemory rises = calls.wants_memory (work claim) (failed no_memory claim) refl
 
 -- and it was told to prepare at the list that the pass then sees
-pub failed_asked : {B : Type 0} (s : Server) (v z : View B) (claim left : Option ℕ) (r : Begun) (k : KeyView) (rv : ℕ) (b : Begins s v z claim left r)
+pub failed_asked : {B : Type 0} (s : Server) (v z : View B) (claim left : Option ℕ) (r : Begun) (k : KeyView) (rv : ℕ) (b : BeginsTurn s v z claim left r)
     → (first_of s.meaning (items b.log) claim).decision.answer ≡ prepare k rv → IsToPrepare s.meaning (items z.seen) claim
 failed_asked s v z claim left r k rv b told =
     subst (λ (log : List Logged). IsToPrepare s.meaning (items log) claim) (sym (seen-none v z b.log (begun-none s v z claim left r k rv b told))) (k, rv, told)
@@ -207,7 +207,7 @@ second-at s rose seen between since claim k rv at first is =
 
 -- a call of two turns
 pub touched_calls : {B : Type 0} (s : Server) (rose : Type 0) (v y z : View B) (claim mid left : Option ℕ) (r : Begun) (k : KeyView) (rv : ℕ) (p : Prepared) (e : TurnStep)
-    (b : Begins s v y claim mid r) → (first_of s.meaning (items b.log) claim).decision.answer ≡ prepare k rv → k ≡ p.key → IsReady s.meaning (items b.log) claim rv p
+    (b : BeginsTurn s v y claim mid r) → (first_of s.meaning (items b.log) claim).decision.answer ≡ prepare k rv → k ≡ p.key → IsReady s.meaning (items b.log) claim rv p
     → Touches s y z mid left p.key rv p.at e
     → (t : Told) × IsTold (Ok e) left t × CallsOn s rose [] v z (work claim) t
 touched_calls {B = B} s rose v y z claim mid left r k rv p e b told under ready second =
@@ -242,7 +242,7 @@ pub copy-key : (m : Meaning) (log : List Item) (k : KeyView) (target : ℕ) (see
 copy-key m log k target seen p copy key = sym (key ∙ copy.keeps.key ∙ find-key k (state m log).objects copy.object copy.there)
 
 -- what is ready at the list of the first turn is so at what the pass then has seen
-pub ready-seen : {B : Type 0} (s : Server) (v y : View B) (claim mid : Option ℕ) (r : Begun) (k : KeyView) (rv : ℕ) (p : Prepared) (b : Begins s v y claim mid r)
+pub ready-seen : {B : Type 0} (s : Server) (v y : View B) (claim mid : Option ℕ) (r : Begun) (k : KeyView) (rv : ℕ) (p : Prepared) (b : BeginsTurn s v y claim mid r)
     → (first_of s.meaning (items b.log) claim).decision.answer ≡ prepare k rv → IsReady s.meaning (items b.log) claim rv p → IsReady s.meaning (items y.seen) mid rv p
 ready-seen {B = B} s v y claim mid r k rv p b told ready =
     subst (λ (log : List Logged). IsReady s.meaning (items log) mid rv p) (sym (seen-none v y b.log (begun-none s v y claim mid r k rv b told)))

@@ -33,7 +33,7 @@ use Rattle.api_core.specs.WorkRows.{work_of-claim}
 use Rattle.turn_cell.specs.declared.view.View.{View}
 use Rattle.shared_api.specs.Answered.{CallsOn}
 use Rattle.shared_api.specs.Turning.{Writes, item_if}
-use Rattle.shared_api.specs.Working.{number_of, Tells, Begins, IsReady, Touches}
+use Rattle.shared_api.specs.Working.{number_of, Tells, BeginsTurn, IsReady, Touches}
 use Rattle.shared_api.specs.Steps.{IsStep}
 use Rattle.shared_api.specs.declared.step.TurnStep.{TurnStep}
 use Rattle.migrate_core.specs.Moves as moves
@@ -53,7 +53,7 @@ use Rattle.shared_api.proofs.Turns.{few_entries, items-length}
 use Rattle.shared_api.proofs.Entering.{writes}
 use Rattle.kube_meta.specs.Plan.{Plan}
 use Rattle.api_calls.specs.Legal.{IsLegal}
-use Rattle.api_core.specs.Claims.{last-few}
+use Rattle.api_core.specs.ClaimLaws.{last-few}
 use Rattle.api_core.specs.CoreOf.{SameBase}
 use Rattle.api_core.specs.Turned.{WorkerTurned}
 use Rattle.turn_cell.specs.declared.view.Stage.TheVariants.{Holds}
@@ -231,7 +231,7 @@ pub begins : {V : Type 0} (meaning : V → Meaning) (c d : CoreOf V) (b : CoreBa
     → ((log : List Item) (k : Option ℕ) → StandsFor meaning d (grown log (first_of (meaning d.versions) log k).decision.item)
     → end ≡ (first_of (meaning d.versions) log k).decision.answer → Tells (meaning d.versions) log end r)
     → Closes (item_if entered (item_or (first_of (meaning d.versions) (items w.seen) claim).decision.item)) w z → IsLegal (meaning d.versions) d.view.limits z.seen
-    → Begins (server_of meaning b) v z claim left r
+    → BeginsTurn (server_of meaning b) v z claim left r
 begins {V = V} meaning c d b v w z claim left r end entered based is took later stands short kept turned enters told closed legal =
     let log : List Item = items w.seen in
     let t : Turn = first_of (meaning c.versions) log claim in
@@ -244,7 +244,7 @@ begins {V = V} meaning c d b v w z claim left r end entered based is took later 
     (told log claim
     (subst (λ (x : V). StandsFor meaning d (grown log (first_of (meaning x) log claim).decision.item)) (sym kept.versions) turned.ends.1)
     (turned.ends.0 ∙ ap (λ (x : V). (first_of (meaning x) log claim).decision.answer) (sym kept.versions))) in
-    subst (λ (x : CoreBase V). Begins (server_of meaning x) v z claim left r) same (record {
+    subst (λ (x : CoreBase V). BeginsTurn (server_of meaning x) v z claim left r) same (record {
       log = w.seen;
       writes = writes meaning c d (base_of c) v w z t.decision.item based based took later stands short kept
           (subst (λ (i : Option Item). Closes i w z) item closed) legal;

@@ -11,7 +11,7 @@ use Rattle.api_calls.specs.declared.flags.Flags.{Flags}
 use Rattle.api_calls.specs.declared.flags.StoredList.{StoredList}
 use Rattle.turn_cell.specs.declared.view.View.{View}
 use Rattle.shared_api.specs.Turning.{Writes}
-use Rattle.setting_texts.specs.Changing.{HasVersion, Shows}
+use Rattle.setting_texts.specs.Changing.{HasVersion, ShowsChange}
 
 abbrev pub is_set : SetEnd → Bool
 is_set (set stored) = true
@@ -29,7 +29,7 @@ pub record Trims {B : Type 0} (s : Server) (v z : View B) (keep : List ℕ) (end
   pub log : List Logged
   pub writes : Writes s v z log (trim_decision (state s.meaning (items log)) keep).item
   pub ended : end ≡ (trim_decision (state s.meaning (items log)) keep).answer
-  pub shows : Shows end f (versions_of stored)
+  pub shows : ShowsChange end f (versions_of stored)
   pub held : HasVersion s.meaning.count end
   pub storage : f.storage < s.meaning.count
   pub is_list : IsStoredList s.meaning.count stored

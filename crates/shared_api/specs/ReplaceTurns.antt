@@ -11,7 +11,7 @@ use Rattle.shared_api.specs.WriteTurns.{Results, Stays}
 use Rattle.write_texts.specs.declared.change.Change.{Change}
 use Rattle.write_texts.specs.declared.tried.Tried.{Tried}
 use Rattle.write_texts.specs.declared.tried.Tried.TheVariants.{Told, Moved}
-use Rattle.write_texts.specs.Replacing.{Goes, Replies}
+use Rattle.write_texts.specs.Replacing.{GoesOver, RepliesToReplace}
 
 -- an answer after a turn, or one that is decided at what the pass had seen
 abbrev pub Settled : {B : Type 0} → Server → Type 0 → View B → View B → (List Item → Answer → Option Item → Type 0) → Answer → Type 0
@@ -19,5 +19,5 @@ Settled s rose v z D a = Results s rose v z D a ⊎ ((z ≡ v) × D (items v.see
 
 -- an attempt: an answer, or another storage version to prepare for, the object standing as before
 abbrev pub Attempts : {B : Type 0} → Server → Type 0 → View B → View B → Request → KeyView → Change → Tried → Type 0
-Attempts s rose v z q k c (Told r) = Settled s rose v z (Replies s q k) (decided r)
-Attempts s rose v z q k c (Moved now) = Stays s v z × Goes s.meaning q k (items z.seen) c now
+Attempts s rose v z q k c (Told r) = Settled s rose v z (RepliesToReplace s q k) (decided r)
+Attempts s rose v z q k c (Moved now) = Stays s v z × GoesOver s.meaning q k (items z.seen) c now

@@ -10,7 +10,7 @@ use Rattle.shared_api.specs.Turning.{Writes}
 use Rattle.setting_texts.specs.Starting.{HasTarget}
 
 -- a turn that started a migration of a name, or didn't
-pub record Begins {B : Type 0} (s : Server) (v z : View B) (name : List ℕ) (end : StartEnd) : Type 0 where
+pub record BeginsStart {B : Type 0} (s : Server) (v z : View B) (name : List ℕ) (end : StartEnd) : Type 0 where
   pub log : List Logged
   pub writes : Writes s v z log (start_decision s.limits (state s.meaning (items log)) name).item
   pub ended : end ≡ (start_decision s.limits (state s.meaning (items log)) name).answer

@@ -62,7 +62,7 @@ Tells m log e (begun.Asked rv target seen) = (k : KeyView) × (e ≡ prepare k r
 Tells m log e begun.NoMemory = (k : KeyView) × (rv : ℕ) × (e ≡ prepare k rv)
 
 -- a first turn, which leaves the worker a claim
-pub record Begins {B : Type 0} (s : Server) (v z : View B) (claim left : Option ℕ) (b : Begun) : Type 0 where
+pub record BeginsTurn {B : Type 0} (s : Server) (v z : View B) (claim left : Option ℕ) (b : Begun) : Type 0 where
   pub log : List Logged
   pub writes : Writes s v z log (first_of s.meaning (items log) claim).decision.item
   pub tells : Tells s.meaning (items log) (first_of s.meaning (items log) claim).decision.answer b

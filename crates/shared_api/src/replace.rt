@@ -12,7 +12,7 @@ ghost use Rattle.shared_api.specs.Base.{server_of};
 ghost use Rattle.shared_api.specs.Passes.{IsOf};
 ghost use Rattle.call_texts.specs.Places.{IsPlace};
 ghost use Rattle.shared_api.specs.WriteTurns.{Results};
-ghost use Rattle.write_texts.specs.Replacing.{Goes, Replies};
+ghost use Rattle.write_texts.specs.Replacing.{GoesOver, RepliesToReplace};
 ghost use Rattle.shared_api.specs.ReplaceTurns.{Attempts, Settled};
 ghost use Rattle.shared_api.specs.declared.cell.CoreBase.{CoreBase};
 
@@ -44,13 +44,13 @@ fn put<V: Versions + Drop, R: Wait>(
     requires own { pass.old.seat.table_id ≡ turn.now.table.shared.table_id }
     requires rest { IsResting pass.old.seat.me.0 }
     requires base { (b : CoreBase V) × (pass.old.seat.me.0.base ≡ Some b) × (lent.now.versions.now ≡ b.versions) × (lent.now.boot ≡ b.boot) }
-    requires goes { (q : Request) × Goes (V.meaning lent.now.versions.now) q key.now (items pass.old.seat.me.0.seen) change.now storage }
+    requires goes { (q : Request) × GoesOver (V.meaning lent.now.versions.now) q key.now (items pass.old.seat.me.0.seen) change.now storage }
     requires stays { change.now.release ≡ false }
     requires changes { IsTrue change.now.equal → change.now.at ≡ storage → ⊥ }
     ensures own { pass.new.seat.table_id ≡ pass.old.seat.table_id }
     ensures rest { IsResting pass.new.seat.me.0 }
     ensures tries { (b : CoreBase V) (q : Request) → pass.old.seat.me.0.base ≡ Some b
-        → Goes (V.meaning b.versions) q key.now (items pass.old.seat.me.0.seen) change.now storage
+        → GoesOver (V.meaning b.versions) q key.now (items pass.old.seat.me.0.seen) change.now storage
         → Attempts (server_of V.meaning b) (V.Tool.faults tool.old < V.Tool.faults tool.new) pass.old.seat.me.0 pass.new.seat.me.0 q key.now change.now result }
     ensures rises { V.Tool.faults tool.old ≤ V.Tool.faults tool.new }
 {
@@ -84,12 +84,12 @@ fn attempt<V: Versions + Drop, R: Wait>(
     requires own { pass.old.seat.table_id ≡ turn.now.table.shared.table_id }
     requires rest { IsResting pass.old.seat.me.0 }
     requires base { (b : CoreBase V) × (pass.old.seat.me.0.base ≡ Some b) × (lent.now.versions.now ≡ b.versions) × (lent.now.boot ≡ b.boot) }
-    requires goes { (q : Request) × Goes (V.meaning lent.now.versions.now) q key.now (items pass.old.seat.me.0.seen) change.now storage }
+    requires goes { (q : Request) × GoesOver (V.meaning lent.now.versions.now) q key.now (items pass.old.seat.me.0.seen) change.now storage }
     requires stays { change.now.release ≡ false }
     ensures own { pass.new.seat.table_id ≡ pass.old.seat.table_id }
     ensures rest { IsResting pass.new.seat.me.0 }
     ensures tries { (b : CoreBase V) (q : Request) → pass.old.seat.me.0.base ≡ Some b
-        → Goes (V.meaning b.versions) q key.now (items pass.old.seat.me.0.seen) change.now storage
+        → GoesOver (V.meaning b.versions) q key.now (items pass.old.seat.me.0.seen) change.now storage
         → Attempts (server_of V.meaning b) (V.Tool.faults tool.old < V.Tool.faults tool.new) pass.old.seat.me.0 pass.new.seat.me.0 q key.now change.now result }
     ensures rises { V.Tool.faults tool.old ≤ V.Tool.faults tool.new }
 {
@@ -114,14 +114,14 @@ fn enter<V: Versions + Drop, R: Wait>(
     requires own { pass.old.seat.table_id ≡ turn.now.table.shared.table_id }
     requires rest { IsResting pass.old.seat.me.0 }
     requires base { (b : CoreBase V) × (pass.old.seat.me.0.base ≡ Some b) × (lent.now.versions.now ≡ b.versions) × (lent.now.boot ≡ b.boot) }
-    requires goes { (q : Request) × Goes (V.meaning lent.now.versions.now) q key.now (items pass.old.seat.me.0.seen) change.now first }
+    requires goes { (q : Request) × GoesOver (V.meaning lent.now.versions.now) q key.now (items pass.old.seat.me.0.seen) change.now first }
     requires stays { change.now.release ≡ false }
     ensures own { pass.new.seat.table_id ≡ pass.old.seat.table_id }
     ensures rest { IsResting pass.new.seat.me.0 }
     ensures came { (b : CoreBase V) (q : Request) → pass.old.seat.me.0.base ≡ Some b
-        → Goes (V.meaning b.versions) q key.now (items pass.old.seat.me.0.seen) change.now first
+        → GoesOver (V.meaning b.versions) q key.now (items pass.old.seat.me.0.seen) change.now first
         → Settled (server_of V.meaning b) (V.Tool.faults tool.old < V.Tool.faults tool.new) pass.old.seat.me.0 pass.new.seat.me.0
-        (Replies (server_of V.meaning b) q key.now) (decided result) }
+        (RepliesToReplace (server_of V.meaning b) q key.now) (decided result) }
     ensures rises { V.Tool.faults tool.old ≤ V.Tool.faults tool.new }
 {
     let mut storage = first;
@@ -147,14 +147,14 @@ fn release<V: Versions + Drop, R: Wait>(
     requires own { pass.old.seat.table_id ≡ turn.now.table.shared.table_id }
     requires rest { IsResting pass.old.seat.me.0 }
     requires base { (b : CoreBase V) × (pass.old.seat.me.0.base ≡ Some b) × (lent.now.versions.now ≡ b.versions) × (lent.now.boot ≡ b.boot) }
-    requires goes { (q : Request) × (storage : ℕ) × Goes (V.meaning lent.now.versions.now) q key.now (items pass.old.seat.me.0.seen) change.now storage }
+    requires goes { (q : Request) × (storage : ℕ) × GoesOver (V.meaning lent.now.versions.now) q key.now (items pass.old.seat.me.0.seen) change.now storage }
     requires ends { change.now.release ≡ true }
     ensures own { pass.new.seat.table_id ≡ pass.old.seat.table_id }
     ensures rest { IsResting pass.new.seat.me.0 }
     ensures came { (b : CoreBase V) (q : Request) (storage : ℕ) → pass.old.seat.me.0.base ≡ Some b
-        → Goes (V.meaning b.versions) q key.now (items pass.old.seat.me.0.seen) change.now storage
+        → GoesOver (V.meaning b.versions) q key.now (items pass.old.seat.me.0.seen) change.now storage
         → Results (server_of V.meaning b) (V.Tool.faults tool.old < V.Tool.faults tool.new) pass.old.seat.me.0 pass.new.seat.me.0
-        (Replies (server_of V.meaning b) q key.now) (decided result) }
+        (RepliesToReplace (server_of V.meaning b) q key.now) (decided result) }
     ensures rises { V.Tool.faults tool.old ≤ V.Tool.faults tool.new }
 {
     match ready_release(lent, tool, key, change) {
@@ -180,13 +180,13 @@ fn commit<V: Versions + Drop, R: Wait>(
     requires own { pass.old.seat.table_id ≡ turn.now.table.shared.table_id }
     requires rest { IsResting pass.old.seat.me.0 }
     requires base { (b : CoreBase V) × (pass.old.seat.me.0.base ≡ Some b) × (lent.now.versions.now ≡ b.versions) × (lent.now.boot ≡ b.boot) }
-    requires goes { (q : Request) × Goes (V.meaning lent.now.versions.now) q key.now (items pass.old.seat.me.0.seen) change.now storage }
+    requires goes { (q : Request) × GoesOver (V.meaning lent.now.versions.now) q key.now (items pass.old.seat.me.0.seen) change.now storage }
     ensures own { pass.new.seat.table_id ≡ pass.old.seat.table_id }
     ensures rest { IsResting pass.new.seat.me.0 }
     ensures came { (b : CoreBase V) (q : Request) → pass.old.seat.me.0.base ≡ Some b
-        → Goes (V.meaning b.versions) q key.now (items pass.old.seat.me.0.seen) change.now storage
+        → GoesOver (V.meaning b.versions) q key.now (items pass.old.seat.me.0.seen) change.now storage
         → Settled (server_of V.meaning b) (V.Tool.faults tool.old < V.Tool.faults tool.new) pass.old.seat.me.0 pass.new.seat.me.0
-        (Replies (server_of V.meaning b) q key.now) (decided result) }
+        (RepliesToReplace (server_of V.meaning b) q key.now) (decided result) }
     ensures rises { V.Tool.faults tool.old ≤ V.Tool.faults tool.new }
 {
     let ends = change.release;

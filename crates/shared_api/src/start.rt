@@ -11,7 +11,7 @@ ghost use Rattle.shared_api.specs.Answered.{CallsOn};
 ghost use Rattle.shared_api.specs.Base.{server_of};
 ghost use Rattle.shared_api.specs.Passes.{IsOf};
 ghost use Rattle.setting_texts.specs.Starting.{is_started};
-ghost use Rattle.shared_api.specs.StartTurns.{Begins};
+ghost use Rattle.shared_api.specs.StartTurns.{BeginsStart};
 ghost use Rattle.shared_api.specs.declared.cell.CoreBase.{CoreBase};
 
 use crate::api::{Pass, SharedApi};
@@ -53,7 +53,7 @@ fn start<V: Versions + Drop, R: Wait>(
     ensures own { pass.new.seat.table_id ≡ pass.old.seat.table_id }
     ensures rest { IsResting pass.new.seat.me.0 }
     ensures begins { (b : CoreBase V) → pass.old.seat.me.0.base ≡ Some b
-        → Begins (server_of V.meaning b) pass.old.seat.me.0 pass.new.seat.me.0 copy.now.bytes (start_end result) }
+        → BeginsStart (server_of V.meaning b) pass.old.seat.me.0 pass.new.seat.me.0 copy.now.bytes (start_end result) }
 {
     let mut cell = turn.take(rt, pass);
     // Asked for what its clause says: the storage version is a known one.

@@ -13,7 +13,7 @@ ghost use Rattle.shared_api.specs.Answered.{CallsOn};
 ghost use Rattle.shared_api.specs.Base.{server_of};
 ghost use Rattle.shared_api.specs.Passes.{IsOf};
 ghost use Rattle.shared_api.specs.Steps.{IsStep, IsTold, IsToPrepare};
-ghost use Rattle.shared_api.specs.Working.{Begins, IsReady, Tells, Touches, first_of, is_entered};
+ghost use Rattle.shared_api.specs.Working.{BeginsTurn, IsReady, Tells, Touches, first_of, is_entered};
 ghost use Rattle.shared_api.specs.declared.cell.CoreBase.{CoreBase};
 
 use crate::api::{Pass, SharedApi};
@@ -125,7 +125,7 @@ fn begin<V: Versions + Drop, R: Wait>(
     ensures own { pass.new.seat.table_id ≡ pass.old.seat.table_id }
     ensures rest { IsResting pass.new.seat.me.0 }
     ensures begins { (b : CoreBase V) → pass.old.seat.me.0.base ≡ Some b
-        → Begins (server_of V.meaning b) pass.old.seat.me.0 pass.new.seat.me.0 w.old.claim w.new.claim result }
+        → BeginsTurn (server_of V.meaning b) pass.old.seat.me.0 pass.new.seat.me.0 w.old.claim w.new.claim result }
 {
     let claim = w.claim;
     let mut cell = turn.take(rt, pass);

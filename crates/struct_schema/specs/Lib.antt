@@ -1,5 +1,5 @@
 pub mod Shape
-pub mod KindNumber
+pub mod KindLaws
 pub mod ShapeCode
 pub mod ShapeOf
 pub mod ShapeFalls
@@ -15,9 +15,9 @@ pub mod OwnDefaults
 pub mod Stays
 pub mod ShapeSame
 pub mod ShapeInside
-pub mod Lookups
-pub mod Named
+pub mod LookupLaws
+pub mod NameLaws
 pub mod Own
-pub mod Sameness
+pub mod SameLaws
 pub mod Places
 pub mod Defaults

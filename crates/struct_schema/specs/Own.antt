@@ -2,13 +2,13 @@
 use Rattle.std.proofs.Common.{◌≡◌, ℕ, List, Bool, true, false, ◌&&◌, cond, Option, Some, None, refl, ap, sym, subst, ◌∙◌}
 use Rattle.std.specs.Prelude.{is_some, is_none, ◌||◌, unwrap_or, MatchBool}
 use Rattle.kj_value.specs.Json.{Json, null, boolean, whole, text, list, object, Items, no_items, item, Members, no_members, member}
-use Rattle.kj_value.specs.Sameness.{json_same-Decides}
+use Rattle.kj_value.specs.SameLaws.{json_same-Decides}
 use Rattle.kj_value.specs.Sound.{IsSoundJson, AreSoundItems, AreRising}
 use Rattle.struct_schema.specs.Shape.{Own, Shape, shape, own, Shapes, no_shapes, shape_at, MaybeShapes, no_map, some_map, MaybeShape, no_shape, some_shape}
 use Rattle.struct_schema.specs.Names.{is_name, value_at, shape_named, property, or_shape, shape_for}
 use Rattle.struct_schema.specs.Filled.{is_object, is_array, is_forbidden, PresentFilled, PropertyFilled, EachItem, Filled, NameFilled, NamedFilled, RestFilled, ItemFilled}
 use Rattle.struct_schema.specs.Stays.{item_null, name_null, item_stays, name_stays, lacks_default, no_default, defaults_there, stays, items_stay, names_stay}
-use Rattle.struct_schema.specs.Named.{one_name, own_name, other_name, below_found}
+use Rattle.struct_schema.specs.NameLaws.{one_name, own_name, other_name, below_found}
 
 both_true : (a b : Bool) → (a && b) ≡ true → (a ≡ true) × (b ≡ true)
 both_true true b h = (refl, h)

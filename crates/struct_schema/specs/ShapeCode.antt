@@ -8,7 +8,7 @@ use Rattle.kj_value.specs.JsonCode.{json_code, bytes_tree, bytes_back, bytes_bac
 use Rattle.std.proofs.Common.{sym, ◌∙◌}
 use Rattle.struct_schema.specs.declared.kind.NodeKind.{NodeKind}
 use Rattle.struct_schema.specs.declared.kind.IntFormat.{IntFormat}
-use Rattle.struct_schema.specs.KindNumber.{kind_number, kind_back, kind_back-kind_number, format_number, format_back, format_back-format_number}
+use Rattle.struct_schema.specs.KindLaws.{kind_number, kind_back, kind_back-kind_number, format_number, format_back, format_back-format_number}
 use Rattle.struct_schema.specs.Shape.{Own, Shape, shape, Shapes, no_shapes, shape_at, MaybeShapes, no_map, some_map, MaybeShape, no_shape, some_shape}
 
 abbrev pub kind_code : Coded NodeKind

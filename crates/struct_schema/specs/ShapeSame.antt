@@ -6,7 +6,7 @@ use Rattle.std.specs.Ordering.{int_eq}
 use Rattle.std.specs.Str.{bytes_eq}
 use Rattle.kj_value.specs.Json.{Json, items_of}
 use Rattle.kj_value.specs.Same.{json_same, items_same}
-use Rattle.struct_schema.specs.KindNumber.{kind_number, format_number}
+use Rattle.struct_schema.specs.KindLaws.{kind_number, format_number}
 use Rattle.struct_schema.specs.declared.kind.IntFormat.{IntFormat}
 use Rattle.struct_schema.specs.Shape.{Own, Shape, shape, Shapes, no_shapes, shape_at, MaybeShapes, no_map, some_map, MaybeShape, no_shape, some_shape}
 

@@ -1,6 +1,6 @@
 //! The kinds of a schema's node, and the formats of its whole numbers.
 ghost use Rattle.std.specs.Prelude.{◌≡◌};
-ghost use Rattle.struct_schema.specs.KindNumber.{kind_number, format_number};
+ghost use Rattle.struct_schema.specs.KindLaws.{kind_number, format_number};
 ghost use Rattle.struct_schema.specs.Filled.{is_object, is_array};
 
 /// What a node asks of a value's kind: the keyword `type`, or one of the two nodes without it.

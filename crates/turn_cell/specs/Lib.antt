@@ -4,5 +4,5 @@ pub mod Rule
 pub mod Steps
 pub mod Turns
 pub mod Laws
-pub mod Shares
+pub mod ShareLaws
 pub mod ViewCode

@@ -8,7 +8,7 @@ use Rattle.kj_value.specs.Fields.{Pairs, field}
 use Rattle.kube_meta.specs.View.{ObjectView}
 use Rattle.kube_meta.specs.Document.{some_generation, metadata, document}
 use Rattle.versions_fixture.specs.Parts.{PartsView, meta_at, object_at, text_in, number_in}
-use Rattle.versions_fixture.specs.Documents.{fields, document-fields, field-metadata, object_one, depth-document}
+use Rattle.versions_fixture.specs.DocumentLaws.{fields, document-fields, field-metadata, object_one, depth-document}
 use Rattle.versions_fixture.specs.declared.parts.Version.{Version}
 
 pub text_back : (o : Option (List ℕ)) → option_and_then text_in (option_map text o) ≡ o

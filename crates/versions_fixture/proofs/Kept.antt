@@ -14,7 +14,7 @@ use Rattle.api_calls.specs.Meaning.{stored_text}
 use Rattle.api_calls.specs.Versions.{IsStored, AreStamps}
 use Rattle.versions_fixture.specs.Parts.{PartsView, object_at, version_at}
 use Rattle.versions_fixture.specs.Definition.{two_names}
-use Rattle.versions_fixture.specs.Documents.{depth-document, sound-document}
+use Rattle.versions_fixture.specs.DocumentLaws.{depth-document, sound-document}
 use Rattle.versions_fixture.specs.Laws.{object_one, one_data, some_none}
 use Rattle.versions_fixture.specs.declared.parts.Version.TheVariants.{V1}
 

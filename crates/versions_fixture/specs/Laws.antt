@@ -15,11 +15,11 @@ use Rattle.api_calls.specs.Cause.{CauseView, not_json, too_deep, not_whole, not_
 use Rattle.api_calls.specs.Meaning.{Request, Fault, bad_request, invalid, Weighs, stamped, unnumbered, widest, chunks, measure}
 use Rattle.api_calls.specs.Readings.{IsFaulty, one_fault}
 use Rattle.api_calls.specs.Readings as reading
-use Rattle.api_calls.specs.Versions.{AreFlags, AreStamps, IsBody, StandsAt, Stand, IgnoresStamps, IsOneToOne, IsRequest, KeepsFinalizers, NamesDiffer, IsAdmitted, AdmitsWhole, Decides, RefusesOnce, RefusesUnread, DecidesBodies}
+use Rattle.api_calls.specs.Versions.{AreFlags, AreStamps, IsBody, StandsAt, Stand, IgnoresStamps, IsOneToOne, IsRequest, KeepsFinalizers, NamesDiffer, IsAdmitted, AdmitsWhole, DecidesAdmission, RefusesOnce, RefusesUnread, DecidesBodies}
 use Rattle.api_calls.specs.declared.flags.Flags.{Flags}
 use Rattle.api_calls.specs.declared.versions.TheConstants.{OBJECT_LEVELS}
 use Rattle.versions_fixture.specs.Parts.{PartsView, body_at, meta_at, object_at, bare, version_at, version_name}
-use Rattle.versions_fixture.specs.Documents.{depth-document, sound-document, document_name, document_value}
+use Rattle.versions_fixture.specs.DocumentLaws.{depth-document, sound-document, document_name, document_value}
 use Rattle.versions_fixture.specs.Definition.{IsFixtureHub, Submits, placed, Admits, IsOther, Breaks, no_name, no_number, too_heavy, IsInvalid, FixtureRefuses, storing, setting, Sets, keeping, FixtureKeeps, IsNone, two_names, weight_of}
 use Rattle.versions_fixture.specs.declared.admission.TheConstants.{MOST_CHUNKS}
 use Rattle.versions_fixture.specs.declared.parts.Version.{Version}
@@ -349,7 +349,7 @@ complete : (r : Request) → IsRequest two_names r
 complete r is never_admitted never_refused =
     never_refused (bad_request not_json) (λ d reading. data_decided r d is reading never_admitted never_refused)
 
-pub decides : Decides two_names
+pub decides : DecidesAdmission two_names
 decides = record { one = one; excludes = excludes; complete = complete }
 
 pub admits_whole : AdmitsWhole two_names

@@ -1,6 +1,6 @@
 pub mod Parts
 pub mod Definition
-pub mod Documents
+pub mod DocumentLaws
 pub mod Laws
 pub mod Unknown
 pub mod Example

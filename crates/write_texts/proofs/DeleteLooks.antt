@@ -11,7 +11,7 @@ use Rattle.api_calls.specs.Bodies.{IsServedDelete}
 use Rattle.api_calls.specs.Calls.{IsKept}
 use Rattle.api_calls.specs.Cause.{bad_options}
 use Rattle.api_calls.specs.Documents.{deleted_status}
-use Rattle.api_calls.specs.EachObject.{each-find}
+use Rattle.api_calls.specs.ObjectLaws.{each-find}
 use Rattle.api_calls.specs.Ends.{Decision, WriteEnd, done, kept, gone, unserved, says, enters}
 use Rattle.api_calls.specs.Item.{Item, entry, Delete, Mark}
 use Rattle.api_calls.specs.Legal.{HasFinalizer, key_of, legal}

@@ -6,7 +6,7 @@ use Rattle.kube_meta.specs.Key.{KeyView}
 use Rattle.kube_meta.specs.View.{ObjectView, object_of}
 use Rattle.api_calls.specs.Calls.{Server}
 use Rattle.api_calls.specs.Cause.{cause_of, why_of}
-use Rattle.api_calls.specs.EachObject.{each-find}
+use Rattle.api_calls.specs.ObjectLaws.{each-find}
 use Rattle.api_calls.specs.Ends.{says, forbidden, gone, newer, Decision, WriteEnd}
 use Rattle.api_calls.specs.Item.{Item}
 use Rattle.api_calls.specs.Laws.{IsCounted}
@@ -33,7 +33,7 @@ use Rattle.api_core.specs.declared.seen.Seen.{Seen}
 use Rattle.record_store.specs.View.{Item as RecordItem}
 use Rattle.call_texts.specs.Told.{Came}
 use Rattle.call_texts.specs.Faults.{admission, failed}
-use Rattle.write_texts.specs.Replacing.{Changes, Forbids, Goes, IsFailed, Misses, Refuses, Replies, Updates}
+use Rattle.write_texts.specs.Replacing.{Changes, Forbids, GoesOver, IsFailed, Misses, RefusesReplace, RepliesToReplace, Updates}
 use Rattle.write_texts.specs.declared.change.Change.{Change}
 use Rattle.write_texts.specs.declared.update.Update.{Update}
 use Rattle.write_texts.proofs.Replacing.{Accepts, Lacks, number, refused_with}
@@ -102,7 +102,7 @@ pub goes : (s : Server) (log : List Item) (q : Request) (k : KeyView) (p : Peeke
     → Stand s.meaning → IgnoresStamps s.meaning → AdmitsWhole s.meaning → ReadsOne s.meaning → WeighsAny s.meaning
     → legal s.meaning s.limits log → revision log ≤ 2 ^ 61 → Sees s.meaning log k p → p.flags.storage < s.meaning.count → q.version < s.meaning.count → served p.flags q.version ≡ true
     → q.ns ≡ k.ns → q.name ≡ Some k.name → s.meaning.admits q new expected → expected ≡ Some over → WeighsIt s.meaning new w → 0 < w
-    → Changes s.meaning q.version over w p.found new c → Goes s.meaning q k log c p.flags.storage
+    → Changes s.meaning q.version over w p.found new c → GoesOver s.meaning q k log c p.flags.storage
 goes s log q k p new expected over w c stand unstamped admitted reads any l few sees storage known may ns name admits expects weighs some ch =
     let m = s.meaning in
     let h : ObjectView = object_of c.hub in
@@ -151,7 +151,7 @@ goes s log q k p new expected over w c stand unstamped admitted reads any l few 
 decided-reply : (s : Server) (q : Request) (k : KeyView) (log : List Item) (new : ObjectView) (over w : ℕ) (h : ObjectView) (d : Decision WriteEnd) (a : Answer)
     → served (state s.meaning log).flags q.version ≡ true → s.meaning.admits q new (Some over) → WeighsIt s.meaning new w
     → ReplaceDecision s.meaning s.limits (revision log + 1) (state s.meaning log) q.version k over new w h d
-    → Wrote s.meaning s.boot code_ok q.version k.name h d.answer a → Replies s q k log a d.item
+    → Wrote s.meaning s.boot code_ok q.version k.name h d.answer a → RepliesToReplace s q k log a d.item
 decided-reply s q k log new over w h d a may admits weighs decision wrote =
     subst (λ (b : Bool). MatchBool b (Accepts s q k log a d.item) (Lacks a d.item)) (sym may)
     (inr (new, over, w, h, d, admits, weighs, decision, wrote, refl))
@@ -177,13 +177,13 @@ module _ (s : Server) (rose : Type 0) (log : List Item) (q : Request) (k : KeyVi
   is_served : served (state s.meaning log).flags q.version ≡ true
   is_served = ap (λ f. served f q.version) (sym sees.flags) ∙ may
 
-  gone-came : p.found ≡ None → Came rose (Replies s q k log) (Err (refusal.not_found k.name)) None
+  gone-came : p.found ≡ None → Came rose (RepliesToReplace s q k log) (Err (refusal.not_found k.name)) None
   gone-came is =
       let none : find k (state s.meaning log).objects ≡ None = found-none s.meaning (option_map seen_item p.found) (find k (state s.meaning log).objects) sees.found (ap (option_map seen_item) is) in
       let decision : ReplaceDecision s.meaning s.limits (revision log + 1) (state s.meaning log) q.version k over new w new (says gone) = rw is_served (rw none refl) in
       decided-reply s q k log new over w new (says gone) (Err (refusal.not_found k.name)) is_served admits_it weighs decision refl
 
-  newer-came : (seen : Seen) → p.found ≡ Some seen → seen.rv ≢ over → Came rose (Replies s q k log) (Err (refusal.conflict k.name seen.rv)) None
+  newer-came : (seen : Seen) → p.found ≡ Some seen → seen.rv ≢ over → Came rose (RepliesToReplace s q k log) (Err (refusal.conflict k.name seen.rv)) None
   newer-came seen is other =
       let found = kept s.meaning log k p seen sees is in
       let e : Stored = found.0 in
@@ -196,7 +196,7 @@ module _ (s : Server) (rose : Type 0) (log : List Item) (q : Request) (k : KeyVi
       the_conflict : ℕ → Answer
       the_conflict n = Err (refusal.conflict k.name n)
 
-  forbidden-came : (e : RefusalView) → Forbids s.meaning k over p.found new e → Came rose (Replies s q k log) (Err (finalizer_added s.meaning k.name)) None
+  forbidden-came : (e : RefusalView) → Forbids s.meaning k over p.found new e → Came rose (RepliesToReplace s q k log) (Err (finalizer_added s.meaning k.name)) None
   forbidden-came x f =
       let found = kept s.meaning log k p f.seen sees f.there in
       let e : Stored = found.0 in
@@ -211,26 +211,26 @@ module _ (s : Server) (rose : Type 0) (log : List Item) (q : Request) (k : KeyVi
       rw is_served (rw found.1 (rw (eq-eqb e.number over numbered) over_it)) in
       decided-reply s q k log new over w h (says forbidden) (Err (finalizer_added s.meaning k.name)) is_served admits_it weighs decision refl
 
-  misses-came : (found : Option Seen) (e : RefusalView) → p.found ≡ found → Misses k over found e → Came rose (Replies s q k log) (Err e) None
-  misses-came None e is h = subst (λ (x : RefusalView). Came rose (Replies s q k log) (Err x) None) (sym h) (gone-came is)
-  misses-came (Some seen) e is h = subst (λ (x : RefusalView). Came rose (Replies s q k log) (Err x) None) (sym h.1) (newer-came seen is h.0)
+  misses-came : (found : Option Seen) (e : RefusalView) → p.found ≡ found → Misses k over found e → Came rose (RepliesToReplace s q k log) (Err e) None
+  misses-came None e is h = subst (λ (x : RefusalView). Came rose (RepliesToReplace s q k log) (Err x) None) (sym h) (gone-came is)
+  misses-came (Some seen) e is h = subst (λ (x : RefusalView). Came rose (RepliesToReplace s q k log) (Err x) None) (sym h.1) (newer-came seen is h.0)
 
-  pub refuses-came : (e : RefusalView) → Refuses s.meaning rose k over p.found new e → Came rose (Replies s q k log) (Err e) None
-  refuses-came e (inl cause) = failed-came rose (Replies s q k log) (Err e) (failed-answer rose e cause)
+  pub refuses-came : (e : RefusalView) → RefusesReplace s.meaning rose k over p.found new e → Came rose (RepliesToReplace s q k log) (Err e) None
+  refuses-came e (inl cause) = failed-came rose (RepliesToReplace s q k log) (Err e) (failed-answer rose e cause)
   refuses-came e (inr (inl misses)) = misses-came p.found e refl misses
-  refuses-came e (inr (inr forbids)) = subst (λ (x : RefusalView). Came rose (Replies s q k log) (Err x) None) (sym forbids.told) (forbidden-came e forbids)
+  refuses-came e (inr (inr forbids)) = subst (λ (x : RefusalView). Came rose (RepliesToReplace s q k log) (Err x) None) (sym forbids.told) (forbidden-came e forbids)
 
 -- where the version isn't served
 pub unserved-came : (s : Server) (rose : Type 0) (q : Request) (k : KeyView) (log : List Item) → served (state s.meaning log).flags q.version ≡ false
-    → Came rose (Replies s q k log) (Err refusal.no_resource) None
+    → Came rose (RepliesToReplace s q k log) (Err refusal.no_resource) None
 unserved-came s rose q k log is =
     subst (λ (b : Bool). MatchBool b (Accepts s q k log (Err refusal.no_resource) None) (Lacks (Err refusal.no_resource) None)) (sym is) (refl, refl)
 
 module _ (s : Server) (rose : Type 0) (q : Request) (k : KeyView) (log : List Item) (is_served : served (state s.meaning log).flags q.version ≡ true) where
-  refused_by : (a : Answer) → IsRefusedRequest s.meaning q a None → Replies s q k log a None
+  refused_by : (a : Answer) → IsRefusedRequest s.meaning q a None → RepliesToReplace s q k log a None
   refused_by a h = subst (λ (b : Bool). MatchBool b (Accepts s q k log a None) (Lacks a None)) (sym is_served) (inl h)
 
-  admission_came : (fault : AdmitFault) → Refused (s.meaning.refuses q) rose fault → Came rose (Replies s q k log) (Err (admission s.meaning fault)) None
+  admission_came : (fault : AdmitFault) → Refused (s.meaning.refuses q) rose fault → Came rose (RepliesToReplace s q k log) (Err (admission s.meaning fault)) None
   admission_came (admits.BadRequest why) r = refused_by (Err (admission s.meaning (admits.BadRequest why))) (bad_request (why_of why), r, refl, refl)
   admission_came (admits.Invalid name cause) r = refused_by (Err (admission s.meaning (admits.Invalid name cause))) (invalid name.bytes (cause_of cause), r, refl, refl)
   admission_came admits.Tool r = (r, refl)
@@ -238,9 +238,9 @@ module _ (s : Server) (rose : Type 0) (q : Request) (k : KeyView) (log : List It
 
   -- a request that isn't admitted
   pub not_admitted-came : (fault : AdmitFault) (e : RefusalView) → Refused (s.meaning.refuses q) rose fault → (e ≡ refusal.no_memory) ⊎ (e ≡ admission s.meaning fault)
-      → Came rose (Replies s q k log) (Err e) None
-  not_admitted-came fault e r (inl is) = subst (λ (x : RefusalView). Came rose (Replies s q k log) (Err x) None) (sym is) refl
-  not_admitted-came fault e r (inr is) = subst (λ (x : RefusalView). Came rose (Replies s q k log) (Err x) None) (sym is) (admission_came fault r)
+      → Came rose (RepliesToReplace s q k log) (Err e) None
+  not_admitted-came fault e r (inl is) = subst (λ (x : RefusalView). Came rose (RepliesToReplace s q k log) (Err x) None) (sym is) refl
+  not_admitted-came fault e r (inr is) = subst (λ (x : RefusalView). Came rose (RepliesToReplace s q k log) (Err x) None) (sym is) (admission_came fault r)
 
 -- ---- refusals as they are told
 
@@ -249,19 +249,19 @@ failed-fails rose converts.Tool e tool is = inr (tool refl, is)
 failed-fails rose converts.NoMemory e tool is = inl is
 
 pub misses-refuses : (m : Meaning) (rose : Type 0) (k : KeyView) (over : ℕ) (found : Option Seen) (new : ObjectView) (e : RefusalView) → (e ≡ refusal.no_memory) ⊎ Misses k over found e
-    → Refuses m rose k over found new e
+    → RefusesReplace m rose k over found new e
 misses-refuses m rose k over found new e (inl is) = inl (inl is)
 misses-refuses m rose k over found new e (inr misses) = inr (inl misses)
 
 pub forbids-refuses : (m : Meaning) (rose : Type 0) (k : KeyView) (over : ℕ) (found : Option Seen) (seen : Seen) (new : ObjectView) (u : Update) (e : RefusalView)
     → found ≡ Some seen → seen.rv ≡ over → Updates m seen.at seen.bytes.bytes new u → u.forbidden ≡ true → (e ≡ refusal.no_memory) ⊎ (e ≡ finalizer_added m k.name)
-    → Refuses m rose k over found new e
+    → RefusesReplace m rose k over found new e
 forbids-refuses m rose k over found seen new u e there numbered updates adds (inl is) = inl (inl is)
 forbids-refuses m rose k over found seen new u e there numbered updates adds (inr is) =
     inr (inr (record { seen = seen; there = there; number = numbered; update = u; updates = updates; forbidden = adds; told = is }))
 
 pub refuses-rises : (m : Meaning) (rose later : Type 0) (k : KeyView) (over : ℕ) (found : Option Seen) (new : ObjectView) (e : RefusalView) → (later → rose)
-    → Refuses m later k over found new e → Refuses m rose k over found new e
+    → RefusesReplace m later k over found new e → RefusesReplace m rose k over found new e
 refuses-rises m rose later k over found new e rises (inl (inl is)) = inl (inl is)
 refuses-rises m rose later k over found new e rises (inl (inr is)) = inl (inr (rises is.0, is.1))
 refuses-rises m rose later k over found new e rises (inr other) = inr other

@@ -7,7 +7,7 @@ use Rattle.kj_value.specs.Reading.{Reads}
 use Rattle.kj_value.specs.declared.reading.JsonFault.TheVariants.{NotJson, TooDeep, NotWhole}
 use Rattle.api_calls.specs.Bodies.{IsServedDelete, IsUnset, fields_in, fields_of}
 use Rattle.write_texts.specs.Deleting.{HasUnset}
-use Rattle.call_texts.proofs.Texts.{never_not_json, never_not_whole, never_too_deep}
+use Rattle.api_calls.proofs.Texts.{never_not_json, never_not_whole, never_too_deep}
 
 same-pairs : (es : Pairs) → fields_of (members_of es) ≡ es
 same-pairs [] = refl

@@ -49,8 +49,8 @@ pub record Forbids (m : Meaning) (k : KeyView) (over : ℕ) (found : Option Seen
   pub forbidden : update.forbidden ≡ true
   pub told : e ≡ finalizer_added m k.name
 
-abbrev pub Refuses : Meaning → Type 0 → KeyView → ℕ → Option Seen → ObjectView → RefusalView → Type 0
-Refuses m rose k over found new e = IsFailed rose e ⊎ (Misses k over found e ⊎ Forbids m k over found new e)
+abbrev pub RefusesReplace : Meaning → Type 0 → KeyView → ℕ → Option Seen → ObjectView → RefusalView → Type 0
+RefusesReplace m rose k over found new e = IsFailed rose e ⊎ (Misses k over found e ⊎ Forbids m k over found new e)
 
 -- what is to be entered of a new value, over what was seen
 pub record Changes (m : Meaning) (v over w : ℕ) (found : Option Seen) (new : ObjectView) (c : Change) : Type 0 where
@@ -102,7 +102,7 @@ pub record StandsOver (m : Meaning) (log : List Item) (k : KeyView) (old : Objec
   pub stored : (state m log).flags.storage ≡ storage
   pub known : storage < m.count
 
-pub record Goes (m : Meaning) (q : Request) (k : KeyView) (log : List Item) (c : Change) (storage : ℕ) : Type 0 where
+pub record GoesOver (m : Meaning) (q : Request) (k : KeyView) (log : List Item) (c : Change) (storage : ℕ) : Type 0 where
   pub old : ObjectView
   pub made : IsMade m q k old c
   pub stands : StandsOver m log k old c storage
@@ -110,5 +110,5 @@ pub record Goes (m : Meaning) (q : Request) (k : KeyView) (log : List Item) (c :
 -- ---- how it comes out
 
 -- the reply to a replace at a list
-abbrev pub Replies : Server → Request → KeyView → List Item → Answer → Option Item → Type 0
-Replies s q k log a i = ReplaceReply s.meaning s.limits s.boot (revision log + 1) (state s.meaning log) q k a i
+abbrev pub RepliesToReplace : Server → Request → KeyView → List Item → Answer → Option Item → Type 0
+RepliesToReplace s q k log a i = ReplaceReply s.meaning s.limits s.boot (revision log + 1) (state s.meaning log) q k a i

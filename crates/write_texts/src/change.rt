@@ -3,7 +3,7 @@ ghost use Rattle.std.specs.Prelude.{◌≡◌, ◌⊎◌, ◌<◌, ◌≤◌, �
 ghost use Rattle.kube_meta.specs.View.{ObjectView, object_of};
 ghost use Rattle.api_calls.specs.Refusal.{no_memory, refusal_of};
 ghost use Rattle.api_calls.specs.Versions.{IsStored};
-ghost use Rattle.write_texts.specs.Replacing.{Changes, Misses, Refuses, Updates};
+ghost use Rattle.write_texts.specs.Replacing.{Changes, Misses, RefusesReplace, Updates};
 
 use crate::update::{Update, update_of};
 use api_calls::{Admitted, ConvFault, Refusal, Versions};
@@ -88,7 +88,7 @@ pub fn changing<V: Versions>(
     ensures changes { IfOk result (λ c. (over : ℕ) × (admitted.expected ≡ Some over)
         × Changes (V.meaning lent.now.versions.now) v over admitted.weight found (object_of admitted.hub) c) }
     ensures refuses { IfErr result (λ e. (over : ℕ) × (admitted.expected ≡ Some over)
-        × Refuses (V.meaning lent.now.versions.now) (V.Tool.faults tool.old < V.Tool.faults tool.new) key.now over found (object_of admitted.hub) (refusal_of e.refusal)) }
+        × RefusesReplace (V.meaning lent.now.versions.now) (V.Tool.faults tool.old < V.Tool.faults tool.new) key.now over found (object_of admitted.hub) (refusal_of e.refusal)) }
     ensures rises { V.Tool.faults tool.old ≤ V.Tool.faults tool.new }
 {
     let Admitted {

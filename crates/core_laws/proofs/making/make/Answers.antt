@@ -6,9 +6,9 @@ use Rattle.api_calls.specs.Writes.{create_commit, mark_commit, replace_commit}
 use Rattle.api_core.specs.CoreOf.{StandsFor}
 use Rattle.api_core.specs.Ends.{create_end, delete_end, replace_end, turn_end}
 use Rattle.core_laws.specs.Asked.{decided, worked, wrote}
-use Rattle.core_laws.specs.Bridges.{fits, next}
+use Rattle.core_laws.proofs.Bridges.{fits, next}
 use Rattle.core_laws.specs.Known.{IsKnown}
-use Rattle.core_laws.specs.Sizes.{few-claims, few-numbers}
+use Rattle.core_laws.proofs.Sizes.{few-claims, few-numbers}
 use Rattle.core_laws.proofs.Made.{told_ends, told_turn}
 use Rattle.core_laws.proofs.making.make.Goals as goal
 

@@ -1,6 +1,6 @@
 use Rattle.std.proofs.Common.{List, ℕ, ap, sym, ◌∙◌}
 use Rattle.kj_value.specs.Fields.{field}
-use Rattle.struct_schema.specs.Lookups.{value_at-field}
+use Rattle.struct_schema.specs.LookupLaws.{value_at-field}
 use Rattle.crd_reading.specs.Words.{spelled}
 use Rattle.crd_reading.proofs.reading.remove.Goals as goal
 

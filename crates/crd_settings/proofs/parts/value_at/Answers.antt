@@ -1,5 +1,5 @@
 use Rattle.std.proofs.Common.{sym, ◌∙◌}
-use Rattle.struct_schema.specs.Lookups.{value_at-field}
+use Rattle.struct_schema.specs.LookupLaws.{value_at-field}
 use Rattle.crd_settings.proofs.parts.value_at.Goals as goal
 
 pub returns : goal.returns

@@ -5,7 +5,7 @@ use Rattle.shared_api.specs.Base.{server_of}
 use Rattle.drill_steps.proofs.Alone.{still_alone}
 use Rattle.api_calls.specs.Item.{items}
 use Rattle.drill_steps.specs.declared.counts.Counts.{Counts}
-use Rattle.drill_steps.specs.Calling.{Replaces}
+use Rattle.drill_steps.specs.Calling.{CountsReplace}
 use Rattle.drill_steps.proofs.Counted.{gets, refused, standing}
 use Rattle.drill_steps.proofs.Results.{both_ok, on_ok}
 use Rattle.drill_steps.proofs.calls.edit_at.Goals as goal
@@ -27,7 +27,7 @@ returns-in-Ok-clause-edits g c = λ object is.
       answer = Ok (reply_of c.in-Ok.reply);
       mid = items c.get.new.pass.view.seen;
       requests = gets (server_of g.V.Versions.meaning c.args.api.now.base) _ c.args.pass.now.view c.get.new.pass.view (λ rose. let none : 0 < 0 = rose in omega (arith, none)) c.requires.alone (Ok (reply_of c.in-Ok.reply)) (λ e. cc) c.args.counts.now c.args.counts.now object answer.0 c.args.key.now is answer.2;
-      puts = subst (λ (got : List ℕ). Replaces (server_of g.V.Versions.meaning c.args.api.now.base) object c.args.value got (standing c.get.new.pass.view c.args.counts.now) (standing c.put_back.new.pass.view c.put_back.new.counts)) c.as_str.ensures replaces;
+      puts = subst (λ (got : List ℕ). CountsReplace (server_of g.V.Versions.meaning c.args.api.now.base) object c.args.value got (standing c.get.new.pass.view c.args.counts.now) (standing c.put_back.new.pass.view c.put_back.new.counts)) c.as_str.ensures replaces;
     })
 
 pub returns-in-Err-clause-edits : goal.returns-in-Err-clause-edits

@@ -3,7 +3,7 @@ use Rattle.std.specs.Io.KnownBytes.{prepend_known}
 use Rattle.http_wire.specs.declared.limits.TheConstants.{MOST_REQUESTS}
 use Rattle.shared_api.specs.Base.{server_of}
 use Rattle.shared_api.specs.Passes.{IsOf}
-use Rattle.http_front.specs.Steps.{Answers, IsSameBut, Quiet, point_of}
+use Rattle.http_front.specs.Steps.{StepAnswers, IsSameBut, Quiet, point_of}
 use Rattle.http_front.proofs.Talking.{SoFar}
 use Rattle.http_front.proofs.link.serve_requests.Given as goal
 
@@ -11,7 +11,7 @@ abbrev pub invariant-loop-count : goal.invariant-loop-count
 invariant-loop-count g l = record {
   of : IsOf g.V.Versions.meaning l.api l.pass;
   so_far : (n : ℕ) → l.fn.pass.view.number ≡ Some n
-      → SoFar (Answers (record { server = server_of g.V.Versions.meaning l.api.base; told = g.C.Clock.told l.clock }) n)
+      → SoFar (StepAnswers (record { server = server_of g.V.Versions.meaning l.api.base; told = g.C.Clock.told l.clock }) n)
       (point_of g.V.Tool.Tool.faults l.fn.pass) (point_of g.V.Tool.Tool.faults l.pass) l.count
       (g.S.Source.left l.fn.input) (prepend_known l.inbox.bytes (g.S.Source.left l.input)) (g.K.Sink.written l.fn.output) (g.K.Sink.written l.output);
   same : IsSameBut l.fn.pass.view l.pass.view;

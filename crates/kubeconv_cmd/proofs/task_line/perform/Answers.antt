@@ -1,7 +1,7 @@
 use Rattle.edge_io.specs.Causes.{Rose}
 use Rattle.crd_versions.specs.Set.{definition_of}
 use Rattle.kubeconv_cmd.specs.Lines.{from_files}
-use Rattle.kubeconv_cmd.specs.Tasks.{Answers, AnswersTexts, Refuses, RefusesTexts, Broke}
+use Rattle.kubeconv_cmd.specs.Tasks.{AnswersDocument, AnswersTexts, RefusesDocument, RefusesTexts, Broke}
 use Rattle.kubeconv_cmd.specs.Refusal.{RefusesNamed, IsServed}
 use Rattle.kubeconv_cmd.specs.Given.{task_of}
 use Rattle.kubeconv_cmd.proofs.TaskLemmas.{on_err, wrote_texts, broke_texts, refuses_texts, past, refused_file}
@@ -19,8 +19,8 @@ returns-in-Ok-clause-failed g c = λ k r b texts left.
     let t = task_of c.args.task in
     let before = g.K.Sink.written c.args.output.now in
     let now = g.K.Sink.written c.do_task.new.output in
-    on_err (Rose (g.S.Source.faults c.args.input.now) (g.S.Source.faults c.do_task.new.input)) (Unit {0}) (Broke (Answers d t b) before now) (Broke (AnswersTexts k r t b) before now)
-    (λ _ _. ⊥) (λ _ _. Unit {0}) (Refuses d b t) (RefusesTexts k r t b) c.do_task.result
+    on_err (Rose (g.S.Source.faults c.args.input.now) (g.S.Source.faults c.do_task.new.input)) (Unit {0}) (Broke (AnswersDocument d t b) before now) (Broke (AnswersTexts k r t b) before now)
+    (λ _ _. ⊥) (λ _ _. Unit {0}) (RefusesDocument d b t) (RefusesTexts k r t b) c.do_task.result
     (λ x. tt) (λ x. broke_texts k r found.0 d t b before now found.1 found.2 x) (λ f w x. tt) (λ why h. refuses_texts k r found.0 d t b why found.1 found.2 h) (c.do_task.ensures.failed b left)
 
 pub returns-in-Ok-clause-served : goal.returns-in-Ok-clause-served

@@ -2,7 +2,7 @@ use Rattle.std.proofs.Common.{◌≡◌, List, ℕ}
 use Rattle.edge_io.specs.Causes.{Rose}
 use Rattle.crd_versions.specs.Set.{definition_of}
 use Rattle.kubeconv_cmd.specs.Lines.{convert, review}
-use Rattle.kubeconv_cmd.specs.Tasks.{IsVersion, Refuses, no_version}
+use Rattle.kubeconv_cmd.specs.Tasks.{IsVersionNamed, RefusesDocument, no_version}
 use Rattle.kubeconv_cmd.specs.Halts.{NoValue, NoAnswer}
 use Rattle.kubeconv_cmd.proofs.TaskLemmas.{on_halt, on_err, no_value, unknown_version, converts, no_answer, answers}
 use Rattle.kubeconv_cmd.proofs.tasks.answer_input.Goals as goal
@@ -10,22 +10,22 @@ use Rattle.kubeconv_cmd.proofs.tasks.answer_input.Goals as goal
 pub returns-in-Some-clause-answered : goal.returns-in-Some-clause-answered
 returns-in-Some-clause-answered g c = λ b left.
     let d = definition_of c.args.versions.now in
-    let is : IsVersion d c.in-Convert.to.now c.in-Some.version = record { known = c.in-Some.ensures.0; named = c.in-Some.ensures.1 } in
+    let is : IsVersionNamed d c.in-Convert.to.now c.in-Some.version = record { known = c.in-Some.ensures.0; named = c.in-Some.ensures.1 } in
     rw c.in-Convert.is (converts c.convert_input.result d c.in-Convert.to.now c.in-Some.version b is (c.convert_input.ensures.value b left))
 
 pub returns-in-Some-clause-none : goal.returns-in-Some-clause-none
 returns-in-Some-clause-none g c = λ b left.
     let d = definition_of c.args.versions.now in
-    let is : IsVersion d c.in-Convert.to.now c.in-Some.version = record { known = c.in-Some.ensures.0; named = c.in-Some.ensures.1 } in
+    let is : IsVersionNamed d c.in-Convert.to.now c.in-Some.version = record { known = c.in-Some.ensures.0; named = c.in-Some.ensures.1 } in
     let rose = Rose (g.S.Source.faults c.args.input.now) (g.S.Source.faults c.convert_input.new.input) in
-    rw c.in-Convert.is (on_err rose rose ⊥ ⊥ (λ _ _. ⊥) (λ _ _. ⊥) (NoValue d c.in-Some.version b) (Refuses d b (convert c.in-Convert.to.now)) c.convert_input.result
+    rw c.in-Convert.is (on_err rose rose ⊥ ⊥ (λ _ _. ⊥) (λ _ _. ⊥) (NoValue d c.in-Some.version b) (RefusesDocument d b (convert c.in-Convert.to.now)) c.convert_input.result
     (λ x. x) (λ x. x) (λ f w x. x) (λ why h. no_value d c.in-Convert.to.now c.in-Some.version b why is h) (c.convert_input.ensures.none b left))
 
 pub returns-in-None-clause-none : goal.returns-in-None-clause-none
 returns-in-None-clause-none g c = λ b left.
     let d = definition_of c.args.versions.now in
     let rose = Rose (g.S.Source.faults c.args.input.now) (g.S.Source.faults c.args.input.now) in
-    rw c.in-Convert.is (on_halt ⊥ rose ⊥ ⊥ (λ _ _. ⊥) (λ _ _. ⊥) (λ (why : List ℕ). why ≡ no_version c.in-Convert.to.now) (Refuses d b (convert c.in-Convert.to.now)) c.no_version.result
+    rw c.in-Convert.is (on_halt ⊥ rose ⊥ ⊥ (λ _ _. ⊥) (λ _ _. ⊥) (λ (why : List ℕ). why ≡ no_version c.in-Convert.to.now) (RefusesDocument d b (convert c.in-Convert.to.now)) c.no_version.result
     (λ x. absurd x) (λ x. x) (λ f w x. x) (λ why e. unknown_version d c.in-Convert.to.now b why c.in-None.ensures e) c.no_version.ensures)
 
 pub returns-in-Review-clause-answered : goal.returns-in-Review-clause-answered
@@ -36,5 +36,5 @@ pub returns-in-Review-clause-none : goal.returns-in-Review-clause-none
 returns-in-Review-clause-none g c = λ b left.
     let d = definition_of c.args.versions.now in
     let rose = Rose (g.S.Source.faults c.args.input.now) (g.S.Source.faults c.review_input.new.input) in
-    rw c.in-Review.is (on_err rose rose ⊥ ⊥ (λ _ _. ⊥) (λ _ _. ⊥) (NoAnswer b) (Refuses d b review) c.review_input.result
+    rw c.in-Review.is (on_err rose rose ⊥ ⊥ (λ _ _. ⊥) (λ _ _. ⊥) (NoAnswer b) (RefusesDocument d b review) c.review_input.result
     (λ x. x) (λ x. x) (λ f w x. x) (λ why h. no_answer d b why h) (c.review_input.ensures.none b left))

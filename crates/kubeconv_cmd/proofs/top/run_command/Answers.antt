@@ -5,7 +5,7 @@ use Rattle.kubeconv_cmd.specs.Lines.{Named, Task, Line, Service, pipe, task, dri
 use Rattle.kubeconv_cmd.specs.Listening.{Announced, SaysOfService}
 use Rattle.kubeconv_cmd.specs.Beside.{RunsService, ServesAll}
 use Rattle.kubeconv_cmd.specs.Tasks.{RefusesTexts, Wrote, Broke}
-use Rattle.kubeconv_cmd.specs.Serving.{Ran, Converses, DrillsTexts, Held, IsUnheld}
+use Rattle.kubeconv_cmd.specs.Serving.{Ran, Converses, DrillsTexts, WasHeld, IsUnheld}
 use Rattle.kubeconv_cmd.specs.Refusal.{RefusesNamed, RefusesSome}
 use Rattle.kubeconv_cmd.specs.Status.{refusal_line, line_saying}
 use Rattle.kubeconv_cmd.specs.Given.{line_of, named_of, service_of, task_of}
@@ -118,7 +118,7 @@ returns-in-Pipe-clause-talk g c = λ line k r b is texts left nf nr nw.
 pub returns-in-Pipe-clause-held : goal.returns-in-Pipe-clause-held
 returns-in-Pipe-clause-held g c = λ named turns is.
     of_pipe (named_of c.in-Pipe.named) named c.in-Pipe.turns turns
-    (λ (n : Named) (t : ℕ). Held (λ end. (k r b : List ℕ) → Texts (g.F.Files.file c.args.files.now) n k r → g.S.Source.left c.args.input.now ≡ Some b
+    (λ (n : Named) (t : ℕ). WasHeld (λ end. (k r b : List ℕ) → Texts (g.F.Files.file c.args.files.now) n k r → g.S.Source.left c.args.input.now ≡ Some b
     → Converses k r t (record { boot = c.args.boot; told = g.C.Clock.told c.args.clock.now }) b (g.K.Sink.written c.args.output.now) (g.K.Sink.written c.run_pipe.new.output) end) (Rose (g.S.Source.faults c.args.input.now) (g.S.Source.faults c.run_pipe.new.input)) (Rose (g.K.Sink.faults c.args.output.now) (g.K.Sink.faults c.run_pipe.new.output)) c.run_pipe.result
     ⊎ (IsUnheld (Rose (g.F.Files.faults c.args.files.now) (g.F.Files.faults c.run_pipe.new.files)) c.run_pipe.result × (c.run_pipe.new.input ≡ c.args.input.now) × (c.run_pipe.new.output ≡ c.args.output.now)))
     (sym (ap line_of c.in-Pipe.is) ∙ is) c.run_pipe.ensures.held

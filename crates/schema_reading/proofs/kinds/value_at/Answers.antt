@@ -1,6 +1,6 @@
 use Rattle.std.proofs.Common.{List, ℕ, ap, sym, ◌∙◌}
 use Rattle.kj_value.specs.Fields.{field}
-use Rattle.struct_schema.specs.Lookups.{value_at-field}
+use Rattle.struct_schema.specs.LookupLaws.{value_at-field}
 use Rattle.schema_reading.specs.Words.{word}
 use Rattle.schema_reading.proofs.kinds.value_at.Goals as goal
 

@@ -4,7 +4,7 @@ use Rattle.api_calls.specs.Item.{items}
 use Rattle.api_calls.specs.Meaning.{Request}
 use Rattle.shared_api.specs.Base.{server_of}
 use Rattle.shared_api.specs.WriteTurns.{Rested}
-use Rattle.write_texts.specs.Replacing.{Goes}
+use Rattle.write_texts.specs.Replacing.{GoesOver}
 use Rattle.shared_api.specs.declared.cell.CoreBase.{CoreBase}
 use Rattle.shared_api.proofs.replace.enter.Given as goal
 
@@ -14,9 +14,9 @@ invariant-loop g l = record {
   rest : IsResting l.pass.seat.me.0;
   rises : g.V.Tool.Tool.faults l.initial.tool ≤ g.V.Tool.Tool.faults l.tool;
   known : (b : CoreBase g.row.V.Denot) (q : Request) → l.initial.pass.seat.me.0.base ≡ Some b
-      → Goes (g.V.Versions.meaning b.versions) q l.key (items l.initial.pass.seat.me.0.seen) l.change l.first
+      → GoesOver (g.V.Versions.meaning b.versions) q l.key (items l.initial.pass.seat.me.0.seen) l.change l.first
       → Rested (server_of g.V.Versions.meaning b) l.initial.pass.seat.me.0 l.pass.seat.me.0
-      × Goes (g.V.Versions.meaning b.versions) q l.key (items l.pass.seat.me.0.seen) l.change l.storage;
+      × GoesOver (g.V.Versions.meaning b.versions) q l.key (items l.pass.seat.me.0.seen) l.change l.storage;
   next : (goal.iterator-loop g).can_next l.iterator';
   finite : (goal.iterator-loop g).is_finite l.iterator';
 }

@@ -10,7 +10,7 @@ use Rattle.api_core.specs.Prepared.{PreparesValue, Replacing}
 use Rattle.shared_api.specs.Base.{server_of}
 use Rattle.write_texts.specs.Readying.{Tells}
 use Rattle.shared_api.specs.WriteTurns.{Commits, SeenAt, replaces}
-use Rattle.write_texts.specs.Replacing.{Replies}
+use Rattle.write_texts.specs.Replacing.{RepliesToReplace}
 use Rattle.shared_api.specs.declared.cell.CoreBase.{CoreBase}
 use Rattle.shared_api.proofs.Replaces.{over-attempts, over-born, over-seen}
 use Rattle.shared_api.proofs.Results.{failed-results}
@@ -83,5 +83,5 @@ returns-in-Ok-clause-tries g c b q is goes =
 pub returns-in-Err-clause-tries : goal.returns-in-Err-clause-tries
 returns-in-Err-clause-tries g c b q is goes =
     inl (failed-results (server_of g.V.Versions.meaning b) (g.V.Tool.Tool.faults c.args.tool.now < g.V.Tool.Tool.faults c.ready_over.new.tool) c.args.pass.now.seat.me.0
-    (Replies (server_of g.V.Versions.meaning b) q c.args.key.now) c.in-Err.fault (refusal_of c.from.result.refusal)
+    (RepliesToReplace (server_of g.V.Versions.meaning b) q c.args.key.now) c.in-Err.fault (refusal_of c.from.result.refusal)
     (λ tool. c.ready_over.ensures.tool (c.in-Err.is ∙ ap (λ (f : ConvFault). Err f) tool)) c.from.ensures)

@@ -10,7 +10,7 @@ use Rattle.api_core.specs.Prepared.{IsEnding}
 use Rattle.call_texts.specs.Told.{decided}
 use Rattle.shared_api.specs.Base.{server_of}
 use Rattle.shared_api.specs.WriteTurns.{Commits, SeenAt, releases}
-use Rattle.write_texts.specs.Replacing.{Replies}
+use Rattle.write_texts.specs.Replacing.{RepliesToReplace}
 use Rattle.shared_api.specs.declared.cell.CoreBase.{CoreBase}
 use Rattle.shared_api.proofs.Replaces.{ending-seen, release-born, release-results}
 use Rattle.shared_api.proofs.Results.{failed-results}
@@ -62,5 +62,5 @@ returns-in-Ok-clause-came g c b q storage is goes =
 pub returns-in-Err-clause-came : goal.returns-in-Err-clause-came
 returns-in-Err-clause-came g c b q storage is goes =
     failed-results (server_of g.V.Versions.meaning b) (g.V.Tool.Tool.faults c.args.tool.now < g.V.Tool.Tool.faults c.ready_release.new.tool) c.args.pass.now.seat.me.0
-    (Replies (server_of g.V.Versions.meaning b) q c.args.key.now) c.in-Err.fault (refusal_of c.from.result.refusal)
+    (RepliesToReplace (server_of g.V.Versions.meaning b) q c.args.key.now) c.in-Err.fault (refusal_of c.from.result.refusal)
     (λ tool. c.ready_release.ensures.tool (c.in-Err.is ∙ ap (λ (f : ConvFault). Err f) tool)) c.from.ensures

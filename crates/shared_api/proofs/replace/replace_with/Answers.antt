@@ -14,7 +14,7 @@ use Rattle.turn_cell.specs.declared.view.View.{View}
 use Rattle.call_texts.specs.Told.{decided}
 use Rattle.shared_api.specs.Base.{server_of}
 use Rattle.call_texts.specs.Faults.{admission}
-use Rattle.write_texts.specs.Replacing.{Changes, Goes, Refuses, Replies}
+use Rattle.write_texts.specs.Replacing.{Changes, GoesOver, RefusesReplace, RepliesToReplace}
 use Rattle.shared_api.specs.declared.cell.CoreBase.{CoreBase}
 use Rattle.write_texts.proofs.Overs.{goes, not_admitted-came, refuses-came, refuses-rises, stored-found, unserved-came}
 use Rattle.shared_api.proofs.Replaces.{looked_calls, seen-of, settled-join, settled_calls}
@@ -116,7 +116,7 @@ returns-in-Err-changing-clause-answer g c b is =
     (refuses-came s rose (items looked.log) r k p new refuses.0 weight
     (λ at x y bytes honest i j. c.one_stored.ensures b.versions at x y bytes (sym (g.met.V.Versions.told b.versions) ∙ honest) i j) sees may admits weighs e
     (refuses-rises s.meaning rose later k refuses.0 p.found new e (λ more. omega (arith, rises, more))
-    (subst (λ (x : g.row.V.Denot). Refuses (g.V.Versions.meaning x) later k refuses.0 p.found new e) versions refuses.2)))
+    (subst (λ (x : g.row.V.Denot). RefusesReplace (g.V.Versions.meaning x) later k refuses.0 p.found new e) versions refuses.2)))
 
 pub commit-requires-clause-base : goal.commit-requires-clause-base
 commit-requires-clause-base g c =
@@ -149,8 +149,8 @@ commit-requires-clause-goes g c =
     (subst (λ (x : g.row.V.Denot). WeighsIt (g.V.Versions.meaning x) new weight) base.2 c.in-Ok-admit.ensures.weighs) c.in-Ok-admit.ensures.weight
     (subst (λ (x : g.row.V.Denot). Changes (g.V.Versions.meaning x) r.version changes.0 weight p.found new change) base.2 changes.2) in (
       r,
-      subst (λ (x : g.row.V.Denot). Goes (g.V.Versions.meaning x) r k (items c.look.new.pass.seat.me.0.seen) change p.flags.storage) (sym base.2)
-          (subst (λ (l : List Logged). Goes s.meaning r k (items l) change p.flags.storage) (sym (seen-of s c.args.pass.now.seat.me.0 c.look.new.pass.seat.me.0 looked.log looked.reads)) here),
+      subst (λ (x : g.row.V.Denot). GoesOver (g.V.Versions.meaning x) r k (items c.look.new.pass.seat.me.0.seen) change p.flags.storage) (sym base.2)
+          (subst (λ (l : List Logged). GoesOver s.meaning r k (items l) change p.flags.storage) (sym (seen-of s c.args.pass.now.seat.me.0 c.look.new.pass.seat.me.0 looked.log looked.reads)) here),
     )
 
 pub returns-clause-answer : goal.returns-clause-answer
@@ -182,11 +182,11 @@ returns-clause-answer g c b is =
     (subst (λ (x : g.row.V.Denot). WeighsIt (g.V.Versions.meaning x) new weight) versions c.in-Ok-admit.ensures.weighs) c.in-Ok-admit.ensures.weight
     (subst (λ (x : g.row.V.Denot). Changes (g.V.Versions.meaning x) r.version changes.0 weight p.found new change) versions changes.2) in
     let there : w.base ≡ Some b = ap (λ (q : View (CoreBase g.row.V.Denot)). q.base) looked.reads.turned.3 ∙ is in
-    let on = subst (λ (l : List Logged). Goes s.meaning r k (items l) change p.flags.storage) (sym (seen-of s v w looked.log looked.reads)) here in
+    let on = subst (λ (l : List Logged). GoesOver s.meaning r k (items l) change p.flags.storage) (sym (seen-of s v w looked.log looked.reads)) here in
     let came = c.commit.ensures.came b r there on in
     let first = c.admit.ensures.rises in
     let second = c.changing.ensures.rises in
     let rose = g.V.Tool.Tool.faults c.args.tool.now < g.V.Tool.Tool.faults c.commit.new.tool in
     let later = g.V.Tool.Tool.faults c.changing.new.tool < g.V.Tool.Tool.faults c.commit.new.tool in
     settled_calls s rose v w z looked.log r k (decided c.commit.result) looked.reads
-    (settled-join s rose later w w z (Replies s r k) (decided c.commit.result) (λ more. omega (arith, first, second, more)) (inl refl) came)
+    (settled-join s rose later w w z (RepliesToReplace s r k) (decided c.commit.result) (λ more. omega (arith, first, second, more)) (inl refl) came)

@@ -1,7 +1,7 @@
 use Rattle.std.proofs.Common.{not, Option, ap, sym, ◌∙◌}
 use Rattle.std.specs.Prelude.{is_some}
 use Rattle.kj_value.specs.Json.{Json}
-use Rattle.struct_schema.specs.Lookups.{value_at-field}
+use Rattle.struct_schema.specs.LookupLaws.{value_at-field}
 use Rattle.struct_schema.proofs.keywords.is_missing.Goals as goal
 
 pub returns-in-None : goal.returns-in-None

@@ -6,7 +6,7 @@ use Rattle.kj_value.specs.Fields.{Pairs, field}
 use Rattle.kj_value.specs.declared.value.JVal.{JVal}
 use Rattle.kube_meta.specs.Document.{metadata}
 use Rattle.versions_fixture.specs.Parts.{meta_at, field_name, text_in}
-use Rattle.versions_fixture.specs.Documents.{object_one, field-value}
+use Rattle.versions_fixture.specs.DocumentLaws.{object_one, field-value}
 use Rattle.versions_fixture.proofs.Found.{fields_are, found_metadata, metadata_object, metadata_there, text_back}
 use Rattle.versions_fixture.proofs.reading.fields_parts.Goals as goal
 

@@ -3,7 +3,7 @@ use Rattle.std.specs.Prelude.{option_map, option_and_then}
 use Rattle.kj_value.specs.Fields.{Pairs, field}
 use Rattle.kube_meta.specs.View.{stamp_bytes}
 use Rattle.versions_fixture.specs.Parts.{text_in, number_in}
-use Rattle.versions_fixture.specs.Documents.{field-created, field-deleted, field-generation, field-name, field-namespace}
+use Rattle.versions_fixture.specs.DocumentLaws.{field-created, field-deleted, field-generation, field-name, field-namespace}
 use Rattle.versions_fixture.proofs.Found.{text_back, number_back}
 use Rattle.versions_fixture.proofs.reading.metadata_parts.Goals as goal
 

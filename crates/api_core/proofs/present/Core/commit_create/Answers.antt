@@ -4,7 +4,7 @@ use Rattle.record_store.specs.View.{item_key}
 use Rattle.record_store.specs.Moves.{with_new}
 use Rattle.record_store.specs.Room.{put_end}
 use Rattle.record_store.specs.declared.record.NewRecord.{NewRecord}
-use Rattle.api_core.specs.Creating.{create-seen, create-moved, create-refused_present, create-refused_full, create-written}
+use Rattle.api_core.proofs.Creating.{create-seen, create-moved, create-refused_present, create-refused_full, create-written}
 use Rattle.api_core.proofs.present.Core.commit_create.Goals as goal
 
 pub returns-in_default-clause-turn : goal.returns-in_default-clause-turn

@@ -5,8 +5,8 @@ use Rattle.record_store.specs.Moves.{with_new}
 use Rattle.record_store.specs.declared.record.NewRecord.{NewRecord}
 use Rattle.api_core.specs.declared.seen.Prepared.{Prepared}
 use Rattle.api_core.specs.Prepared.{FitsAt, record_for}
-use Rattle.api_core.specs.Removing.{delete-gone, delete-newer, delete-removed}
-use Rattle.api_core.specs.Replacing.{mark-gone, mark-newer, mark-moved, mark-written}
+use Rattle.api_core.proofs.Removing.{delete-gone, delete-newer, delete-removed}
+use Rattle.api_core.proofs.Replacing.{mark-gone, mark-newer, mark-moved, mark-written}
 use Rattle.api_core.proofs.Ready.{one_some, of_some}
 use Rattle.api_core.proofs.present.Core.commit_delete.Goals as goal
 

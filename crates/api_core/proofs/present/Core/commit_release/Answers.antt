@@ -1,5 +1,5 @@
 use Rattle.std.proofs.Common.{◌∙◌, sym}
-use Rattle.api_core.specs.Removing.{release-gone, release-newer, release-removed}
+use Rattle.api_core.proofs.Removing.{release-gone, release-newer, release-removed}
 use Rattle.api_core.proofs.present.Core.commit_release.Goals as goal
 
 pub returns-in_default-clause-turn : goal.returns-in_default-clause-turn

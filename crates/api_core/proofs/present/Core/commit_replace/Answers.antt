@@ -4,7 +4,7 @@ use Rattle.record_store.specs.View.{item_key}
 use Rattle.record_store.specs.Moves.{with_new}
 use Rattle.record_store.specs.Room.{put_end}
 use Rattle.record_store.specs.declared.record.NewRecord.{NewRecord}
-use Rattle.api_core.specs.Replacing.{replace-gone, replace-newer, replace-moved, replace-refused_full, replace-written}
+use Rattle.api_core.proofs.Replacing.{replace-gone, replace-newer, replace-moved, replace-refused_full, replace-written}
 use Rattle.api_core.proofs.present.Core.commit_replace.Goals as goal
 
 pub returns-in_default-clause-turn : goal.returns-in_default-clause-turn

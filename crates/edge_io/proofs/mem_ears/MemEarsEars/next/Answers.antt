@@ -1,7 +1,7 @@
 use Rattle.std.proofs.Common.{◌≡◌, ap, refl, arith, length}
 use Rattle.std.proofs.lemmas.List.{map-append, length-map}
 use Rattle.edge_io.specs.Memory.{origin_of}
-use Rattle.edge_io.specs.Numbered.{numbered-next}
+use Rattle.edge_io.specs.NumberLaws.{numbered-next}
 use Rattle.edge_io.proofs.mem_ears.MemEarsEars.next.Goals as goal
 
 pub returns-in-Ok-clause-origins : goal.returns-in-Ok-clause-origins

@@ -15,7 +15,7 @@ use Rattle.api_core.specs.View.{CoreView}
 use Rattle.api_core.specs.Keeps.{IsFound}
 use Rattle.api_core.specs.Stands.{Stands}
 use Rattle.api_core.specs.Prepared.{FitsAt}
-use Rattle.api_core.specs.Pairing.{pairs-find}
+use Rattle.api_core.specs.PairLaws.{pairs-find}
 use Rattle.api_core.specs.Ready.{IsNext}
 use Rattle.api_core.specs.CoreLaws.{next-later}
 use Rattle.core_laws.specs.Known.{Matches, WasAsked}

@@ -23,8 +23,8 @@ use Rattle.api_core.specs.View.{CoreView}
 use Rattle.api_core.specs.Stands.{Stands}
 use Rattle.api_core.specs.Ends.{start_end}
 use Rattle.api_core.specs.WorkRows.{migrations_of}
-use Rattle.api_core.specs.Sets.{after_storage, set-same, set-done, set-effect, Stays, Decided}
-use Rattle.api_core.specs.Trims.{unkept, until, held_from, first_held-parts, pairs-first_held, trim-unknown, trim-held, trim-same, trim-done, all-unkept}
+use Rattle.api_core.proofs.Sets.{after_storage, set-same, set-done, set-effect, Stays, Decided}
+use Rattle.api_core.specs.TrimLaws.{unkept, until, held_from, first_held-parts, pairs-first_held, trim-unknown, trim-held, trim-same, trim-done, all-unkept}
 use Rattle.api_core.specs.Steps.{migrations-stand, stands-still, stands-same, number-stand}
 
 module _ (m : Meaning) (c : CoreView) (log : List Item) (st : Stands m c log) where

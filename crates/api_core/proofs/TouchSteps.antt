@@ -30,10 +30,10 @@ use Rattle.api_core.specs.View.{CoreView}
 use Rattle.api_core.specs.Keeps.{KeepsObject, IsFound}
 use Rattle.api_core.specs.Stands.{Stands}
 use Rattle.api_core.specs.Prepared.{PreparesValue, KnownAt, FitsAt, record_for}
-use Rattle.api_core.specs.Pairing.{find-key, updated-put, pairs-find}
-use Rattle.api_core.specs.Growing.{Puts, written, written-stands}
+use Rattle.api_core.specs.PairLaws.{find-key, updated-put, pairs-find}
+use Rattle.api_core.proofs.Growing.{Puts, written, written-stands}
 use Rattle.api_core.specs.WorkRows.{row_of, elsewhere-rows}
-use Rattle.api_core.specs.Touches.{touch-missed, touch-done, work_of-target}
+use Rattle.api_core.proofs.Touches.{touch-missed, touch-done, work_of-target}
 use Rattle.api_core.specs.Steps.{item_row, migrations-stand, rows-stand, number-stand}
 use Rattle.api_core.specs.Ready.{is_ready_item, IsFirst, IsNext}
 use Rattle.api_core.specs.Turned.{WorkerTurned}

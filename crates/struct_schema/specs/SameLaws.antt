@@ -10,8 +10,8 @@ use Rattle.std.proofs.lemmas.Bool.Decides.{Decides-eqb}
 use Rattle.std.proofs.lemmas.Slice.Eq.{bytes_eq-Decides}
 use Rattle.kj_value.specs.Json.{Json, items_of}
 use Rattle.kj_value.specs.Same.{json_same, items_same}
-use Rattle.kj_value.specs.Sameness.{json_same-Decides, items_same-Decides}
-use Rattle.struct_schema.specs.KindNumber.{kind_number, kind_back, kind_back-kind_number, format_number, format_back, format_back-format_number}
+use Rattle.kj_value.specs.SameLaws.{json_same-Decides, items_same-Decides}
+use Rattle.struct_schema.specs.KindLaws.{kind_number, kind_back, kind_back-kind_number, format_number, format_back, format_back-format_number}
 use Rattle.struct_schema.specs.declared.kind.NodeKind.{NodeKind}
 use Rattle.struct_schema.specs.declared.kind.IntFormat.{IntFormat}
 use Rattle.struct_schema.specs.Shape.{Own, Shape, shape, Shapes, no_shapes, shape_at, MaybeShapes, no_map, some_map, MaybeShape, no_shape, some_shape, shapes_of}

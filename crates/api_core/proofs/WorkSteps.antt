@@ -15,7 +15,7 @@ use Rattle.api_calls.specs.WorkGuards.{MayFinish, turn-guard, give_back-guard}
 use Rattle.api_core.specs.View.{CoreView}
 use Rattle.api_core.specs.Stands.{Stands}
 use Rattle.api_core.specs.WorkRows.{migrations_of}
-use Rattle.api_core.specs.Works.{Advanced, advance-prepare, advance-done, advance-lost, Taken, Marked, Rests}
+use Rattle.api_core.proofs.Works.{Advanced, advance-prepare, advance-done, advance-lost, Taken, Marked, Rests}
 use Rattle.api_core.specs.Steps.{stands-still, stands-same, number-stand}
 use Rattle.api_core.specs.Turned.{WorkerTurned}
 

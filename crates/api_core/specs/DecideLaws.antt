@@ -19,7 +19,7 @@ use Rattle.api_calls.specs.Writes.{at_number}
 use Rattle.api_core.specs.View.{CoreView}
 use Rattle.api_core.specs.Keeps.{KeepsObject, IsFound}
 use Rattle.api_core.specs.Stands.{Stands}
-use Rattle.api_core.specs.Pairing.{pairs-find, looked-some, looked-none}
+use Rattle.api_core.specs.PairLaws.{pairs-find, looked-some, looked-none}
 
 -- ---- ends
 

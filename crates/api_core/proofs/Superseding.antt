@@ -11,7 +11,7 @@ use Rattle.api_calls.specs.Item.{Item}
 use Rattle.api_calls.specs.Objects.{Stored}
 use Rattle.api_calls.specs.State.{next_number, state}
 use Rattle.api_calls.specs.Snap.{Past, past, item_past, superseded, by_number, past_weight, floor, window}
-use Rattle.api_calls.specs.Growth.{superseded-more}
+use Rattle.api_calls.specs.GrowthLaws.{superseded-more}
 use Rattle.api_core.specs.Keeps.{KeepsObject, KeepsPast}
 
 append-none : (ps : List Past) → ps ++ [] ≡ ps
