@@ -1,5 +1,5 @@
 #!/usr/bin/env python3
-"""Times `kubeconv serve`, by three tables, of which each is a comparison within one run:
+"""Times `kubeconv serve`, by four tables, of which each is a comparison within one run:
 
 - rates: requests a second by 1, 4, 16 and 64 connections over loopback, and the processor time that a request takes of the
   server, each also as a ratio to one connection. A connection asks for one object after the other, and waits for each answer:
@@ -8,6 +8,9 @@
 - sizes: what a create, a get, a replace and a list of 500 take of the server while 1,000 and 16,000 objects stand, and how many
   times as long it takes with the most as with the fewest. A connection is answered 10,000 requests at most, so several come one
   after the other. What makes the objects isn't timed, nor are the deletes of those that were created to be timed.
+- callers: requests a second of one kind by 1, 2, 4 and 8 connections together, each of which asks of objects of its own, 16
+  requests at a time, while 1,000 and 16,000 objects stand; how many times as many that is as by one; and the processor time that
+  a request takes of the server. The clients take processors too, so that more connections than half of the processors show less.
 - memory: what the process holds with as many objects as a server may hold.
 
 Every answer is checked for its code. The program is built by `rt run` in its folder, or is the one of --program."""
@@ -21,7 +24,7 @@ import time
 
 from pipe import name_of
 from programs import best_of, built
-from serving import VERSIONS, Connection, Server, body_of, drawn_state, generator, number_of, path_of, request, seconds_now
+from serving import GROUP, VERSIONS, Connection, Server, body_of, drawn_state, generator, number_of, path_of, request, seconds_now
 
 CONNECTIONS = 1, 4, 16, 64
 # So many seconds a run may take.
@@ -34,6 +37,9 @@ CREATES = 300
 LISTS = 48
 # So many requests are sent before their answers are read.
 BATCH = 16
+# So many connections ask beside each other, so many gets or replaces in all.
+CALLERS = 1, 2, 4, 8
+ASKED = 9_600
 # A connection of its own makes so many objects.
 CREATED = 8_000
 
@@ -212,6 +218,124 @@ def print_sizes(program, options):
     sys.stdout.flush()
 
 
+# ---- callers
+
+
+def send_all(address, asked, wanted, gate, leave, done):
+    """One connection's requests, a batch at a time; in the end the numbers at which what it wrote stands."""
+    connection = Connection(address)
+    ask(connection, 200, "GET", GROUP)
+    done.put(None)
+    gate.wait()
+    bodies = []
+    for first in range(0, len(asked), BATCH):
+        batch = asked[first : first + BATCH]
+        connection.send(b"".join(batch))
+        for _ in batch:
+            code, text = connection.answer()
+            if code != wanted:
+                sys.exit(f"a request of {first} and the next is answered {code}")
+            bodies.append(text)
+    done.put(None)
+    # The server's thread is asked what it took before it ends.
+    leave.wait()
+    connection.close()
+    done.put([number_of(Connection.read(text)) for text in bodies] if asked[0].startswith(b"PUT") else [])
+
+
+def together(server, lists, wanted):
+    """Requests a second of connections that ask for these lists of requests beside each other, what one takes of the server, and the numbers that each wrote."""
+    gate, leave, started = multiprocessing.Event(), multiprocessing.Event(), []
+    for asked in lists:
+        done = multiprocessing.Queue()
+        started.append((multiprocessing.Process(target=send_all, args=(server.address, asked, wanted, gate, leave, done), daemon=True), done))
+        started[-1][0].start()
+    for _process, done in started:
+        done.get(timeout=PATIENCE)
+    used, start = server.thread_seconds(), seconds_now()
+    gate.set()
+    for _process, done in started:
+        done.get(timeout=PATIENCE)
+    seconds, used = seconds_now() - start, server.thread_seconds() - used
+    leave.set()
+    wrote = [done.get(timeout=PATIENCE) for _process, done in started]
+    for process, _done in started:
+        process.join()
+        if process.exitcode:
+            sys.exit("a client failed")
+    count = sum(map(len, lists))
+    return count / seconds, used / count, wrote
+
+
+def shares(filled, callers, count):
+    """So many turns of each caller, over objects of its own."""
+    own = len(filled.numbers) // callers
+    return [[caller * own + turn % own for turn in range(count // callers)] for caller in range(callers)]
+
+
+def get_beside(version):
+    def chore(filled, callers):
+        path = path_of(version, "default")
+        lists = [[request("GET", f"{path}/{name_of(turn)}") for turn in turns] for turns in shares(filled, callers, ASKED)]
+        return together(filled.server, lists, 200)[:2]
+
+    return chore
+
+
+def replace_beside(filled, callers):
+    turns = [own[: len(filled.numbers) // callers] for own in shares(filled, callers, ASKED)]
+    lists = []
+    for own in turns:
+        bodies = [body_of("v1beta1", name_of(turn), drawn_state(generator("edit", filled.numbers[turn])), filled.numbers[turn]) for turn in own]
+        lists.append([request("PUT", path_of("v1beta1", "default", name_of(turn)), body) for turn, body in zip(own, bodies)])
+    rate, each, wrote = together(filled.server, lists, 200)
+    for own, numbers in zip(turns, wrote):
+        for turn, number in zip(own, numbers):
+            filled.numbers[turn] = number
+    return rate, each
+
+
+def create_beside(filled, callers):
+    """Creates, which are deleted again, by as many connections as made them."""
+    first, each = len(filled.numbers), CREATES // callers
+    owns = [range(first + caller * each, first + (caller + 1) * each) for caller in range(callers)]
+    rate, seconds, _wrote = together(filled.server, [[creation(number) for number in own] for own in owns], 201)
+    together(filled.server, [[request("DELETE", path_of("v1beta1", "default", name_of(number))) for number in own] for own in owns], 200)
+    return rate, seconds
+
+
+def list_beside(filled, callers):
+    asked = [request("GET", path_of("v1beta1", "default") + "?limit=500")] * (LISTS // callers)
+    return together(filled.server, [asked] * callers, 200)[:2]
+
+
+BESIDE = {
+    "get at the stored version": get_beside("v1beta1"),
+    "get at the other version": get_beside("v1"),
+    "create": create_beside,
+    "replace": replace_beside,
+    "list of 500, stored": list_beside,
+}
+
+
+def print_callers(program, options):
+    """The third table."""
+    print(f"{'request':<26}{'objects':>8}{'connections':>12}{'a second':>10}{'to one':>8}{'us each':>9}{'to one':>8}")
+    for size in options.sizes:
+        filled, best = Filled(program, size), {}
+        for _ in range(options.runs):
+            for name, chore in BESIDE.items():
+                for callers in CALLERS:
+                    a_second, seconds = chore(filled, callers)
+                    before = best.get((name, callers), (0, float("inf")))
+                    best[name, callers] = max(before[0], a_second), min(before[1], seconds)
+        for (name, callers), (a_second, seconds) in best.items():
+            one = best[name, CALLERS[0]]
+            print(f"{name:<26}{size:>8}{callers:>12}{a_second:>10.0f}{a_second / one[0]:>8.2f}{seconds * 1e6:>9.1f}{seconds / one[1]:>8.2f}")
+        filled.server.stop()
+    sys.stdout.flush()
+
+
 # ---- memory
 
 
@@ -235,7 +359,7 @@ def print_memory(program, options):
     server.stop()
 
 
-TABLES = {"rates": print_rates, "sizes": print_sizes, "memory": print_memory}
+TABLES = {"rates": print_rates, "sizes": print_sizes, "callers": print_callers, "memory": print_memory}
 
 
 def main():
@@ -246,7 +370,7 @@ def main():
     parser.add_argument("--runs", type=int, default=3, help="runs of each kind; the best one counts (default: 3)")
     parser.add_argument("--workers", type=int, default=2, help="workers beside the rates and the memory (default: 2)")
     parser.add_argument("--sizes", type=int, nargs="+", default=SIZES, help="so many objects stand (default: 1000 16000)")
-    parser.add_argument("tables", nargs="*", metavar="TABLE", help="rates, sizes, memory (default: all)")
+    parser.add_argument("tables", nargs="*", metavar="TABLE", help="rates, sizes, callers, memory (default: all)")
     options = parser.parse_args()
     program = built("kubeconv", options.program, "pipe")
     for name in options.tables or TABLES:
