@@ -3,12 +3,12 @@ use Rattle.std.proofs.Common.{◌≡◌, ℕ, suc, ◌+◌, ◌≤◌, List, [],
 use Rattle.std.specs.Prelude.{not, is_some, MatchBool}
 use Rattle.kj_value.specs.Json.{Json, null, boolean, whole, text, list, object, Members, depth, members_of}
 use Rattle.kj_value.specs.Fields.{Pairs, field}
+use Rattle.kj_value.specs.KindLaws.{pairs_members}
 use Rattle.struct_schema.specs.Shape.{Shape, shape, own, properties, MaybeShape, no_shape, some_shape}
 use Rattle.struct_schema.specs.Names.{value_at, property, or_shape, shape_for, passes}
 use Rattle.struct_schema.specs.Keywords.{has_kind, is_chosen, is_within, keeps}
 use Rattle.struct_schema.specs.Valid.{valid, members_valid}
 use Rattle.struct_schema.specs.Filled.{is_object, PresentFilled, PropertyFilled, Filled, NameFilled, RestFilled}
-use Rattle.struct_schema.specs.LookupLaws.{value_at-field}
 use Rattle.struct_schema.specs.Own.{to_name, of_name}
 use Rattle.struct_schema.specs.declared.kind.NodeKind.{NodeKind}
 use Rattle.hub_cells.specs.declared.allowed.TheConstants.{STORED_LEVELS}
@@ -103,7 +103,7 @@ known_name n s x c b k j q =
     by_shape (property k (properties s)) refl (filled_at s (members_of x) c b.filled k)
   where
     by_shape : (m : MaybeShape) → property k (properties s) ≡ m → FilledAt m (value_at k (members_of x)) → HasShape s k
-    by_shape no_shape e h = absurd (none_some j (sym h ∙ value_at-field k x ∙ q))
+    by_shape no_shape e h = absurd (none_some j (sym h ∙ ap (field k) (pairs_members x) ∙ q))
     by_shape (some_shape t) e h = (t, e)
 
 pub body_names : (n : ℕ) (s : Shape) (x : Pairs) → IsClosedObject s → IsBody n s x → (k : Name) (t : Shape) → property k (properties s) ≡ some_shape t → AtName n s k t (field k x)
@@ -120,11 +120,11 @@ body_names n s x c b k t e = by_value (field k x) refl
 
     filled_here : (o : Option Json) → field k x ≡ o → FilledAt (some_shape t) o
     filled_here o q =
-        subst (λ (m : MaybeShape). FilledAt m o) e (subst (λ (v : Option Json). FilledAt (property k (properties s)) v) (value_at-field k x ∙ q) (filled_at s (members_of x) c b.filled k))
+        subst (λ (m : MaybeShape). FilledAt m o) e (subst (λ (v : Option Json). FilledAt (property k (properties s)) v) (ap (field k) (pairs_members x) ∙ q) (filled_at s (members_of x) c b.filled k))
 
     by_required : (r : Bool) → is_required k s ≡ r → field k x ≡ None → r ≡ false
     by_required false h q = refl
-    by_required true h q = absurd (lies (ap is_some (sym (value_at-field k x ∙ q)) ∙ there k h))
+    by_required true h q = absurd (lies (ap is_some (sym (ap (field k) (pairs_members x) ∙ q)) ∙ there k h))
 
     by_value : (o : Option Json) → field k x ≡ o → AtName n s k t o
     by_value None q = (by_required (is_required k s) refl q, sym (filled_here None q))
@@ -147,7 +147,7 @@ module _ (n : ℕ) (s : Shape) (x : Pairs) (c : IsClosedObject s) (rising : IsRi
     where
       by_value : (o : Option Json) → field k x ≡ o → AtName n s k (named k h).0 o → is_some (value_at k (members_of x)) ≡ true
       by_value None q g = absurd (lies (sym g.0 ∙ h))
-      by_value (Some j) q g = ap is_some (value_at-field k x ∙ q)
+      by_value (Some j) q g = ap is_some (ap (field k) (pairs_members x) ∙ q)
 
   valid_at : (k : Name) (j : Json) → field k x ≡ Some j → passes (shape_for s k) (λ t. valid t j) ≡ true
   valid_at k j q =
@@ -159,7 +159,7 @@ module _ (n : ℕ) (s : Shape) (x : Pairs) (c : IsClosedObject s) (rising : IsRi
 
   filled_name : (k : Name) → FilledAt (property k (properties s)) (value_at k (members_of x))
   filled_name k =
-      subst (λ (v : Option Json). FilledAt (property k (properties s)) v) (sym (value_at-field k x)) (by_shape (property k (properties s)) refl (field k x) refl)
+      subst (λ (v : Option Json). FilledAt (property k (properties s)) v) (sym (ap (field k) (pairs_members x))) (by_shape (property k (properties s)) refl (field k x) refl)
     where
       by_shape : (m : MaybeShape) → property k (properties s) ≡ m → (o : Option Json) → field k x ≡ o → FilledAt m o
       by_shape no_shape e None q = refl

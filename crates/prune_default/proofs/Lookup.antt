@@ -6,7 +6,7 @@ use Rattle.std.proofs.lemmas.Cmp.{nat_list_cmp_total}
 use Rattle.std.proofs.lemmas.Slice.Eq.{bytes_eq-Decides}
 use Rattle.std.proofs.lemmas.Map.Text.{is_eq-slice_cmp}
 use Rattle.kj_value.specs.Json.{Json, Members, no_members, member, members_of}
-use Rattle.kj_value.specs.Fields.{Pairs, field, with_field}
+use Rattle.kj_value.specs.Fields.{Pairs, with_field}
 use Rattle.kj_value.specs.Sound.{IsSoundJson, ComesFirst, AreRising}
 use Rattle.struct_schema.specs.Names.{is_name, value_at}
 
@@ -19,10 +19,6 @@ own_name k = is_eq-slice_cmp k k ∙ (bytes_eq-Decides k k).1 refl
 -- a name is none that comes before it
 pub other_name : (k n : List ℕ) → slice_cmp nat_cmp k n ≡ Less → is_name n k ≡ false
 other_name k n p = ap is_eq (nat_list_cmp_total.antisymm n k ∙ ap ordering_reverse p)
-
-pub value_at-field : (k : List ℕ) (es : Pairs) → value_at k (members_of es) ≡ field k es
-value_at-field k [] = refl
-value_at-field k (e ∷ es) = ap (cond (is_name k e.0) (Some e.1)) (value_at-field k es)
 
 -- ---- with a value at a name
 

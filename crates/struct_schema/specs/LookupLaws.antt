@@ -1,14 +1,10 @@
--- What stands at a name, in a list of pairs and in what is written out of it.
+-- The schema at a name, in a list of pairs and in what is written out of it, and how many items there are.
 use Rattle.std.proofs.Common.{◌≡◌, ℕ, suc, List, [], ◌∷◌, length, Bool, true, false, cond, Some, refl, ap, sym}
-use Rattle.kj_value.specs.Json.{Json, items_of, members_of}
-use Rattle.kj_value.specs.Fields.{Pairs, field}
+use Rattle.kj_value.specs.Json.{Json, items_of}
+use Rattle.kj_value.specs.Fields.{field}
 use Rattle.struct_schema.specs.Shape.{Shape, shapes_of, maybe_of}
-use Rattle.struct_schema.specs.Names.{is_name, value_at, shape_named}
+use Rattle.struct_schema.specs.Names.{is_name, shape_named}
 use Rattle.struct_schema.specs.Keywords.{item_count}
-
-pub value_at-field : (k : List ℕ) (es : Pairs) → value_at k (members_of es) ≡ field k es
-value_at-field k [] = refl
-value_at-field k (e ∷ es) = ap (cond (is_name k e.0) (Some e.1)) (value_at-field k es)
 
 pub shape_named-field : (k : List ℕ) (es : List (List ℕ × Shape)) → maybe_of (field k es) ≡ shape_named k (shapes_of es)
 shape_named-field k [] = refl

@@ -1,8 +1,10 @@
 -- What stands at a name: the value in an object, and the schema that a node has for it.
-use Rattle.std.specs.Prelude.{ℕ, List, Bool, true, Option, Some, None, cond}
+use Rattle.std.specs.Prelude.{ℕ, List, Bool, true, Option, cond}
 use Rattle.std.specs.Ordering.{nat_cmp, is_eq}
 use Rattle.std.specs.Cmp.Lexicographic.{slice_cmp}
-use Rattle.kj_value.specs.Json.{Json, Members, no_members, member}
+use Rattle.kj_value.specs.Json.{Json, Members}
+use Rattle.kj_value.specs.Fields.{field}
+use Rattle.kj_value.specs.Kinds.{pairs_of}
 use Rattle.struct_schema.specs.Shape.{Shape, shape, Shapes, no_shapes, shape_at, MaybeShapes, no_map, some_map, MaybeShape, no_shape, some_shape}
 
 -- two names are one
@@ -10,8 +12,7 @@ abbrev pub is_name : List ℕ → List ℕ → Bool
 is_name k l = is_eq (slice_cmp nat_cmp k l)
 
 abbrev pub value_at : List ℕ → Members → Option Json
-value_at k no_members = None
-value_at k (member l j ms) = cond (is_name k l) (Some j) (value_at k ms)
+value_at k ms = field k (pairs_of ms)
 
 abbrev pub shape_named : List ℕ → Shapes → MaybeShape
 shape_named k no_shapes = no_shape
