@@ -1,11 +1,12 @@
 -- A body starts one migration or is refused, and not both.
-use Rattle.std.proofs.Common.{◌≡◌, ◌∙◌, ℕ, ◌<◌, ◌≤◌, List, [], ◌∷◌, Option, Some, None, Bool, true, false, subst, ap, sym, refl, arith}
+use Rattle.std.proofs.Common.{◌≡◌, ◌∙◌, ℕ, ◌<◌, ◌≤◌, List, Option, Some, None, Bool, true, false, subst, ap, sym, refl, arith}
 use Rattle.std.specs.Prelude.{nat_le, codes}
 use Rattle.std.proofs.lemmas.Bool.Decides.{nat_tests}
 use Rattle.serde_json.specs.Data as serde
 use Rattle.kj_value.specs.Json.{Json, text, object, Members, members_of}
 use Rattle.kj_value.specs.Reading.{Reads, IsReading, json_of}
 use Rattle.kj_value.specs.Fields.{Pairs, field}
+use Rattle.kj_value.specs.KindLaws.{pairs_members}
 use Rattle.kube_meta.specs.Names.{is_name}
 use Rattle.api_calls.specs.Cause.{CauseView, not_json, too_deep, not_whole, not_object, wrong_version, wrong_kind, wrong_namespace, wrong_name, bad_query, bad_token, bad_options}
 use Rattle.api_calls.specs.Meaning.{Meaning, Fault, bad_request, invalid}
@@ -20,10 +21,6 @@ IsOneReading = (bytes : List ℕ) (m n : ℕ) (j k : Json) → Reads bytes m j �
 one_data : (bytes : List ℕ) (d e : serde.Data) → IsReading bytes d → IsReading bytes e → d ≡ e
 one_data bytes d e a b = let same : Some d ≡ Some e = sym a.1 ∙ b.1 in cc
 
-fields_of-members_of : (ps : Pairs) → fields_of (members_of ps) ≡ ps
-fields_of-members_of [] = refl
-fields_of-members_of (p ∷ ps) = ap (λ (qs : Pairs). p ∷ qs) (fields_of-members_of ps)
-
 object_members : (ms ns : Members) → object ms ≡ object ns → ms ≡ ns
 object_members ms ns e = cc
 
@@ -34,7 +31,7 @@ module _ (one_reading : IsOneReading) (m : Meaning) (body : List ℕ) where
   one_fields : (ps qs : Pairs) → ReadsObject body ps → ReadsObject body qs → ps ≡ qs
   one_fields ps qs a b =
       let same = object_members _ _ (one_reading body OBJECT_LEVELS OBJECT_LEVELS _ _ a b) in
-      sym (fields_of-members_of ps) ∙ ap fields_of same ∙ fields_of-members_of qs
+      sym (pairs_members ps) ∙ ap fields_of same ∙ pairs_members qs
 
   pub one_name : (n k : List ℕ) → Starts m body n → Starts m body k → n ≡ k
   one_name n k a b = sym a.named ∙ ap given_name (one_fields a.fields b.fields a.reads b.reads) ∙ b.named
