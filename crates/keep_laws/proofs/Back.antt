@@ -1,8 +1,8 @@
 -- Marks are read back from the fields and entries that they were written as, and so each whole object is paired with exactly one of the other side.
 use Rattle.std.proofs.Common.{◌≡◌, ℕ, suc, ◌+◌, Bool, List, [], ◌∷◌, ◌++◌, length, Option, Some, None, length-append, refl, ap, ap₂, sym, subst, ◌∙◌, arith}
 use Rattle.std.proofs.lemmas.List.{map-append}
-use Rattle.kj_value.specs.Json.{members_of}
 use Rattle.kj_value.specs.Fields.{Pairs, field}
+use Rattle.kj_value.specs.KindLaws.{pairs_members}
 use Rattle.hub_cells.specs.Side.{Side, spoke, hub, other}
 use Rattle.hub_cells.specs.Cell.{Tuple}
 use Rattle.hub_cells.specs.Level.{Cell, Level, level, Inners, no_inner, inner, names, named, cells_names, inner_names, AreDistinct, NoNameTwice, NoneTwice, CellFits, CellsFit, Fits, InnersFit}
@@ -11,7 +11,7 @@ use Rattle.keep_laws.specs.Pairing.{Paired}
 use Rattle.hub_cells.specs.Level.{Name, tuple_of}
 use Rattle.kept_entries.specs.declared.entry.Entry.{Entry}
 use Rattle.keep_laws.specs.Entry.{part, kept_of, inside, under}
-use Rattle.keep_laws.specs.Body.{pairs_of, object_in, as_field, read_cells, read, read_inners, cells_values, body, inner_values, all_entries, entries}
+use Rattle.keep_laws.specs.Body.{object_in, as_field, read_cells, read, read_inners, cells_values, body, inner_values, all_entries, entries}
 use Rattle.keep_laws.specs.Whole.{Held, Ready, marks_of, object_of, IsWholeOnSide, IsPair, other_object, IsTheOne}
 use Rattle.keep_laws.proofs.Fields.{allowed_length, put_back, distinct_left, distinct_right}
 use Rattle.keep_laws.proofs.Holds.{HoldsCell, HoldsCells, Holds, HoldsInners, same_holds, kept_none, kept_some, kept_part, has_under, has_inside, order_has, has_order}
@@ -37,13 +37,9 @@ pub tuple_length : (ns : List Name) (x : Pairs) → length (tuple_of ns x) ≡ l
 tuple_length [] x = refl
 tuple_length (n ∷ ns) x = ap suc (tuple_length ns x)
 
-pub pairs_back : (ps : Pairs) → pairs_of (members_of ps) ≡ ps
-pairs_back [] = refl
-pairs_back (p ∷ ps) = ap (λ (qs : Pairs). p ∷ qs) (pairs_back ps)
-
 object_back : (o : Option Pairs) → object_in (as_field o) ≡ o
 object_back None = refl
-object_back (Some ps) = ap Some (pairs_back ps)
+object_back (Some ps) = ap Some (pairs_members ps)
 
 kept_back : (d : Side) (c : Cell) (t : Tuple) (o : Option Tuple) (es : List Entry) → CellFits c → AreDistinct (names (other d) c) → IsAlive d c t o → HoldsCell (λ e. Has e es) (names (other d) c) o → kept_of (names (other d) c) es ≡ o
 kept_back d c t None es f a g h = kept_none (names (other d) c) es h

@@ -5,8 +5,9 @@ use Rattle.std.specs.Cmp.Lexicographic.{slice_cmp}
 use Rattle.std.proofs.lemmas.Cmp.{nat_list_cmp_total}
 use Rattle.std.proofs.lemmas.List.{map-append}
 use Rattle.std.proofs.lemmas.Slice.Eq.{bytes_eq-Decides}
-use Rattle.kj_value.specs.Json.{Json, null, boolean, whole, text, list, object, Members, no_members, member, members_of}
+use Rattle.kj_value.specs.Json.{Json, null, boolean, whole, text, list, object, Members, members_of}
 use Rattle.kj_value.specs.Fields.{Pairs, field, with_field}
+use Rattle.kj_value.specs.KindLaws.{members_pairs}
 use Rattle.hub_cells.specs.Side.{Side, other}
 use Rattle.hub_cells.specs.Cell.{Tuple}
 use Rattle.hub_cells.specs.Level.{Name, tuple_of}
@@ -147,17 +148,13 @@ put_read ns ps d r a =
     by_name k true h = at_name k ns (put ns (tuple_of ns ps) []) ps h (put_back ns (tuple_of ns ps) d (tuple_length ns ps))
     by_name k false h = put_fresh k ns (tuple_of ns ps) [] (fresh_from k ns h) ∙ sym (unknown k ns ps h a)
 
-members_back : (ms : Members) → members_of (pairs_of ms) ≡ ms
-members_back no_members = refl
-members_back (member k j ms) = ap (member k j) (members_back ms)
-
 cells_read : (d : Side) (cs : List Cell) (x : Pairs) (es : List Entry) (ns : List Name) (os : Tuple) → os ≡ tuple_of ns x → cells_values cs (read_cells d cs x es) os ≡ tuple_of (cells_names d cs ns) x
 cells_read d [] x es ns os e = e
 cells_read d (c ∷ cs) x es ns os e =
     ap (λ (t : Tuple). tuple_of (names d c) x ++ t) (cells_read d cs x es ns os e) ∙ sym (map-append (λ n. field n x) (names d c) (cells_names d cs ns))
 
 object_read : (P : Pairs → Type 0) (f : Pairs → Pairs) → ((y : Pairs) → P y → f y ≡ y) → (j : Json) → IsObject P j → as_field (there f (as_object j)) ≡ Some j
-object_read P f h (object ms) p = ap (λ (qs : Pairs). Some (object (members_of qs))) (h (pairs_of ms) p) ∙ ap (λ (ns : Members). Some (object ns)) (members_back ms)
+object_read P f h (object ms) p = ap (λ (qs : Pairs). Some (object (members_of qs))) (h (pairs_of ms) p) ∙ ap (λ (ns : Members). Some (object ns)) (members_pairs ms)
 object_read P f h null p = absurd p
 object_read P f h (boolean b) p = absurd p
 object_read P f h (whole z) p = absurd p

@@ -1,7 +1,8 @@
 -- Level by level: a body is an object whose names the level knows and whose tuples it allows.
 use Rattle.std.proofs.Common.{◌≡◌, ℕ, suc, ◌+◌, ◌≤◌, List, Bool, true, false, ◌&&◌, Option, Some, None, refl, ap, sym, subst, ◌∙◌, arith}
-use Rattle.kj_value.specs.Json.{Json, null, boolean, whole, text, list, object, Members, no_members, member, depth, members_of}
+use Rattle.kj_value.specs.Json.{Json, null, boolean, whole, text, list, object, Members, depth, members_of}
 use Rattle.kj_value.specs.Fields.{Pairs, field}
+use Rattle.kj_value.specs.KindLaws.{members_pairs}
 use Rattle.kj_value.specs.Sound.{IsSoundJson, AreRising}
 use Rattle.struct_schema.specs.Shape.{Own, Shape, own, some_shape}
 use Rattle.struct_schema.specs.Keywords.{has_kind, is_chosen, is_within, keeps}
@@ -26,10 +27,6 @@ use Rattle.keep_laws.proofs.Each.{at_field, each_field, rising_fields, each_name
 use Rattle.keep_laws.proofs.Object.{AtName, known_name, body_names, names_body}
 use Rattle.keep_laws.proofs.Allowed.{IfSound, sound_at, AtEach, Seen, cells_allowed, cells_seen}
 
-members_back : (ms : Members) → members_of (pairs_of ms) ≡ ms
-members_back no_members = refl
-members_back (member k j ms) = ap (λ (ns : Members). member k j ns) (members_back ms)
-
 same_shape : (t u : Shape) → some_shape t ≡ some_shape u → t ≡ u
 same_shape t u e = cc
 
@@ -47,7 +44,7 @@ wrong_kind o j c q h =
 module _ (n : ℕ) (t : Shape) (P : Pairs → Type 0) (c : IsClosedObject t) (go : (y : Pairs) → AreRising (members_of y) → IsBody (suc n) t y → P y) where
   inner_body : (ms : Members) → AreRising ms → (valid t (object ms) ≡ true) → Filled t (object ms) (object ms) → n + suc (depth (object ms)) ≤ STORED_LEVELS → P (pairs_of ms)
   inner_body ms h v f r =
-      let back = sym (members_back ms) in
+      let back = sym (members_pairs ms) in
       let levels : suc n + depth (object ms) ≤ STORED_LEVELS = omega arith in
       go (pairs_of ms) (subst AreRising back h) (record {
         valid = subst (λ (ns : Members). valid t (object ns) ≡ true) back v;
@@ -117,7 +114,7 @@ object_holds n t r K A f go (whole z) h g = absurd h
 object_holds n t r K A f go (text s) h g = absurd h
 object_holds n t r K A f go (list js) h g = absurd h
 object_holds n t r K A f go (object ms) h g =
-    let back = members_back ms in
+    let back = members_pairs ms in
     let b = go (pairs_of ms) h g in
     let levels : suc n + depth (object ms) ≤ STORED_LEVELS = subst (λ (ns : Members). suc n + depth (object ns) ≤ STORED_LEVELS) back b.levels in (
       subst (λ (ns : Members). valid t (object ns) ≡ true) back b.valid,

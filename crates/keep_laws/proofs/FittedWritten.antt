@@ -6,6 +6,7 @@ use Rattle.std.proofs.lemmas.Cmp.{nat_list_cmp_total}
 use Rattle.std.proofs.lemmas.List.{map-append}
 use Rattle.kj_value.specs.Json.{Json}
 use Rattle.kj_value.specs.Fields.{Pairs, field, with_field}
+use Rattle.kj_value.specs.KindLaws.{pairs_members}
 use Rattle.hub_cells.specs.Side.{Side}
 use Rattle.hub_cells.specs.Cell.{Tuple}
 use Rattle.hub_cells.specs.Level.{Name, tuple_of, Cell, Level, level, Inners, no_inner, inner, names, named, cells_names, inner_names, NoNameTwice, NoneTwice}
@@ -14,7 +15,7 @@ use Rattle.keep_laws.specs.Marked.{Marks, Marked, MarkedInners, AreGood, OrAbsen
 use Rattle.keep_laws.specs.Body.{as_field, cells_values, body, inner_values}
 use Rattle.keep_laws.specs.Known.{IsBelow, IsRising, IfPresent, IsKnown, InnersKnown}
 use Rattle.keep_laws.proofs.Fields.{allowed_length, put_back, part_named}
-use Rattle.keep_laws.proofs.Back.{cons_head, cons_tail, tuple_length, pairs_back}
+use Rattle.keep_laws.proofs.Back.{cons_head, cons_tail, tuple_length}
 
 -- ---- what is put rises
 
@@ -75,7 +76,7 @@ inner_part d (c ∷ cs) ms ns os x g e =
 
 inner_known : (rq : Bool) (d : Side) (l : Level) → ((m : Marked l) → IsGood d l m → IsKnown d l (body d l m)) → (o : Option (Marked l)) → OrAbsent rq (IsGood d l) o → IfPresent (IsKnown d l) (as_field (there (body d l) o))
 inner_known rq d l go None g = tt
-inner_known rq d l go (Some m) g = subst (IsKnown d l) (sym (pairs_back (body d l m))) (go m g)
+inner_known rq d l go (Some m) g = subst (IsKnown d l) (sym (pairs_members (body d l m))) (go m g)
 
 mutual
   pub body_known : (d : Side) (l : Level) (m : Marked l) → NoNameTwice d l → IsGood d l m → IsKnown d l (body d l m)
