@@ -1,11 +1,12 @@
 //! What is refused, with its path as it is built on the way out.
-ghost use Rattle.std.specs.Prelude.{◌≡◌, ◌++◌, IfOk, codes, decimal};
+ghost use Rattle.std.specs.Prelude.{◌≡◌, ◌++◌, IfOk};
 ghost use Rattle.struct_schema.specs.Path.{point};
 ghost use Rattle.crd_reading.specs.Refusal.{refused_here, out_of_name, out_of_item};
 ghost use Rattle.crd_reading.specs.Told.{found_of};
 
 use kj_value::{NoMemory, Txt};
 use std::alloc::Global;
+use struct_schema::{item_step, step_before};
 
 // What is refused: its path, whether that begins with a name, and the word.
 #[derive(Drop)]
@@ -26,24 +27,15 @@ pub(crate) fn refused_here(alloc: Global, word: &str) -> Result<Found, NoMemory>
     })
 }
 
-// What stands before the rest of a path.
-fn point(named: bool) -> &'static str
-    ensures { result.now ≡ point named }
-{
-    if named { "." } else { "" }
-}
-
 fn stepped(alloc: Global, step: &str, named: bool, inner: Found) -> Result<Found, NoMemory>
     ensures path { IfOk result (λ f. f.path.bytes
         ≡ step.now ++ point inner.named ++ inner.path.bytes) }
     ensures named { IfOk result (λ f. f.named ≡ named) }
     ensures word { IfOk result (λ f. f.word.bytes ≡ inner.word.bytes) }
 {
-    let mut text = String::from_str(alloc, step)?;
-    text.push_str(point(inner.named))?;
-    text.push_str(inner.path.as_str())?;
+    let path = step_before(alloc, step, inner.named, inner.path.as_str())?;
     Ok(Found {
-        path: Txt::of_string(text),
+        path,
         named,
         word: inner.word,
     })
@@ -56,16 +48,10 @@ pub(crate) fn in_name(alloc: Global, name: &str, inner: Found) -> Result<Found, 
     stepped(alloc, name, true, inner)
 }
 
-fn brackets(alloc: Global, i: usize) -> Result<Txt, NoMemory>
-    ensures { IfOk result (λ t. t.bytes ≡ codes "[" ++ decimal i ++ codes "]") }
-{
-    Ok(Txt::of_string(format!(in alloc; "[{i}]")?))
-}
-
 // One list further out.
 pub(crate) fn in_item(alloc: Global, i: usize, inner: Found) -> Result<Found, NoMemory>
     ensures { IfOk result (λ f. found_of f ≡ out_of_item i (found_of inner)) }
 {
-    let step = brackets(alloc, i)?;
+    let step = item_step(alloc, i)?;
     stepped(alloc, step.as_str(), false, inner)
 }
