@@ -3,9 +3,10 @@ use Rattle.std.proofs.Common.{◌≡◌, ◌∙◌, ℕ, zero, suc, ◌<◌, Lis
 use Rattle.std.specs.Cmp.Lexicographic.{slice_cmp}
 use Rattle.std.proofs.lemmas.Cmp.{nat_list_cmp_total}
 use Rattle.std.specs.Prelude.{MatchBool, slice_index_or, codes}
-use Rattle.kj_value.specs.Json.{Json, null, boolean, whole, text, list, object, Members, no_members, member, members_of}
+use Rattle.kj_value.specs.Json.{Json, null, boolean, whole, text, list, object, Members, members_of}
 use Rattle.kj_value.specs.Sound.{ComesFirst, IsSoundJson, AreRising}
 use Rattle.kj_value.specs.Fields.{Pairs, without_field}
+use Rattle.kj_value.specs.KindLaws.{members_pairs}
 use Rattle.kube_meta.specs.View.{ObjectView}
 use Rattle.object_reading.specs.Fields.{pairs_of}
 use Rattle.object_reading.specs.Parts.{body_in, object_in}
@@ -21,10 +22,6 @@ use Rattle.crd_meaning.specs.Given.{Given}
 use Rattle.crd_meaning.proofs.ReadSound.{reads_sound}
 
 -- ---- the body of a value is one
-
-members_pairs : (ms : Members) → members_of (pairs_of ms) ≡ ms
-members_pairs no_members = refl
-members_pairs (member k j ms) = ap (member k j) (members_pairs ms)
 
 comes_first-tail : (l : List ℕ) (e : List ℕ × Json) (es : Pairs) → ComesFirst l (members_of (e ∷ es)) → AreRising (members_of (e ∷ es)) → ComesFirst l (members_of es)
 comes_first-tail l e [] p h = tt

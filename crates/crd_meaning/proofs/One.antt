@@ -1,9 +1,10 @@
 -- A document has one value at a version, and none where it is refused.
-use Rattle.std.proofs.Common.{◌≡◌, ◌∙◌, ℕ, [], ◌∷◌, Bool, true, false, Option, Some, None, refl, ap, ap₂, sym, subst}
+use Rattle.std.proofs.Common.{◌≡◌, ◌∙◌, ℕ, ◌∷◌, Bool, true, false, Option, Some, None, refl, ap, ap₂, sym, subst}
 use Rattle.std.specs.Prelude.{slice_get, ◌==◌, if◌then◌else◌, option_map}
 use Rattle.std.proofs.lemmas.List.{append_cancel_left}
 use Rattle.kj_value.specs.Json.{Json, object, members_of}
 use Rattle.kj_value.specs.Fields.{Pairs}
+use Rattle.kj_value.specs.KindLaws.{pairs_members}
 use Rattle.kube_meta.specs.View.{ObjectView}
 use Rattle.object_reading.specs.Fields.{pairs_of}
 use Rattle.struct_schema.specs.Shape.{Shape}
@@ -26,14 +27,10 @@ use Rattle.crd_meaning.proofs.Versions.{one_version}
 
 -- ---- fields of an object
 
-pairs_back : (es : Pairs) → pairs_of (members_of es) ≡ es
-pairs_back [] = refl
-pairs_back (e ∷ es) = ap (λ (fs : Pairs). e ∷ fs) (pairs_back es)
-
 object_one : (es fs : Pairs) → object (members_of es) ≡ object (members_of fs) → es ≡ fs
 object_one es fs e =
     let same : members_of es ≡ members_of fs = cc in
-    sym (pairs_back es) ∙ ap pairs_of same ∙ pairs_back fs
+    sym (pairs_members es) ∙ ap pairs_of same ∙ pairs_members fs
 
 -- ---- the version
 

@@ -6,10 +6,11 @@ use Rattle.std.specs.Ordering.{int_eq, match_ordering, ordering_reverse}
 use Rattle.std.specs.Cmp.Lexicographic.{slice_cmp}
 use Rattle.std.proofs.Math.Nat.{div-le_self}
 use Rattle.std.proofs.lemmas.Cmp.{nat_list_cmp_total}
-use Rattle.kj_value.specs.Json.{Json, null, boolean, whole, text, list, object, Members, no_members, member, items_of, members_of}
+use Rattle.kj_value.specs.Json.{Json, null, boolean, whole, text, list, object, items_of, members_of}
 use Rattle.kj_value.specs.Same.{json_same}
 use Rattle.kj_value.specs.Sound.{IsSoundJson, AreSoundItems, AreRising, ComesFirst}
 use Rattle.kj_value.specs.Fields.{Pairs, field, with_field}
+use Rattle.kj_value.specs.KindLaws.{members_pairs}
 use Rattle.kept_entries.specs.declared.entry.Entry.{Entry}
 use Rattle.kept_entries.specs.Entry.{is_before}
 use Rattle.kept_entries.specs.Text.{entry_json}
@@ -20,7 +21,7 @@ use Rattle.hub_cells.specs.Cross.{quotient, joined, divided, partner, to_spoke_t
 use Rattle.hub_cells.specs.Level.{Name, Cell, Level, level, Inners, no_inner, inner, names, named, tuple_of, cells_names, inner_names}
 use Rattle.keep_laws.specs.Entry.{put, is_part, kept_here, kept_of, inside_by, inside, under, with_entry, in_order}
 use Rattle.keep_laws.specs.Marked.{Mark, Marks, Marked, MarkedInners, IfThere, there, crossed_as, crossed_mark, crossed_marks, crossed, crossed_inners}
-use Rattle.keep_laws.specs.Body.{pairs_of, object_in, read_cells, read, read_inners, cells_values, as_field, body, inner_values, entry_of, cell_entries, with_inside, all_entries, inner_entries}
+use Rattle.keep_laws.specs.Body.{object_in, read_cells, read, read_inners, cells_values, as_field, body, inner_values, entry_of, cell_entries, with_inside, all_entries, inner_entries}
 use Rattle.keep_laws.specs.Whole.{Held, marks_of, other_object}
 use Rattle.crd_meaning.specs.Tables.{AreSoundPairs, IsSoundKind, AreSoundCells, HasSoundTables, InnersHaveSoundTables}
 
@@ -127,10 +128,6 @@ by_sound n (m ∷ at) was later h k = by_test (bytes_eq m n)
 inside_sound : (n : Name) (es : List Entry) → SoundEntries es → SoundEntries (inside n es)
 inside_sound n [] h = tt
 inside_sound n (e ∷ es) h = by_sound n e.at e.was (inside n es) h.0 (inside_sound n es h.1)
-
-members_pairs : (ms : Members) → members_of (pairs_of ms) ≡ ms
-members_pairs no_members = refl
-members_pairs (member k j ms) = ap (member k j) (members_pairs ms)
 
 object_in_sound : (o : Option Json) → SoundValue o → IfThere Rises (object_in o)
 object_in_sound None h = tt

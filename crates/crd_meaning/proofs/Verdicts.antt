@@ -5,9 +5,10 @@ use Rattle.std.proofs.lemmas.Bool.Decides.{nat_tests}
 use Rattle.std.proofs.lemmas.Slice.Eq.{bytes_eq-Decides}
 use Rattle.std.specs.Str.Parse.{digits_value}
 use Rattle.serde_json.specs.Data as serde
-use Rattle.kj_value.specs.Json.{Json, null, boolean, whole, text, list, object, Members, no_members, member, members_of}
+use Rattle.kj_value.specs.Json.{Json, null, boolean, whole, text, list, object, Members, member, members_of}
 use Rattle.kj_value.specs.Reading.{Reads, IsReading, json_of}
 use Rattle.kj_value.specs.Fields.{Pairs, field}
+use Rattle.kj_value.specs.KindLaws.{members_pairs}
 use Rattle.kj_value.specs.declared.rule.Rule.TheVariants as rule
 use Rattle.kube_meta.specs.View.{MetaView, ObjectView}
 use Rattle.struct_schema.specs.Shape.{Shape}
@@ -297,10 +298,6 @@ module _ (known : Given) (o : Settings) (d : Definition) (loaded : IsLoaded d) w
   admits_whole = record { admitted = admitted }
 
 -- ---- a body that is no object
-
-members_pairs : (ms : Members) → members_of (pairs_of ms) ≡ ms
-members_pairs no_members = refl
-members_pairs (member k j ms) = ap (λ (ns : Members). member k j ns) (members_pairs ms)
 
 early_other : (d : Definition) (r : Request) (j : Json) → ((fields : Pairs) → j ≡ object (members_of fields) → ⊥) → early d r j ≡ Some (bad_request not_object)
 early_other d r null other = refl
