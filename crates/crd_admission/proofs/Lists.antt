@@ -1,24 +1,13 @@
 -- Fields and items as lists, and how deep they are.
-use Rattle.std.proofs.Common.{◌≡◌, ℕ, suc, ◌+◌, ◌≤◌, max, List, [], ◌∷◌, Bool, true, false, cond, Option, Some, None, nat_cmp, refl, ap, arith}
+use Rattle.std.proofs.Common.{◌≡◌, ℕ, suc, ◌+◌, ◌≤◌, max, List, [], ◌∷◌, Bool, true, false, cond, Option, Some, None, nat_cmp, refl, arith}
 use Rattle.std.specs.Prelude.{codes}
 use Rattle.std.specs.Cmp.Lexicographic.{slice_cmp}
 use Rattle.std.specs.BTreeMap.{is_at}
-use Rattle.kj_value.specs.Json.{Json, null, boolean, whole, text, list, object, Items, no_items, item, Members, no_members, member, items_of, members_of, depth, items_depth, members_depth}
+use Rattle.kj_value.specs.Json.{Json, null, boolean, whole, text, list, object, items_of, members_of, depth, items_depth, members_depth}
 use Rattle.kj_value.specs.Fields.{Pairs, field, without_field}
-use Rattle.object_reading.specs.Fields.{pairs_of, list_of, given, object_at, list_at}
+use Rattle.kj_value.specs.KindLaws.{members_pairs, items_list}
+use Rattle.object_reading.specs.Fields.{pairs_of, given, object_at, list_at}
 use Rattle.object_reading.specs.Parts.{text_or_empty, body_in}
-
-pub pairs_members : (es : Pairs) → pairs_of (members_of es) ≡ es
-pairs_members [] = refl
-pairs_members (e ∷ es) = ap (λ (r : Pairs). e ∷ r) (pairs_members es)
-
-members_pairs : (ms : Members) → members_of (pairs_of ms) ≡ ms
-members_pairs no_members = refl
-members_pairs (member k j ms) = ap (member k j) (members_pairs ms)
-
-items_list : (js : Items) → items_of (list_of js) ≡ js
-items_list no_items = refl
-items_list (item j js) = ap (item j) (items_list js)
 
 -- ---- what stands at a name
 

@@ -5,6 +5,7 @@ use Rattle.std.specs.Str.{bytes_eq}
 use Rattle.std.proofs.lemmas.Slice.Eq.{bytes_eq-Decides}
 use Rattle.kj_value.specs.Json.{Json, null, boolean, whole, text, list, object, members_of, items_of, depth}
 use Rattle.kj_value.specs.Fields.{Pairs, field, AreInOrder}
+use Rattle.kj_value.specs.KindLaws.{pairs_members}
 use Rattle.kj_value.specs.Reading.{Reads}
 use Rattle.kj_value.specs.Sound.{AreSoundItems}
 use Rattle.kj_value.specs.declared.rule.Rule.{Rule}
@@ -35,7 +36,7 @@ use Rattle.crd_loading.specs.Passed.{IsPassed}
 use Rattle.crd_admission.specs.Low.{HasLowDefaults}
 use Rattle.crd_admission.specs.Steps.{IsFirst, BreaksRule, TellsCause}
 use Rattle.struct_schema.proofs.Agrees.{agrees}
-use Rattle.crd_admission.proofs.Lists.{pairs_members, body_depth, owners_depth}
+use Rattle.crd_admission.proofs.Lists.{body_depth, owners_depth}
 use Rattle.crd_admission.proofs.Depths.{filled_within}
 use Rattle.crd_admission.proofs.Rows.{none_asked, early_fields}
 

@@ -4,6 +4,7 @@ use Rattle.std.specs.Prelude.{is_some, option_map, codes, if◌then◌else◌}
 use Rattle.std.specs.Str.{bytes_eq}
 use Rattle.kj_value.specs.Json.{Json, null, boolean, whole, text, list, object, members_of}
 use Rattle.kj_value.specs.Fields.{Pairs, field}
+use Rattle.kj_value.specs.KindLaws.{pairs_members}
 use Rattle.kube_meta.specs.View.{ObjectView}
 use Rattle.object_reading.specs.Fields.{given}
 use Rattle.object_reading.specs.Parts.{parts_in, submitted}
@@ -15,7 +16,6 @@ use Rattle.api_calls.specs.Meaning.{Request, Fault, bad_request}
 use Rattle.crd_meaning.specs.Definition.{Definition}
 use Rattle.crd_meaning.specs.Request.{Judged, first_there, metadata_fault, given_name, metadata_rows, number_rows, number_text, later_rows, kind_row, namespace_row, name_row, rows, early}
 use Rattle.crd_admission.specs.Steps.{has_version, has_kind, has_namespace, has_name, IsAsked, IsFirst}
-use Rattle.crd_admission.proofs.Lists.{pairs_members}
 
 -- ---- one row
 

@@ -12,7 +12,7 @@ use kj_value::{JFields, JVal};
 use object_reading::given;
 
 /// The value at a name of the metadata, where it isn't null.
-#[tactic(auto, using(crate::proofs::Lists::pairs_members))]
+#[tactic(auto, using(kj_value::specs::KindLaws::pairs_members))]
 pub(crate) fn in_metadata<'a>(fields: &'a JFields, name: &str) -> Option<&'a JVal>
     ensures { option_map (λ v. json v.now) result ≡ given (field name.now (meta_fields fields.entry.now)) }
 {

@@ -2,11 +2,11 @@ use Rattle.std.proofs.Common.{◌≡◌, ◌∙◌, ℕ, List, Some, ap, sym}
 use Rattle.std.specs.Prelude.{option_map}
 use Rattle.kj_value.specs.Json.{object, members_of}
 use Rattle.kj_value.specs.Fields.{Pairs}
+use Rattle.kj_value.specs.KindLaws.{pairs_members}
 use Rattle.object_reading.specs.Parts.{parts_in, submitted}
 use Rattle.object_reading.specs.Refusal.{refusal}
 use Rattle.crd_meaning.specs.Request.{metadata_fault, given_name, metadata_rows}
 use Rattle.crd_admission.specs.Steps.{IsFirst}
-use Rattle.crd_admission.proofs.Lists.{pairs_members}
 use Rattle.crd_admission.proofs.Refusing.{refused_more}
 use Rattle.crd_admission.proofs.Rows.{metadata_first}
 use Rattle.crd_admission.proofs.metadata.submitted.Goals as goal
