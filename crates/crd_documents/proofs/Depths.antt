@@ -1,14 +1,15 @@
 -- How deep documents are.
-use Rattle.std.proofs.Common.{◌≡◌, ℕ, suc, ◌≤◌, max, List, [], ◌∷◌, Bool, true, false, cond, Option, Some, None, Ordering, Less, Equal, Greater, nat_cmp, refl, ap, sym, subst, arith}
+use Rattle.std.proofs.Common.{◌≡◌, ℕ, suc, ◌≤◌, max, List, [], ◌∷◌, Bool, true, false, cond, Option, Some, None, Ordering, Less, Equal, Greater, nat_cmp, sym, subst, arith}
 use Rattle.std.specs.Prelude.{codes}
 use Rattle.std.specs.Ordering.{match_ordering}
 use Rattle.std.specs.Cmp.Lexicographic.{slice_cmp}
 use Rattle.std.specs.BTreeMap.{is_at}
-use Rattle.kj_value.specs.Json.{Json, null, boolean, whole, text, list, object, Members, no_members, member, members_of, depth, members_depth}
+use Rattle.kj_value.specs.Json.{Json, null, boolean, whole, text, list, object, members_of, depth, members_depth}
 use Rattle.kj_value.specs.Fields.{Pairs, field, with_field, without_field}
+use Rattle.kj_value.specs.KindLaws.{members_pairs}
 use Rattle.kube_meta.specs.Document.{text_fields}
 use Rattle.kube_meta.specs.View.{Texts, ObjectView}
-use Rattle.object_reading.specs.Fields.{pairs_of, object_at}
+use Rattle.object_reading.specs.Fields.{object_at}
 use Rattle.object_reading.specs.Parts.{body_in}
 use Rattle.object_reading.proofs.Lists.{pairs_members}
 use Rattle.crd_meaning.specs.Converted.{with_notes, document_with, metadata_in}
@@ -71,10 +72,6 @@ within-field n k (e ∷ es) h =
     by_test : IsWithin n (field k es) → (b : Bool) → IsWithin n (cond b (Some e.1) (field k es))
     by_test more true = first n (depth e.1) (most es) h
     by_test more false = more
-
-members_pairs : (ms : Members) → members_of (pairs_of ms) ≡ ms
-members_pairs no_members = refl
-members_pairs (member k j ms) = ap (member k j) (members_pairs ms)
 
 zero_within : (n : ℕ) → 0 ≤ n
 zero_within n = omega arith
