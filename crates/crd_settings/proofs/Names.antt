@@ -6,12 +6,13 @@ use Rattle.std.specs.Str.{bytes_eq}
 use Rattle.std.proofs.lemmas.Bool.{false≢true}
 use Rattle.std.proofs.lemmas.Bool.Decides.{nat_tests}
 use Rattle.std.proofs.lemmas.List.Elements.{All-from_recursion}
-use Rattle.kj_value.specs.Json.{Json, null, boolean, whole, text, list, object, Items, item, items_of, members_of}
+use Rattle.kj_value.specs.Json.{Json, null, boolean, whole, text, list, object, Items, item, items_of}
 use Rattle.kj_value.specs.Fields.{Pairs, field}
+use Rattle.kj_value.specs.KindLaws.{pairs_members}
 use Rattle.kj_value.specs.Seen.{json}
 use Rattle.kj_value.specs.declared.value.JVal.{JVal}
 use Rattle.kj_value.specs.declared.value.JVal.TheVariants.{Obj}
-use Rattle.api_calls.specs.Bodies.{fields_of, fields_in}
+use Rattle.api_calls.specs.Bodies.{fields_in}
 use Rattle.api_calls.specs.declared.flags.StoredList.{StoredList}
 use Rattle.crd_reading.specs.View.{VersionView, DefinitionView}
 use Rattle.crd_reading.specs.Seen.{version_of}
@@ -203,12 +204,8 @@ places-step ns xs v x b old new h e named olds news =
 
 -- ---- where the list stands
 
-fields-back : (es : Pairs) → fields_of (members_of es) ≡ es
-fields-back [] = refl
-fields-back (e ∷ es) = ap (λ (fs : Pairs). e ∷ fs) (fields-back es)
-
 pub stored-inside : (fields status : Pairs) (v : JVal) (o : Option Json) → Some (json v) ≡ field (codes "status") fields → v ≡ Obj status
     → o ≡ field (codes "storedVersions") status → o ≡ stored_given fields
 stored-inside fields status v o e is h =
     let at : field (codes "status") fields ≡ Some (json (Obj status)) = sym e ∙ ap (λ (x : JVal). Some (json x)) is in
-    h ∙ (ap (field (codes "storedVersions")) (sym (fields-back status)) ∙ ap (λ (p : Option Json). field (codes "storedVersions") (fields_in p)) (sym at))
+    h ∙ (ap (field (codes "storedVersions")) (sym (pairs_members status)) ∙ ap (λ (p : Option Json). field (codes "storedVersions") (fields_in p)) (sym at))

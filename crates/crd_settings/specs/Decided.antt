@@ -4,8 +4,9 @@ use Rattle.std.specs.Prelude.{◌⊎◌, map, codes}
 use Rattle.std.proofs.Common.{inl, inr}
 use Rattle.std.specs.List.{IsDistinct}
 use Rattle.std.specs.Str.{bytes_eq}
-use Rattle.kj_value.specs.Json.{Json, null, boolean, whole, text, list, object, Items, no_items, item, Members, no_members, member, items_of, members_of}
+use Rattle.kj_value.specs.Json.{Json, null, boolean, whole, text, list, object, Items, no_items, item, Members, items_of, members_of}
 use Rattle.kj_value.specs.Fields.{Pairs, field}
+use Rattle.kj_value.specs.KindLaws.{pairs_members, members_pairs}
 use Rattle.kj_value.specs.declared.reading.TheConstants.{MAX_JSON_LEVELS}
 use Rattle.kj_value.specs.declared.rule.Rule.TheVariants.{Immutable, Storage, Served, Kind, Required, Unknown}
 use Rattle.api_calls.specs.Cause.{CauseView, WhyView, not_json, too_deep, not_whole, not_object, wrong_version, wrong_kind, wrong_namespace, wrong_name, bad_query, bad_token, bad_options}
@@ -26,19 +27,11 @@ use Rattle.crd_settings.specs.Keeping.{stored_given, AreNames, are_versions, pla
 
 -- ---- fields and names of a value
 
-fields_back : (ps : Pairs) → fields_of (members_of ps) ≡ ps
-fields_back [] = refl
-fields_back (p ∷ ps) = ap (λ (qs : Pairs). p ∷ qs) (fields_back ps)
-
-members_back : (ms : Members) → members_of (fields_of ms) ≡ ms
-members_back no_members = refl
-members_back (member k j ms) = ap (λ (ns : Members). member k j ns) (members_back ms)
-
 inside : (ms ns : Members) → object ms ≡ object ns → ms ≡ ns
 inside ms ns e = cc
 
 one_fields : (ps qs : Pairs) → object (members_of ps) ≡ object (members_of qs) → ps ≡ qs
-one_fields ps qs e = sym (fields_back ps) ∙ ap fields_of (inside (members_of ps) (members_of qs) e) ∙ fields_back qs
+one_fields ps qs e = sym (pairs_members ps) ∙ ap fields_of (inside (members_of ps) (members_of qs) e) ∙ pairs_members qs
 
 inside_list : (is js : Items) → Some (list is) ≡ Some (list js) → is ≡ js
 inside_list is js e = let same : list is ≡ list js = cc in cc
@@ -90,7 +83,7 @@ body_decided body never object_never = some_finding body MAX_JSON_LEVELS by_find
     by_value (text s) r = never not_object (text s, r, λ fields e. cc)
     by_value (list js) r = never not_object (list js, r, λ fields e. cc)
     by_value (object ms) r =
-        object_never (fields_of ms) (subst (λ (ns : Members). Finds body MAX_JSON_LEVELS (reading.value (object ns))) (sym (members_back ms)) r)
+        object_never (fields_of ms) (subst (λ (ns : Members). Finds body MAX_JSON_LEVELS (reading.value (object ns))) (sym (members_pairs ms)) r)
 
     by_finding : (v : Finding) → Finds body MAX_JSON_LEVELS v → ⊥
     by_finding reading.not_json r = never not_json r
