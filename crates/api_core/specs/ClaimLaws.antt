@@ -1,29 +1,18 @@
 -- The last claim number of a state is at most the number of the items before it.
 use Rattle.std.specs.Prelude.{◌≡◌, ℕ, ◌+◌, ◌≤◌, Bool, true, false, List, [], ◌∷◌, length, Option, None, Some, nat_eq, if◌then◌else◌}
-use Rattle.std.specs.List.{list_any}
 use Rattle.std.proofs.Common.{refl, arith}
-use Rattle.kube_meta.specs.Plan.{Plan, Migration, running, stopped, is_loose, claimed, next_bound, hold_loose, hold_free}
+use Rattle.kube_meta.specs.Plan.{Plan, Migration, running, stopped}
 use Rattle.kube_meta.specs.declared.limits.Limits.{Limits}
 use Rattle.api_calls.specs.Meaning.{Meaning}
 use Rattle.api_calls.specs.Item.{Create, Replace, Mark, Release, Touch, Delete, SetVersions, Trim, StartMigration, MarkSucceeded, Claim, RangeDone, GiveBack, Item, entry, note}
 use Rattle.api_calls.specs.Objects.{keys}
 use Rattle.api_calls.specs.State.{State, moved_storage, effect, number_after, opening, state_from, state}
 use Rattle.api_calls.specs.Legal.{guard, legal_from, legal}
+use Rattle.api_core.specs.SlotLaws.{last-claimed}
 
 last-stopped : (o : Option Migration) (p : Plan) → (stopped o p).last ≡ p.last
 last-stopped None p = refl
 last-stopped (Some q) p = refl
-
-pub last-claimed : (c : ℕ) (ks : _) (p : Plan) → (claimed c ks p).last ≡ c
-last-claimed c ks p = by (list_any is_loose p.slots)
-  where
-    by : (b : Bool) → (if b then record p { slots = hold_loose c p.slots; last = c } else record p {
-      cursor = next_bound p.cursor ks;
-      slots = hold_free c (record { after = p.cursor; upto = next_bound p.cursor ks }) p.slots;
-      last = c;
-    }).last ≡ c
-    by true = refl
-    by false = refl
 
 last-effect : (m : Meaning) (limits : Limits) (n : ℕ) (i : Item) (s : State) → guard m limits s i → (effect n i s).plan.last ≤ s.plan.last + 1
 last-effect m limits n (entry (Create k h w)) s g = omega arith

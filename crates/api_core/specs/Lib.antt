@@ -5,6 +5,7 @@ pub mod Prepared
 pub mod Pages
 pub mod Ends
 pub mod WorkRows
+pub mod SlotLaws
 pub mod ClaimLaws
 pub mod TrimLaws
 pub mod Turned
@@ -13,7 +14,6 @@ pub mod Changes
 pub mod Ready
 pub mod PairLaws
 pub mod DecideLaws
-pub mod SlotLaws
 pub mod KeptLaws
 pub mod PreparedLaws
 pub mod ListLaws
