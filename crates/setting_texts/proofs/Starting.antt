@@ -3,6 +3,7 @@ use Rattle.std.proofs.Common.{◌≡◌, ◌∙◌, ◌<◌, ◌+◌, ℕ, zero,
 use Rattle.std.specs.Prelude.{◌⊎◌}
 use Rattle.kj_value.specs.Json.{Json, object, members_of}
 use Rattle.kj_value.specs.Fields.{Pairs, field}
+use Rattle.kj_value.specs.KindLaws.{pairs_members}
 use Rattle.kj_value.specs.Seen.{json}
 use Rattle.kj_value.specs.declared.value.JVal.{JVal}
 use Rattle.kj_value.specs.declared.value.JVal.TheVariants.{Obj}
@@ -10,7 +11,7 @@ use Rattle.kj_value.specs.Text.{quoted}
 use Rattle.kj_value.specs.Txt.{Bytes}
 use Rattle.kube_meta.specs.Plan.{Migration}
 use Rattle.kube_meta.specs.declared.limits.Condition.TheVariants.{Running}
-use Rattle.api_calls.specs.Bodies.{RefusesStart, fields_in, fields_of}
+use Rattle.api_calls.specs.Bodies.{RefusesStart, fields_in}
 use Rattle.api_calls.specs.Documents.{condition_word}
 use Rattle.api_calls.specs.Cause.{cause_of, why_of}
 use Rattle.api_calls.specs.Meaning.{Meaning, bad_request, invalid}
@@ -32,15 +33,11 @@ use Rattle.setting_texts.proofs.Joined.{text_of-migration}
 
 -- ---- the body
 
-fields-back : (es : Pairs) → fields_of (members_of es) ≡ es
-fields-back [] = refl
-fields-back (e ∷ es) = ap (λ (xs : Pairs). e ∷ xs) (fields-back es)
-
 -- the value at a name of an object that stands there
 pub inside-of : (name : List ℕ) (o r : Option Json) (v : JVal) (fields : Pairs) → o ≡ Some (json v) → v ≡ Obj fields → r ≡ field name fields → r ≡ field name (fields_in o)
 inside-of name o r v fields there is found =
     let at : o ≡ Some (object (members_of fields)) = there ∙ ap (λ (x : JVal). Some (json x)) is in
-    found ∙ (ap (field name) (sym (fields-back fields)) ∙ ap (λ (p : Option Json). field name (fields_in p)) (sym at))
+    found ∙ (ap (field name) (sym (pairs_members fields)) ∙ ap (λ (p : Option Json). field name (fields_in p)) (sym at))
 
 -- a body that starts no migration
 pub came-unstarted : (m : Meaning) (body : List ℕ) (fault : AdmitFault) (e : RefusalView) → Refused (RefusesStart m body) ⊥ fault
