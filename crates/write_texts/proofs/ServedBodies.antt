@@ -3,19 +3,16 @@ use Rattle.std.proofs.Common.{◌≡◌, ◌∙◌, ℕ, List, [], ◌∷◌, So
 use Rattle.kj_value.specs.Fault.{IsRefusedJson}
 use Rattle.kj_value.specs.Fields.{Pairs}
 use Rattle.kj_value.specs.Json.{Json, members_of, object}
+use Rattle.kj_value.specs.KindLaws.{pairs_members}
 use Rattle.kj_value.specs.Reading.{Reads}
 use Rattle.kj_value.specs.declared.reading.JsonFault.TheVariants.{NotJson, TooDeep, NotWhole}
-use Rattle.api_calls.specs.Bodies.{IsServedDelete, IsUnset, fields_in, fields_of}
+use Rattle.api_calls.specs.Bodies.{IsServedDelete, IsUnset, fields_in}
 use Rattle.write_texts.specs.Deleting.{HasUnset}
 use Rattle.api_calls.proofs.Texts.{never_not_json, never_not_whole, never_too_deep}
 
-same-pairs : (es : Pairs) → fields_of (members_of es) ≡ es
-same-pairs [] = refl
-same-pairs (e ∷ es) = ap (λ (fs : Pairs). e ∷ fs) (same-pairs es)
-
 -- an object has one list of fields
 pub one-fields : (f g : Pairs) → object (members_of f) ≡ object (members_of g) → f ≡ g
-one-fields f g same = sym (same-pairs f) ∙ ap (λ (j : Json). fields_in (Some j)) same ∙ same-pairs g
+one-fields f g same = sym (pairs_members f) ∙ ap (λ (j : Json). fields_in (Some j)) same ∙ pairs_members g
 
 pub unset-of : (name : List ℕ) (j : Json) (fields : Pairs) (h : HasUnset j) → j ≡ object (members_of fields) → IsUnset name h.fields → IsUnset name fields
 unset-of name j fields h is unset = subst (IsUnset name) (one-fields h.fields fields (sym h.is ∙ is)) unset
