@@ -45,12 +45,7 @@ fn has_version(set: &LoadedVersions, v: u8, fields: &JFields) -> bool
         Some(JVal::Text(t)) => {
             is_version_text(t.as_str(), group.as_str(), set.version(v).name.as_str())
         }
-        None => false,
-        Some(JVal::Null) => false,
-        Some(JVal::Bool(_)) => false,
-        Some(JVal::Int(_)) => false,
-        Some(JVal::List(_)) => false,
-        Some(JVal::Obj(_)) => false,
+        _ => false,
     }
 }
 

@@ -38,10 +38,6 @@ fn fields_of(v: JVal) -> Option<JFields>
 {
     match v {
         JVal::Obj(fields) => Some(fields),
-        JVal::Null => None,
-        JVal::Bool(_) => None,
-        JVal::Int(_) => None,
-        JVal::Text(_) => None,
-        JVal::List(_) => None,
+        _ => None,
     }
 }

@@ -18,12 +18,7 @@ pub(crate) fn in_metadata<'a>(fields: &'a JFields, name: &str) -> Option<&'a JVa
 {
     match fields.get("metadata") {
         Some(JVal::Obj(metadata)) => given(metadata, name),
-        None => None,
-        Some(JVal::Null) => None,
-        Some(JVal::Bool(_)) => None,
-        Some(JVal::Int(_)) => None,
-        Some(JVal::Text(_)) => None,
-        Some(JVal::List(_)) => None,
+        _ => None,
     }
 }
 
@@ -33,12 +28,7 @@ pub(crate) fn is_text(value: Option<&JVal>, text: &str) -> bool
 {
     match value {
         Some(JVal::Text(t)) => t.as_str() == text,
-        None => false,
-        Some(JVal::Null) => false,
-        Some(JVal::Bool(_)) => false,
-        Some(JVal::Int(_)) => false,
-        Some(JVal::List(_)) => false,
-        Some(JVal::Obj(_)) => false,
+        _ => false,
     }
 }
 
@@ -49,10 +39,6 @@ pub(crate) fn is_absent_or(value: Option<&JVal>, text: &str) -> bool
     match value {
         None => true,
         Some(JVal::Text(t)) => t.as_str() == text,
-        Some(JVal::Null) => false,
-        Some(JVal::Bool(_)) => false,
-        Some(JVal::Int(_)) => false,
-        Some(JVal::List(_)) => false,
-        Some(JVal::Obj(_)) => false,
+        _ => false,
     }
 }

@@ -89,10 +89,6 @@ fn fields_of(v: JVal) -> JFields
 {
     match v {
         JVal::Obj(fields) => fields,
-        JVal::Null => unreachable!(),
-        JVal::Bool(_) => unreachable!(),
-        JVal::Int(_) => unreachable!(),
-        JVal::Text(_) => unreachable!(),
-        JVal::List(_) => unreachable!(),
+        _ => unreachable!(),
     }
 }

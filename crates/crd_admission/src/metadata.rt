@@ -50,12 +50,7 @@ fn text_or_empty(alloc: Global, value: Option<&JVal>) -> Result<Txt, NoMemory>
 {
     match value {
         Some(JVal::Text(t)) => Txt::of(alloc, t.as_str()),
-        None => Txt::of(alloc, ""),
-        Some(JVal::Null) => Txt::of(alloc, ""),
-        Some(JVal::Bool(_)) => Txt::of(alloc, ""),
-        Some(JVal::Int(_)) => Txt::of(alloc, ""),
-        Some(JVal::List(_)) => Txt::of(alloc, ""),
-        Some(JVal::Obj(_)) => Txt::of(alloc, ""),
+        _ => Txt::of(alloc, ""),
     }
 }
 
