@@ -52,10 +52,6 @@ fn fields_of(doc: JVal) -> Option<JFields>
 {
     match doc {
         JVal::Obj(fields) => Some(fields),
-        JVal::Null => None,
-        JVal::Bool(_) => None,
-        JVal::Int(_) => None,
-        JVal::Text(_) => None,
-        JVal::List(_) => None,
+        _ => None,
     }
 }

@@ -36,11 +36,7 @@ fn fields_of(alloc: Global, value: JVal) -> JFields
 {
     match value {
         JVal::Obj(fields) => fields,
-        JVal::Null => JFields::new(alloc),
-        JVal::Bool(_) => JFields::new(alloc),
-        JVal::Int(_) => JFields::new(alloc),
-        JVal::Text(_) => JFields::new(alloc),
-        JVal::List(_) => JFields::new(alloc),
+        _ => JFields::new(alloc),
     }
 }
 

@@ -41,12 +41,7 @@ fn version_of(set: &LoadedVersions, value: Option<&JVal>) -> Option<u8>
 {
     match value {
         Some(JVal::Text(text)) => version_named(set, text.as_str()),
-        None => None,
-        Some(JVal::Null) => None,
-        Some(JVal::Bool(_)) => None,
-        Some(JVal::Int(_)) => None,
-        Some(JVal::List(_)) => None,
-        Some(JVal::Obj(_)) => None,
+        _ => None,
     }
 }
 
@@ -55,12 +50,7 @@ fn has_kind(set: &LoadedVersions, fields: &JFields) -> bool
 {
     match fields.get("kind") {
         Some(JVal::Text(text)) => text.as_str() == set.definition().kind().as_str(),
-        None => false,
-        Some(JVal::Null) => false,
-        Some(JVal::Bool(_)) => false,
-        Some(JVal::Int(_)) => false,
-        Some(JVal::List(_)) => false,
-        Some(JVal::Obj(_)) => false,
+        _ => false,
     }
 }
 

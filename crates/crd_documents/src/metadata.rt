@@ -24,10 +24,7 @@ pub(crate) fn read_metadata(alloc: Global, metadata: JVal) -> Result<Meta, Objec
     match metadata {
         JVal::Obj(fields) => read_fields(alloc, fields),
         JVal::Null => read_fields(alloc, JFields::new(alloc)),
-        JVal::Bool(_) => Err(no_object(alloc)),
-        JVal::Int(_) => Err(no_object(alloc)),
-        JVal::Text(_) => Err(no_object(alloc)),
-        JVal::List(_) => Err(no_object(alloc)),
+        _ => Err(no_object(alloc)),
     }
 }
 
@@ -66,12 +63,7 @@ pub(crate) fn name_in(alloc: Global, metadata: Option<&JVal>) -> Result<Txt, NoM
 {
     match metadata {
         Some(JVal::Obj(fields)) => copied_text(alloc, fields.get("name")),
-        None => Ok(empty(alloc)),
-        Some(JVal::Null) => Ok(empty(alloc)),
-        Some(JVal::Bool(_)) => Ok(empty(alloc)),
-        Some(JVal::Int(_)) => Ok(empty(alloc)),
-        Some(JVal::Text(_)) => Ok(empty(alloc)),
-        Some(JVal::List(_)) => Ok(empty(alloc)),
+        _ => Ok(empty(alloc)),
     }
 }
 
@@ -80,12 +72,7 @@ fn copied_text(alloc: Global, value: Option<&JVal>) -> Result<Txt, NoMemory>
 {
     match value {
         Some(JVal::Text(text)) => Txt::of(alloc, text.as_str()),
-        None => Ok(empty(alloc)),
-        Some(JVal::Null) => Ok(empty(alloc)),
-        Some(JVal::Bool(_)) => Ok(empty(alloc)),
-        Some(JVal::Int(_)) => Ok(empty(alloc)),
-        Some(JVal::List(_)) => Ok(empty(alloc)),
-        Some(JVal::Obj(_)) => Ok(empty(alloc)),
+        _ => Ok(empty(alloc)),
     }
 }
 
@@ -95,12 +82,7 @@ pub(crate) fn text_or_empty(alloc: Global, value: Option<JVal>) -> Txt
 {
     match value {
         Some(JVal::Text(text)) => text,
-        None => empty(alloc),
-        Some(JVal::Null) => empty(alloc),
-        Some(JVal::Bool(_)) => empty(alloc),
-        Some(JVal::Int(_)) => empty(alloc),
-        Some(JVal::List(_)) => empty(alloc),
-        Some(JVal::Obj(_)) => empty(alloc),
+        _ => empty(alloc),
     }
 }
 
