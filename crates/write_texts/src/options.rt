@@ -17,11 +17,7 @@ fn is_unset(fields: &JFields, name: &str) -> bool
         None => true,
         Some(value) => match value {
             JVal::Null => true,
-            JVal::Bool(_) => false,
-            JVal::Int(_) => false,
-            JVal::Text(_) => false,
-            JVal::List(_) => false,
-            JVal::Obj(_) => false,
+            _ => false,
         },
     }
 }
@@ -32,11 +28,7 @@ fn asks_nothing(document: &JVal) -> bool
 {
     match document {
         JVal::Obj(fields) => is_unset(fields, "preconditions") && is_unset(fields, "dryRun"),
-        JVal::Null => false,
-        JVal::Bool(_) => false,
-        JVal::Int(_) => false,
-        JVal::Text(_) => false,
-        JVal::List(_) => false,
+        _ => false,
     }
 }
 
