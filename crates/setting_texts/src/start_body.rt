@@ -21,12 +21,8 @@ fn into_fields(v: JVal) -> Option<JFields>
         (λ fields. json v ≡ object (members_of fields)) }
 {
     match v {
-        JVal::Null => None,
-        JVal::Bool(_) => None,
-        JVal::Int(_) => None,
-        JVal::Text(_) => None,
-        JVal::List(_) => None,
         JVal::Obj(fields) => Some(fields),
+        _ => None,
     }
 }
 
@@ -34,12 +30,8 @@ fn value_at<'a>(v: &'a JVal, name: &str) -> Option<&'a JVal>
     ensures { option_map (λ w. json w.now) result ≡ field name.now (fields_in (Some (json v.now))) }
 {
     match v {
-        JVal::Null => None,
-        JVal::Bool(_) => None,
-        JVal::Int(_) => None,
-        JVal::Text(_) => None,
-        JVal::List(_) => None,
         JVal::Obj(fields) => fields.get(name),
+        _ => None,
     }
 }
 
@@ -58,13 +50,8 @@ fn text_in(v: Option<&JVal>) -> &str
     ensures { result.now ≡ text_in (option_map (λ w. json w.now) v.entry) }
 {
     match v {
-        None => "",
-        Some(JVal::Null) => "",
-        Some(JVal::Bool(_)) => "",
-        Some(JVal::Int(_)) => "",
         Some(JVal::Text(t)) => t.as_str(),
-        Some(JVal::List(_)) => "",
-        Some(JVal::Obj(_)) => "",
+        _ => "",
     }
 }
 
@@ -72,12 +59,8 @@ fn is_text(v: &JVal, wanted: &str) -> bool
     ensures { IsTrue result ↔ (json v.now ≡ text wanted.now) }
 {
     match v {
-        JVal::Null => false,
-        JVal::Bool(_) => false,
-        JVal::Int(_) => false,
         JVal::Text(t) => t.as_str() == wanted,
-        JVal::List(_) => false,
-        JVal::Obj(_) => false,
+        _ => false,
     }
 }
 
