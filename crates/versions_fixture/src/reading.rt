@@ -19,12 +19,7 @@ fn text_at<'a>(fields: &'a JFields, name: &str) -> Option<&'a str>
 {
     match fields.get(name) {
         Some(JVal::Text(text)) => Some(text.as_str()),
-        Some(JVal::Null) => None,
-        Some(JVal::Bool(_)) => None,
-        Some(JVal::Int(_)) => None,
-        Some(JVal::List(_)) => None,
-        Some(JVal::Obj(_)) => None,
-        None => None,
+        _ => None,
     }
 }
 
@@ -34,12 +29,7 @@ fn generation_in(fields: &JFields) -> i64
 {
     match fields.get("generation") {
         Some(JVal::Int(n)) => *n,
-        Some(JVal::Null) => 0,
-        Some(JVal::Bool(_)) => 0,
-        Some(JVal::Text(_)) => 0,
-        Some(JVal::List(_)) => 0,
-        Some(JVal::Obj(_)) => 0,
-        None => 0,
+        _ => 0,
     }
 }
 
