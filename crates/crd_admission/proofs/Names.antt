@@ -1,11 +1,10 @@
 -- The name of each version is a label.
 use Rattle.std.proofs.Common.{◌≡◌, ℕ, zero, suc, ◌<◌, List, length, Bool, true, false, ◌&&◌, cond, Option, Some, None, refl, ap, sym, subst, ◌∙◌, arith}
 use Rattle.std.specs.Prelude.{is_some, slice_index_or, codes}
-use Rattle.std.proofs.lemmas.Slice.Eq.{bytes_eq-Decides}
-use Rattle.std.proofs.lemmas.Map.Text.{is_eq-slice_cmp}
 use Rattle.kj_value.specs.Json.{Json, null, boolean, whole, text, list, object, Items, no_items, item, Members, no_members, member}
 use Rattle.kube_meta.specs.Names.{is_namespace}
 use Rattle.struct_schema.specs.Names.{is_name, value_at}
+use Rattle.struct_schema.specs.NameLaws.{one_name}
 use Rattle.schema_reading.specs.Allowed.{is_object_value}
 use Rattle.crd_reading.specs.Words.{spelled}
 use Rattle.crd_reading.specs.Table.{rows, has_names, has_items, place_in}
@@ -43,9 +42,6 @@ both_stand p j b h = both (stands p j) b h
 
 -- ---- the value at a name of an object
 
-same_name : (n k : List ℕ) → is_name n k ≡ true → n ≡ k
-same_name n k h = (bytes_eq-Decides n k).0 (sym (is_eq-slice_cmp n k) ∙ h)
-
 stands_at : (p : _) (ms : Members) (n : List ℕ) (i : Json) → each_stands p ms ≡ true → value_at n ms ≡ Some i → stands (place_in p n) i ≡ true
 stands_at p no_members n i h e = absurd (cc)
 stands_at p (member k j ms) n i h e =
@@ -55,7 +51,7 @@ stands_at p (member k j ms) n i h e =
     by_test : (b : Bool) → is_name n k ≡ b → cond b (Some j) (value_at n ms) ≡ Some i → stands (place_in p k) j ≡ true → (value_at n ms ≡ Some i → stands (place_in p n) i ≡ true) → stands (place_in p n) i ≡ true
     by_test true t q s later =
         let same : j ≡ i = cc in
-        subst (λ (x : Json). stands (place_in p n) x ≡ true) same (subst (λ (m : List ℕ). stands (place_in p m) j ≡ true) (sym (same_name n k t)) s)
+        subst (λ (x : Json). stands (place_in p n) x ≡ true) same (subst (λ (m : List ℕ). stands (place_in p m) j ≡ true) (sym (one_name n k t)) s)
     by_test false t q s later = later q
 
 some_value : (o : Option Json) → is_some o ≡ true → (i : Json) × (o ≡ Some i)

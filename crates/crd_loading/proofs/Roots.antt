@@ -1,12 +1,11 @@
 -- The schemas that documents spell leave the three names of every object to the object's own values.
-use Rattle.std.proofs.Common.{◌≡◌, ◌∙◌, ◌<◌, ℕ, zero, suc, List, length, Bool, true, false, cond, Option, Some, None, refl, ap, sym, arith}
+use Rattle.std.proofs.Common.{◌≡◌, ◌<◌, ℕ, zero, suc, List, length, Bool, true, false, cond, Option, Some, None, refl, ap, arith}
 use Rattle.std.specs.Prelude.{slice_index_or, codes}
-use Rattle.std.proofs.lemmas.Slice.Eq.{bytes_eq-Decides}
-use Rattle.std.proofs.lemmas.Map.Text.{is_eq-slice_cmp}
 use Rattle.kj_value.specs.Json.{Json, null, boolean, whole, text, list, object, Items, no_items, item, Members, no_members, member}
 use Rattle.struct_schema.specs.Shape.{Shape, Shapes, some_shape, MaybeShapes, properties, no_shape}
 use Rattle.struct_schema.specs.Names.{is_name, shape_named, property}
 use Rattle.struct_schema.specs.OwnDefaults.{HasOwnDefaults}
+use Rattle.struct_schema.specs.NameLaws.{one_name}
 use Rattle.prune_default.specs.SoundDefaults.{HasSoundDefaults}
 use Rattle.schema_reading.specs.Words.{meta_type}
 use Rattle.schema_reading.specs.ShapeRead.{shape_read, map_read, named_read, shapes_read, property_read}
@@ -16,15 +15,12 @@ use Rattle.crd_meaning.specs.Definition.{no_version, IsRoot}
 
 -- ---- a name that the root passes over is no property
 
-names_one : (k n : List ℕ) → is_name k n ≡ true → k ≡ n
-names_one k n h = (bytes_eq-Decides k n).0 (sym (is_eq-slice_cmp k n) ∙ h)
-
 passed_one : (k n t : List ℕ) (s : Shape) (ss : Shapes) → meta_type k ≡ Some t → shape_named k ss ≡ no_shape → shape_named k (property_read (meta_type n) n s ss) ≡ no_shape
 passed_one k n t s ss p h = by_type (meta_type n) refl
   where
     by_name : (b : Bool) → is_name k n ≡ b → meta_type n ≡ None → cond b (some_shape s) (shape_named k ss) ≡ no_shape
     by_name true e q =
-        let same : meta_type k ≡ meta_type n = ap meta_type (names_one k n e) in
+        let same : meta_type k ≡ meta_type n = ap meta_type (one_name k n e) in
         absurd (cc)
     by_name false e q = h
 

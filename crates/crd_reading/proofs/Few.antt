@@ -1,13 +1,12 @@
 -- What a document of which nothing is refused spells is whole.
 use Rattle.std.proofs.Common.{◌≡◌, ℕ, suc, List, [], ◌∷◌, ◌++◌, length, map, Bool, true, false, ◌&&◌, cond, nat_le, Option, Some, None, inl, inr, leb-true, refl, ap, sym, subst, ◌∙◌}
 use Rattle.std.specs.Prelude.{is_some}
-use Rattle.std.proofs.lemmas.Slice.Eq.{bytes_eq-Decides}
-use Rattle.std.proofs.lemmas.Map.Text.{is_eq-slice_cmp}
 use Rattle.kj_value.specs.Json.{Json, null, boolean, whole, text, list, object, Items, no_items, item, Members, no_members, member}
 use Rattle.struct_schema.specs.Names.{is_name, value_at}
 use Rattle.struct_schema.specs.Keywords.{item_count}
 use Rattle.struct_schema.specs.ShapeOf.{shape_of}
 use Rattle.struct_schema.specs.OwnDefaults.{HasOwnDefaults}
+use Rattle.struct_schema.specs.NameLaws.{one_name}
 use Rattle.crd_reading.specs.Words.{spelled}
 use Rattle.crd_reading.specs.Table.{must, rows, place_in}
 use Rattle.crd_reading.specs.Allowed.{are_few, is_allowed}
@@ -26,9 +25,6 @@ use Rattle.crd_reading.proofs.Rows.{In, there_rows}
 
 -- ---- a value at a name of an object that stands at its place
 
-same_name : (n k : List ℕ) → is_name n k ≡ true → n ≡ k
-same_name n k h = (bytes_eq-Decides n k).0 (sym (is_eq-slice_cmp n k) ∙ h)
-
 stands_at : (p : Place) (ms : Members) (n : List ℕ) (i : Json) → each_stands p ms ≡ true → value_at n ms ≡ Some i → stands (place_in p n) i ≡ true
 stands_at p no_members n i h e = absurd (cc)
 stands_at p (member k j ms) n i h e =
@@ -38,7 +34,7 @@ stands_at p (member k j ms) n i h e =
     by_test : (b : Bool) → is_name n k ≡ b → cond b (Some j) (value_at n ms) ≡ Some i → stands (place_in p k) j ≡ true → (value_at n ms ≡ Some i → stands (place_in p n) i ≡ true) → stands (place_in p n) i ≡ true
     by_test true t q s later =
         let same : j ≡ i = cc in
-        subst (λ (x : Json). stands (place_in p n) x ≡ true) same (subst (λ (m : List ℕ). stands (place_in p m) j ≡ true) (sym (same_name n k t)) s)
+        subst (λ (x : Json). stands (place_in p n) x ≡ true) same (subst (λ (m : List ℕ). stands (place_in p m) j ≡ true) (sym (one_name n k t)) s)
     by_test false t q s later = later q
 
 some_value : (o : Option Json) → is_some o ≡ true → (i : Json) × (o ≡ Some i)

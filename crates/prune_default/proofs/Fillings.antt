@@ -10,7 +10,8 @@ use Rattle.struct_schema.specs.Shape.{Own, Shape, shape, own, Shapes, no_shapes,
 use Rattle.struct_schema.specs.Names.{is_name, value_at, shape_named, property}
 use Rattle.struct_schema.specs.Filled.{is_object, is_array, is_forbidden, PresentFilled, PropertyFilled, OtherFilled, EachItem, AtEachItem, AtEachName, Filled, NameFilled, RestFilled, ItemFilled}
 use Rattle.struct_schema.specs.OwnDefaults.{IsOwnFilling, HasOwnDefaults, InMap, InShapes, InMaybe}
-use Rattle.prune_default.proofs.Lookup.{one_name, own_name, gone, sound_at}
+use Rattle.struct_schema.specs.NameLaws.{one_name, own_name, gone}
+use Rattle.prune_default.proofs.Lookup.{sound_at}
 use Rattle.prune_default.proofs.Level.{By, to_name, of_name}
 
 -- ---- objects that have the same values at all names are one

@@ -1,24 +1,12 @@
 -- What stands at a name in an object.
-use Rattle.std.proofs.Common.{◌≡◌, ℕ, List, [], ◌∷◌, ◌++◌, Bool, true, false, cond, Option, Some, None, Ordering, Less, Equal, Greater, nat_cmp, refl, ap, sym, subst, ◌∙◌}
-use Rattle.std.specs.Ordering.{is_eq, match_ordering, ordering_reverse}
+use Rattle.std.proofs.Common.{◌≡◌, ℕ, List, [], ◌∷◌, ◌++◌, Bool, true, false, cond, Option, Some, Ordering, Less, Equal, Greater, nat_cmp, refl, ap, sym, subst, ◌∙◌}
+use Rattle.std.specs.Ordering.{is_eq, match_ordering}
 use Rattle.std.specs.Cmp.Lexicographic.{slice_cmp}
-use Rattle.std.proofs.lemmas.Cmp.{nat_list_cmp_total}
-use Rattle.std.proofs.lemmas.Slice.Eq.{bytes_eq-Decides}
-use Rattle.std.proofs.lemmas.Map.Text.{is_eq-slice_cmp}
 use Rattle.kj_value.specs.Json.{Json, Members, no_members, member, members_of}
 use Rattle.kj_value.specs.Fields.{Pairs, with_field}
-use Rattle.kj_value.specs.Sound.{IsSoundJson, ComesFirst, AreRising}
+use Rattle.kj_value.specs.Sound.{IsSoundJson, AreRising}
 use Rattle.struct_schema.specs.Names.{is_name, value_at}
-
-pub one_name : (k l : List ℕ) → is_name k l ≡ true → k ≡ l
-one_name k l h = (bytes_eq-Decides k l).0 (sym (is_eq-slice_cmp k l) ∙ h)
-
-pub own_name : (k : List ℕ) → is_name k k ≡ true
-own_name k = is_eq-slice_cmp k k ∙ (bytes_eq-Decides k k).1 refl
-
--- a name is none that comes before it
-pub other_name : (k n : List ℕ) → slice_cmp nat_cmp k n ≡ Less → is_name n k ≡ false
-other_name k n p = ap is_eq (nat_list_cmp_total.antisymm n k ∙ ap ordering_reverse p)
+use Rattle.struct_schema.specs.NameLaws.{one_name, own_name}
 
 -- ---- with a value at a name
 
@@ -55,21 +43,6 @@ value_at-with n k v (e ∷ es) = by_order (slice_cmp nat_cmp k e.0) refl (value_
         ap (cond (is_name n e.0) (Some e.1)) later ∙ swapped (is_name n e.0) (is_name n k) (Some e.1) (Some v) (value_at n (members_of es)) (λ a b. not_both n k e.0 q a b)
 
 -- ---- names that rise
-
--- a name that comes before all is none of them
-pub gone : (k : List ℕ) (ms : Members) → ComesFirst k ms → AreRising ms → value_at k ms ≡ None
-gone k no_members p h = refl
-gone k (member l j ms) p h = by_test (is_name k l) refl (λ q r. gone k ms (past ms q) r)
-  where
-    past : (ns : Members) → ComesFirst l ns → ComesFirst k ns
-    past no_members q = tt
-    past (member m x ns) q = nat_list_cmp_total.trans k l m p q
-
-    by_test : (b : Bool) → is_name k l ≡ b → (ComesFirst l ms → AreRising ms → value_at k ms ≡ None) → cond b (Some j) (value_at k ms) ≡ None
-    by_test true q later =
-        let other : is_name k l ≡ false = ap is_eq p in
-        absurd (cc)
-    by_test false q later = later h.0 h.2
 
 -- the end of an object whose names rise
 pub rising_end : (done rest : Pairs) → AreRising (members_of (done ++ rest)) → AreRising (members_of rest)

@@ -1,5 +1,5 @@
 -- Names in an object and in a map of schemas.
-use Rattle.std.proofs.Common.{◌≡◌, ℕ, List, [], ◌∷◌, Bool, true, false, ◌&&◌, cond, Some, Less, nat_cmp, refl, ap, sym, subst, ◌∙◌}
+use Rattle.std.proofs.Common.{◌≡◌, ℕ, List, [], ◌∷◌, Bool, true, false, ◌&&◌, cond, Some, None, Less, nat_cmp, refl, ap, sym, subst, ◌∙◌}
 use Rattle.std.specs.Prelude.{is_some, ◌||◌}
 use Rattle.std.specs.Ordering.{is_eq, ordering_reverse}
 use Rattle.std.specs.Cmp.Lexicographic.{slice_cmp}
@@ -23,6 +23,21 @@ own_name k = is_eq-slice_cmp k k ∙ (bytes_eq-Decides k k).1 refl
 -- a name is none that comes before it
 pub other_name : (k n : List ℕ) → slice_cmp nat_cmp k n ≡ Less → is_name n k ≡ false
 other_name k n p = ap is_eq (nat_list_cmp_total.antisymm n k ∙ ap ordering_reverse p)
+
+-- a name that comes before all is none of them
+pub gone : (k : List ℕ) (ms : Members) → ComesFirst k ms → AreRising ms → value_at k ms ≡ None
+gone k no_members p h = refl
+gone k (member l j ms) p h = by_test (is_name k l) refl (λ q r. gone k ms (past ms q) r)
+  where
+    past : (ns : Members) → ComesFirst l ns → ComesFirst k ns
+    past no_members q = tt
+    past (member m x ns) q = nat_list_cmp_total.trans k l m p q
+
+    by_test : (b : Bool) → is_name k l ≡ b → (ComesFirst l ms → AreRising ms → value_at k ms ≡ None) → cond b (Some j) (value_at k ms) ≡ None
+    by_test true q later =
+        let other : is_name k l ≡ false = ap is_eq p in
+        absurd (cc)
+    by_test false q later = later h.0 h.2
 
 pub below_found : (k : List ℕ) (ms : Members) (n : List ℕ) (v : Json) → ComesFirst k ms → AreRising ms → value_at n ms ≡ Some v → slice_cmp nat_cmp k n ≡ Less
 below_found k no_members n v p h e = absurd (cc)

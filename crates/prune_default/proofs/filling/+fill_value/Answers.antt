@@ -15,9 +15,10 @@ use Rattle.struct_schema.specs.Shape.{Shape, MaybeShape, some_shape, map_of, may
 use Rattle.struct_schema.specs.ShapeOf.{shape_of}
 use Rattle.struct_schema.specs.Names.{value_at, shape_for}
 use Rattle.struct_schema.specs.Filled.{EachItem, ItemFilled, RestFilled}
+use Rattle.struct_schema.specs.NameLaws.{gone}
 use Rattle.prune_default.specs.Missing.{or_value}
 use Rattle.prune_default.specs.Size.{size, items_size, members_size}
-use Rattle.prune_default.proofs.Lookup.{gone, rising_end}
+use Rattle.prune_default.proofs.Lookup.{rising_end}
 use Rattle.prune_default.proofs.Sizes.{items_size-push}
 use Rattle.prune_default.proofs.Level.{name_filled, names_turn, rest_none, each_push, each_same}
 use Rattle.prune_default.proofs.filling.+fill_value.Goals as goal
