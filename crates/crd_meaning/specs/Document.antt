@@ -1,23 +1,22 @@
 -- What is refused of a document of any version before its body is filled, in this order; and the object that it is.
-use Rattle.std.specs.Prelude.{◌≡◌, ℕ, ◌<◌, Bool, not, List, [], ◌∷◌, map, Option, None, Some, codes}
+use Rattle.std.specs.Prelude.{◌≡◌, ℕ, ◌<◌, Bool, not, List, [], ◌∷◌, Option, None, codes}
 use Rattle.std.specs.Str.{bytes_eq}
 use Rattle.std.specs.List.{list_any}
-use Rattle.kj_value.specs.Json.{Json, null, boolean, whole, text, list, object}
+use Rattle.kj_value.specs.Json.{Json}
 use Rattle.kj_value.specs.Fields.{Pairs, field}
 use Rattle.kj_value.specs.declared.rule.Rule.TheVariants as rule
 use Rattle.kube_meta.specs.View.{ObjectView}
-use Rattle.object_reading.specs.Fields.{pairs_of, given, object_at}
+use Rattle.object_reading.specs.Fields.{given, object_at}
 use Rattle.object_reading.specs.Rules.{keeps, is_list, is_object, is_text, any_list, any_object, are_labels, are_annotations, are_finalizers, field_keeps}
 use Rattle.object_reading.specs.Numbers.{is_resource_version}
 use Rattle.object_reading.specs.Parts.{object_in}
 use Rattle.object_reading.specs.Refusal.{bad_meta, is_given_text}
 use Rattle.object_reading.specs.Refusal as reading
-use Rattle.api_calls.specs.Cause.{not_object}
-use Rattle.api_calls.specs.Meaning.{Fault, bad_request}
+use Rattle.api_calls.specs.Meaning.{Fault}
 use Rattle.crd_reading.specs.View.{VersionView}
 use Rattle.keep_laws.specs.Spokes.{api_version}
 use Rattle.crd_meaning.specs.Definition.{Definition, count_of, version_at}
-use Rattle.crd_meaning.specs.Request.{Judged, first_there, breaks, metadata_fault, given_name}
+use Rattle.crd_meaning.specs.Request.{Judged, breaks, fault_rows, given_name, is_of_kind, early_by}
 
 unfoldable pub version_path : List ℕ
 version_path = codes "apiVersion"
@@ -37,7 +36,7 @@ version_row d es =
 
 abbrev pub kind_row : Definition → Pairs → Fault × Bool
 kind_row d es =
-    (breaks (given_name es) kind_path rule.Wrong, not (is_given_text (λ s. bytes_eq s d.view.kind) (field (codes "kind") es)))
+    (breaks (given_name es) kind_path rule.Wrong, not (is_of_kind d es))
 
 -- ---- the metadata, whose name and namespace aren't looked at
 
@@ -54,8 +53,7 @@ abbrev pub judged_metadata : Option Json → reading.Judged
 judged_metadata m = (bad_meta [], not (keeps (is_object any_object) m)) ∷ judged_fields (object_at m)
 
 abbrev pub metadata_rows : Pairs → Judged
-metadata_rows es =
-    map (λ j. (metadata_fault (given_name es) j.0, j.1)) (judged_metadata (given (field (codes "metadata") es)))
+metadata_rows es = fault_rows (given_name es) (judged_metadata (given (field (codes "metadata") es)))
 
 -- ---- the table
 
@@ -63,12 +61,7 @@ abbrev pub rows : Definition → Pairs → Judged
 rows d es = version_row d es ∷ kind_row d es ∷ metadata_rows es
 
 abbrev pub early : Definition → Json → Option Fault
-early d null = Some (bad_request not_object)
-early d (boolean b) = Some (bad_request not_object)
-early d (whole z) = Some (bad_request not_object)
-early d (text s) = Some (bad_request not_object)
-early d (list js) = Some (bad_request not_object)
-early d (object ms) = first_there (rows d (pairs_of ms))
+early d j = early_by (rows d) j
 
 -- ---- the object
 

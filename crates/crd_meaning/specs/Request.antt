@@ -64,9 +64,11 @@ metadata_fault name reading.bad_name = breaks name name_path rule.Name
 abbrev pub given_name : Pairs → List ℕ
 given_name es = (parts_in es).meta.name
 
+abbrev pub fault_rows : List ℕ → reading.Judged → Judged
+fault_rows name judged = map (λ j. (metadata_fault name j.0, j.1)) judged
+
 abbrev pub metadata_rows : Pairs → Judged
-metadata_rows es =
-    map (λ j. (metadata_fault (given_name es) j.0, j.1)) (judged_metadata (given (field (codes "metadata") es)))
+metadata_rows es = fault_rows (given_name es) (judged_metadata (given (field (codes "metadata") es)))
 
 -- a request that creates has no number, and one that replaces has one
 abbrev pub number_rows : List ℕ → Bool → Bool → Judged
@@ -89,8 +91,11 @@ abbrev pub version_row : Definition → Request → Pairs → Fault × Bool
 version_row d r es =
     (bad_request wrong_version, not (is_given_text (λ s. bytes_eq s (api_version d.view.group (version_at d r.version).name)) (field (codes "apiVersion") es)))
 
+abbrev pub is_of_kind : Definition → Pairs → Bool
+is_of_kind d es = is_given_text (λ s. bytes_eq s d.view.kind) (field (codes "kind") es)
+
 abbrev pub kind_row : Definition → Pairs → Fault × Bool
-kind_row d es = (bad_request wrong_kind, not (is_given_text (λ s. bytes_eq s d.view.kind) (field (codes "kind") es)))
+kind_row d es = (bad_request wrong_kind, not (is_of_kind d es))
 
 -- a namespace that is given is the path's
 abbrev pub namespace_row : Request → Pairs → Fault × Bool
@@ -108,13 +113,17 @@ name_row r es = (bad_request wrong_name, not (is_named_so r.name (given (field (
 abbrev pub rows : Definition → Request → Pairs → Judged
 rows d r es = version_row d r es ∷ kind_row d es ∷ namespace_row r es ∷ name_row r es ∷ later_rows r es
 
+-- the first that is there, by the rows of an object; another value is no object
+abbrev pub early_by : (Pairs → Judged) → Json → Option Fault
+early_by rows_of null = Some (bad_request not_object)
+early_by rows_of (boolean b) = Some (bad_request not_object)
+early_by rows_of (whole z) = Some (bad_request not_object)
+early_by rows_of (text s) = Some (bad_request not_object)
+early_by rows_of (list js) = Some (bad_request not_object)
+early_by rows_of (object ms) = first_there (rows_of (pairs_of ms))
+
 abbrev pub early : Definition → Request → Json → Option Fault
-early d r null = Some (bad_request not_object)
-early d r (boolean b) = Some (bad_request not_object)
-early d r (whole z) = Some (bad_request not_object)
-early d r (text s) = Some (bad_request not_object)
-early d r (list js) = Some (bad_request not_object)
-early d r (object ms) = first_there (rows d r (pairs_of ms))
+early d r j = early_by (rows d r) j
 
 -- ---- the object
 
