@@ -7,6 +7,9 @@ use Rattle.kj_value.proofs.txt.Txt.TheSendSync as txt
 use Rattle.kj_value.proofs.texts.TextList.TheSendSync as texts
 use Rattle.kj_value.proofs.value.JFields.TheLaws.TheKnot as values
 use Rattle.struct_schema.proofs.schema.SchemaBox.TheLaws.TheKnot as schemas
+use Rattle.struct_schema.specs.contracts.places.Places as Places
+use Rattle.struct_schema.specs.contracts.choices.Choices as Choices
+use Rattle.struct_schema.specs.contracts.required.Required as Required
 use Rattle.struct_schema.specs.contracts.schema.Schema as Schema
 use Rattle.hub_cells.proofs.fitted.Fitted.TheLaws.TheKnot as fitteds
 use Rattle.hub_cells.specs.contracts.cell.Name as Name
@@ -24,8 +27,11 @@ use Rattle.crd_versions.specs.contracts.set.VersionSet as VersionSet
 
 -- ---- to another thread
 
+places_send : IsSend Places.the_row
+places_send = search (sendable, crosses, maps.crosses) depth 60 fits 200000
+
 schema_send : IsSend Schema.the_row
-schema_send = search (schemas.crosses, values.crosses, txt.the_send, texts.the_send, sendable, crosses, maps.crosses) depth 60 fits 200000
+schema_send = search (schemas.crosses, values.crosses, places_send, txt.the_send, texts.the_send, sendable, crosses, maps.crosses) depth 60 fits 200000
 
 name_send : IsSend Name.the_row
 name_send = declared_send Name.the_type (txt.the_send, (schema_send, (search sendable, tt)))
@@ -34,7 +40,7 @@ names_send : IsSend Names.the_row
 names_send = variants_send Names.enum (tt, ((name_send, tt), ((name_send, (name_send, tt)), tt)))
 
 kind_send : IsSend CellKind.the_row
-kind_send = search (values.crosses, txt.the_send, sendable, crosses, maps.crosses) depth 60 fits 200000
+kind_send = search (values.crosses, places_send, txt.the_send, sendable, crosses, maps.crosses) depth 60 fits 200000
 
 cell_send : IsSend Cell.the_row
 cell_send = declared_send Cell.the_type (names_send, (names_send, (kind_send, (search sendable, tt))))
@@ -62,8 +68,17 @@ set_send = search (loaded_send, pieces.the_send, sendable, crosses, maps.crosses
 
 -- ---- by several
 
+places_sync : IsSync Places.the_row
+places_sync = search (sendable, crosses, maps.crosses) depth 60 fits 200000
+
+choices_sync : IsSync Choices.the_row
+choices_sync = search (places_sync, values.crosses, sendable, crosses) depth 60 fits 200000
+
+required_sync : IsSync Required.the_row
+required_sync = search (places_sync, texts.the_sync, sendable, crosses) depth 60 fits 200000
+
 schema_sync : IsSync Schema.the_row
-schema_sync = search (schemas.crosses, values.crosses, txt.the_sync, texts.the_sync, sendable, crosses, maps.crosses) depth 60 fits 200000
+schema_sync = search (schemas.crosses, values.crosses, choices_sync, required_sync, txt.the_sync, sendable, crosses, maps.crosses) depth 60 fits 200000
 
 name_sync : IsSync Name.the_row
 name_sync = declared_sync Name.the_type (txt.the_sync, (schema_sync, (search sendable, tt)))
@@ -72,7 +87,7 @@ names_sync : IsSync Names.the_row
 names_sync = variants_sync Names.enum (tt, ((name_sync, tt), ((name_sync, (name_sync, tt)), tt)))
 
 kind_sync : IsSync CellKind.the_row
-kind_sync = search (values.crosses, txt.the_sync, sendable, crosses, maps.crosses) depth 60 fits 200000
+kind_sync = search (values.crosses, places_sync, txt.the_sync, sendable, crosses, maps.crosses) depth 60 fits 200000
 
 cell_sync : IsSync Cell.the_row
 cell_sync = declared_sync Cell.the_type (names_sync, (names_sync, (kind_sync, (search sendable, tt))))

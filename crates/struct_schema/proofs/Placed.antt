@@ -1,14 +1,13 @@
 -- What places say of a list, and how they are made from its end.
-use Rattle.std.proofs.Common.{◌≡◌, ℕ, suc, ◌+◌, ◌-◌, ◌<◌, ◌≤◌, ℤ, List, [], ◌∷◌, length, get_or, drop, map, Bool, true, false, cond, Option, Some, None, refl, subst, ap, sym, ◌∙◌, arith, nat_cmp, drop-cons}
-use Rattle.std.specs.Prelude.{is_some, ◌||◌, String, string_bytes, string_cmp}
+use Rattle.std.proofs.Common.{◌≡◌, ℕ, suc, ◌+◌, ◌-◌, ◌<◌, ◌≤◌, ℤ, List, [], ◌∷◌, length, get_or, drop, map, Bool, true, false, cond, Option, Some, None, refl, subst, ap, sym, ◌∙◌, arith, drop-cons}
+use Rattle.std.specs.Prelude.{is_some, ◌||◌, String, string_bytes, string_eq}
 use Rattle.std.specs.List.{list_any}
 use Rattle.std.specs.Str.{bytes_eq}
-use Rattle.std.specs.Cmp.Lexicographic.{slice_cmp}
-use Rattle.std.specs.BTreeMap.{BTreeMap, get_by, get_by_text, is_at, IsEmpty, UpdatesBy}
+use Rattle.std.specs.HashMap.{HashMap, get_by, get_by_text, IsEmpty, UpdatesBy}
 use Rattle.std.specs.Map.{lookup}
-use Rattle.std.specs.Ordering.{int_cmp}
+use Rattle.std.specs.Ordering.{int_eq}
 use Rattle.std.proofs.Math.Seq.{drop-length}
-use Rattle.std.proofs.lemmas.Map.Text.{btree_map_updates_text}
+use Rattle.std.proofs.lemmas.Map.Text.{hash_map_updates_text}
 use Rattle.std.proofs.lemmas.Slice.Eq.{bytes_eq-Decides}
 use Rattle.kj_value.specs.Json.{Json, null, boolean, whole, text, list, object, Items, Members}
 use Rattle.kj_value.specs.Same.{json_same}
@@ -38,19 +37,19 @@ some_named k (n ∷ ns) i =
 
 -- ---- no value
 
-pub none_text : {Y : Type 0} (m : BTreeMap (String Y) ℕ) → IsEmpty m → (t : List ℕ) → get_by_text m t ≡ None
+pub none_text : {Y S : Type 0} (m : HashMap (String Y) ℕ S) → IsEmpty m → (t : List ℕ) → get_by_text m t ≡ None
 none_text {Y} m e t =
-    ap (λ (es : List (String Y × ℕ)). lookup (is_at (λ s. slice_cmp nat_cmp t (string_bytes s))) es) e
+    ap (λ (es : List (String Y × ℕ)). lookup (λ s. bytes_eq t (string_bytes s)) es) e
 
-pub none_whole : (m : BTreeMap ℤ ℕ) → IsEmpty m → (z : ℤ) → get_by (int_cmp z) m ≡ None
-none_whole m e z = ap (λ (es : List (ℤ × ℕ)). lookup (is_at (int_cmp z)) es) e
+pub none_whole : {S : Type 0} (m : HashMap ℤ ℕ S) → IsEmpty m → (z : ℤ) → get_by (int_eq z) m ≡ None
+none_whole m e z = ap (λ (es : List (ℤ × ℕ)). lookup (int_eq z) es) e
 
 -- ---- one more value, before the others
 
-pub text_after : {Y : Type 0} (m n : BTreeMap (String Y) ℕ) (bs k : List ℕ) (i : ℕ) (js : List Json) → bs ≡ k → UpdatesBy string_cmp (λ s. slice_cmp nat_cmp bs (string_bytes s)) m n (Some i) → ((t : List ℕ) → get_by_text m t ≡ first_from (i + 1) (text t) js)
+pub text_after : {Y S : Type 0} (m n : HashMap (String Y) ℕ S) (bs k : List ℕ) (i : ℕ) (js : List Json) → bs ≡ k → UpdatesBy string_eq (λ s. bytes_eq bs (string_bytes s)) m n (Some i) → ((t : List ℕ) → get_by_text m t ≡ first_from (i + 1) (text t) js)
     → (t : List ℕ) → get_by_text n t ≡ first_from i (text t) (text k ∷ js)
 text_after m n bs k i js same u h t =
-    btree_map_updates_text bs m n (Some i) u t ∙ ap (λ (b : List ℕ). cond (bytes_eq b t) (Some i) (get_by_text m t)) same ∙ ap (λ (o : Option ℕ). cond (bytes_eq k t) (Some i) o) (h t)
+    hash_map_updates_text bs m n (Some i) u t ∙ ap (λ (b : List ℕ). cond (bytes_eq b t) (Some i) (get_by_text m t)) same ∙ ap (λ (o : Option ℕ). cond (bytes_eq k t) (Some i) o) (h t)
 
 pub null_before : (p : Places) (i : ℕ) (js : List Json) → ArePlaces p (i + 1) js → ArePlaces p i (null ∷ js)
 null_before p i js h = record { texts = h.texts; wholes = h.wholes }

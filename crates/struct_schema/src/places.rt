@@ -7,7 +7,7 @@ ghost use Rattle.struct_schema.specs.Places.{ArePlaces, first_from, Tells};
 
 use kj_value::{JVal, NoMemory, Txt};
 use std::alloc::Global;
-use std::collections::BTreeMap;
+use std::collections::HashMap;
 
 // From so many values on, a list is kept with their places.
 const MANY: usize = 16;
@@ -15,8 +15,8 @@ const MANY: usize = 16;
 /// The first place of each text and of each whole number of a list. Other values have none.
 #[derive(Drop)]
 pub struct Places {
-    texts: BTreeMap<String, usize>,
-    wholes: BTreeMap<i64, usize>,
+    texts: HashMap<String, usize>,
+    wholes: HashMap<i64, usize>,
 }
 
 /// What places tell of a value.
@@ -35,8 +35,8 @@ impl Places {
     pub fn new(alloc: Global) -> Places
         ensures { (i : ℕ) → ArePlaces result i [] }
     {
-        let texts = BTreeMap::new(alloc);
-        let wholes = BTreeMap::new(alloc);
+        let texts = HashMap::new(alloc);
+        let wholes = HashMap::new(alloc);
         Places { texts, wholes }
     }
 
