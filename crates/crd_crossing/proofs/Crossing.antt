@@ -8,6 +8,7 @@ use Rattle.kj_value.proofs.texts.TextList.TheSendSync as texts
 use Rattle.kj_value.proofs.value.JFields.TheLaws.TheKnot as values
 use Rattle.struct_schema.proofs.schema.SchemaBox.TheLaws.TheKnot as schemas
 use Rattle.struct_schema.specs.contracts.places.Places as Places
+use Rattle.struct_schema.specs.contracts.choices.Listed as Listed
 use Rattle.struct_schema.specs.contracts.choices.Choices as Choices
 use Rattle.struct_schema.specs.contracts.required.Required as Required
 use Rattle.struct_schema.specs.contracts.schema.Schema as Schema
@@ -30,8 +31,20 @@ use Rattle.crd_versions.specs.contracts.set.VersionSet as VersionSet
 places_send : IsSend Places.the_row
 places_send = search (sendable, crosses, maps.crosses) depth 60 fits 200000
 
+places_sync : IsSync Places.the_row
+places_sync = search (sendable, crosses, maps.crosses) depth 60 fits 200000
+
+listed_send : IsSend Listed.the_row
+listed_send = search (places_send, values.crosses, sendable, crosses) depth 60 fits 200000
+
+listed_sync : IsSync Listed.the_row
+listed_sync = search (places_sync, values.crosses, sendable, crosses) depth 60 fits 200000
+
+choices_send : IsSend Choices.the_row
+choices_send = search (listed_send, listed_sync, sendable, crosses) depth 60 fits 200000
+
 schema_send : IsSend Schema.the_row
-schema_send = search (schemas.crosses, values.crosses, places_send, txt.the_send, texts.the_send, sendable, crosses, maps.crosses) depth 60 fits 200000
+schema_send = search (schemas.crosses, values.crosses, choices_send, places_send, txt.the_send, texts.the_send, sendable, crosses, maps.crosses) depth 60 fits 200000
 
 name_send : IsSend Name.the_row
 name_send = declared_send Name.the_type (txt.the_send, (schema_send, (search sendable, tt)))
@@ -68,11 +81,8 @@ set_send = search (loaded_send, pieces.the_send, sendable, crosses, maps.crosses
 
 -- ---- by several
 
-places_sync : IsSync Places.the_row
-places_sync = search (sendable, crosses, maps.crosses) depth 60 fits 200000
-
 choices_sync : IsSync Choices.the_row
-choices_sync = search (places_sync, values.crosses, sendable, crosses) depth 60 fits 200000
+choices_sync = search (listed_send, listed_sync, sendable, crosses) depth 60 fits 200000
 
 required_sync : IsSync Required.the_row
 required_sync = search (places_sync, texts.the_sync, sendable, crosses) depth 60 fits 200000

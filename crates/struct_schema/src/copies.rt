@@ -1,4 +1,4 @@
-//! A schema again, in memory of its own.
+//! A schema again, in memory of its own but for the values of `enum`, which copies share.
 ghost use Rattle.std.specs.Prelude.{◌≡◌, IfOk, map, option_map};
 ghost use Rattle.kj_value.specs.Seen.{json};
 ghost use Rattle.struct_schema.specs.Shape.{map_of, maybe_of};
@@ -9,12 +9,12 @@ use crate::schema::{Schema, SchemaBox, SchemaField, SchemaMap};
 use kj_value::{JVal, NoMemory, Txt, copy};
 use std::alloc::Global;
 
-fn copy_choices(alloc: Global, choices: &Option<Choices>) -> Result<Option<Choices>, NoMemory>
+fn share_choices(choices: &Option<Choices>) -> Result<Option<Choices>, NoMemory>
     ensures { IfOk result (λ o. o ≡ choices.now) }
 {
     match choices {
         None => Ok(None),
-        Some(choices) => Ok(Some(choices.copied(alloc)?)),
+        Some(choices) => Ok(Some(choices.shared()?)),
     }
 }
 
@@ -27,12 +27,12 @@ fn copy_default(alloc: Global, value: &Option<JVal>) -> Result<Option<JVal>, NoM
     }
 }
 
-/// The same schema again, in memory of its own.
+/// The same schema again. The values of `enum` are shared, and the rest is in memory of its own.
 #[cycle(copy_schema)]
 pub fn copy_schema(alloc: Global, s: &Schema) -> Result<Schema, NoMemory>
     ensures { IfOk result (λ t. shape_of t ≡ shape_of s.now) }
 {
-    let choices = copy_choices(alloc, &s.choices)?;
+    let choices = share_choices(&s.choices)?;
     let required = s.required.copied(alloc)?;
     let properties = copy_properties(alloc, &s.properties)?;
     let additional = copy_node(alloc, &s.additional)?;

@@ -2,7 +2,7 @@ use Rattle.std.proofs.Common.{List, subst}
 use Rattle.std.specs.Prelude.{IfSome}
 use Rattle.kj_value.specs.Json.{Json}
 use Rattle.struct_schema.specs.Places.{ArePlaces}
-use Rattle.struct_schema.proofs.choices.Choices.new.Goals as goal
+use Rattle.struct_schema.proofs.choices.Listed.new.Goals as goal
 
 pub invariant_of-result : goal.invariant_of-result
 invariant_of-result c =

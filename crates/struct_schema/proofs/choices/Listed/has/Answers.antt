@@ -5,7 +5,7 @@ use Rattle.kj_value.specs.Json.{Json}
 use Rattle.kj_value.specs.Seen.{json}
 use Rattle.kj_value.specs.Same.{json_same}
 use Rattle.struct_schema.proofs.Placed.{some_among}
-use Rattle.struct_schema.proofs.choices.Choices.has.Goals as goal
+use Rattle.struct_schema.proofs.choices.Listed.has.Goals as goal
 
 pub returns-in-First : goal.returns-in-First
 returns-in-First c =
