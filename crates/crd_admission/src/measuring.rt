@@ -3,14 +3,13 @@ ghost use Rattle.std.specs.Prelude.{◌≡◌, ◌<◌, ◌≤◌, map, MatchOpt
 ghost use Rattle.kj_value.specs.Pair.{pair_of};
 ghost use Rattle.kube_meta.specs.View.{meta_of, object_of};
 ghost use Rattle.api_calls.specs.Meaning.{measure};
-ghost use Rattle.spoke_keep.specs.Shapes.{shaped};
+ghost use Rattle.kube_meta.specs.Shapes.{shaped};
 ghost use Rattle.crd_admission.specs.Count.{Leaves, document_bytes, is_own, other_bytes, total};
 
 use crate::measured_meta::{metadata, named, text_at};
 use crate::values::{field, spend};
 use kj_value::{Field, JFields, TextMap, Txt};
-use kube_meta::Object;
-use spoke_keep::Shape;
+use kube_meta::{Object, Shape};
 
 /// How many bytes the object's stored text has at most: with two stamps of 20 bytes, the generation 2^63 - 1, and
 /// without number and uid. `None` where that is more than the limit. It takes no memory.

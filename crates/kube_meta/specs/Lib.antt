@@ -4,6 +4,7 @@ pub mod ByKey
 pub mod Names
 pub mod View
 pub mod Document
+pub mod Shapes
 pub mod Following
 pub mod Plan
 pub mod Work

@@ -2,8 +2,9 @@
 ghost use Rattle.std.specs.Prelude.{◌≡◌, IfOk, option_map};
 ghost use Rattle.kj_value.specs.Texts.{bytes_of};
 ghost use Rattle.kube_meta.specs.View.{meta_of, object_of};
+ghost use Rattle.kube_meta.specs.Shapes.{shaped};
 
-use crate::object::{Meta, Object};
+use crate::object::{Meta, Object, Shape};
 use kj_value::{NoMemory, TextMap, Txt};
 use std::alloc::Global;
 
@@ -18,6 +19,25 @@ pub fn copy_object(alloc: Global, o: &Object) -> Result<Object, NoMemory>
         kind: Txt::of(alloc, o.kind.as_str())?,
         meta,
         body: o.body.copied(alloc)?,
+    })
+}
+
+/// What an object becomes by a shape, whose parts are moved: the kind and the other metadata are copied.
+pub fn copy_shaped(alloc: Global, o: &Object, p: Shape) -> Result<Object, NoMemory>
+    ensures { IfOk result (λ x. object_of x ≡ shaped p (object_of o.now)) }
+{
+    let Shape {
+        version,
+        notes,
+        body,
+    } = p;
+    let kind = Txt::of(alloc, o.kind.as_str())?;
+    let meta = copy_meta(alloc, &o.meta, notes)?;
+    Ok(Object {
+        api_version: version,
+        kind,
+        meta,
+        body,
     })
 }
 

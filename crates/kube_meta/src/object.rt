@@ -1,4 +1,4 @@
-//! An object and its metadata.
+//! An object and its metadata, and what it becomes at another version.
 use kj_value::{JFields, JItems, Stamp, TextList, TextMap, Txt};
 
 /// The metadata of an object, as far as it is kept: ObjectMeta of meta/v1.
@@ -27,5 +27,15 @@ pub struct Object {
     pub api_version: Txt,
     pub kind: Txt,
     pub meta: Meta,
+    pub body: JFields,
+}
+
+/// What an object becomes at another version: all but its kind and the rest of its metadata, which stay.
+#[derive(Drop)]
+pub struct Shape {
+    /// The `apiVersion`.
+    pub version: Txt,
+    /// The annotations.
+    pub notes: TextMap,
     pub body: JFields,
 }

@@ -17,8 +17,6 @@ use Rattle.keep_laws.proofs.Adding.{definition_last}
 use Rattle.keep_laws.proofs.Carried.{hub_bad}
 use Rattle.spoke_keep.specs.declared.fault.KeepFault.{KeepFault}
 use Rattle.spoke_keep.specs.declared.fault.KeepFault.TheVariants.{BadKept, NoMemory}
-use Rattle.spoke_keep.specs.declared.form.Shape.{Shape}
-use Rattle.spoke_keep.specs.Shapes.{shaped}
 use Rattle.spoke_keep.specs.Fault.{IsBadNote, IsBadAt, IsFaultOf}
 
 pub spells_order : (o : Option Name) (es : List Entry) → Spells o es → are_in_order es ≡ true
@@ -67,7 +65,3 @@ made_of P o v w kind m b e q h = subst P (sym (e ∙ ap (λ (u : Name). record {
 
 pub version_of : (a b g n v : Name) → v ≡ api_version a b → a ≡ g → b ≡ n → v ≡ api_version g n
 version_of a b g n v e p q = e ∙ ap (λ (u : Name). api_version u b) p ∙ ap (api_version g) q
-
--- an object that is made of a shape
-pub same_shape : (p : Shape) (h : ObjectView) (kind : Name) (m : MetaView) → kind ≡ h.kind → m ≡ record h.meta { annotations = p.notes } → record { api_version = p.version.bytes; kind = kind; meta = m; body = p.body } ≡ shaped p h
-same_shape p h kind m e f = λ i. record { api_version = p.version.bytes; kind = e i; meta = f i; body = p.body }

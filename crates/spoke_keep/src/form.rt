@@ -1,12 +1,12 @@
 //! From the hub to a spoke.
 ghost use Rattle.std.specs.Prelude.{◌≡◌, ◌<◌, ℕ, Some, length, slice_get, IfOk};
 ghost use Rattle.kube_meta.specs.View.{object_of};
+ghost use Rattle.kube_meta.specs.Shapes.{shaped};
 ghost use Rattle.keep_laws.specs.Spokes as laws;
 ghost use Rattle.keep_laws.specs.Keys.{spoke_key};
 ghost use Rattle.keep_laws.specs.Notes.{noted, Spells};
 ghost use Rattle.keep_laws.specs.Pair.{IsPairOf};
 ghost use Rattle.keep_laws.specs.WholeHub.{IsWholeHub, IsSettledAt};
-ghost use Rattle.spoke_keep.specs.Shapes.{shaped};
 
 use crate::fault::KeepFault;
 use crate::keys::{hub_key, version_text};
@@ -16,17 +16,9 @@ use hub_cells::Side;
 use keep_bodies::{KeptBody, convert};
 use keep_laws::object_laws::given;
 use kept_entries::Kept;
-use kj_value::{JFields, NoMemory, TextMap, Txt};
-use kube_meta::{Object, copy_meta};
+use kj_value::NoMemory;
+use kube_meta::{Object, Shape, copy_shaped};
 use std::alloc::Global;
-
-/// What an object of the hub becomes at a spoke: all but its kind and the rest of its metadata, which stay.
-#[derive(Drop)]
-pub struct Shape {
-    pub version: Txt,
-    pub notes: TextMap,
-    pub body: JFields,
-}
 
 /// What a whole object of the hub becomes at the spoke at place `v`.
 pub fn shape_at(alloc: Global, all: &Spokes, v: u8, h: &Object) -> Result<Shape, NoMemory>
@@ -112,19 +104,7 @@ fn form(alloc: Global, all: &Spokes, s: &Spoke, h: &Object) -> Result<Object, No
     ensures settled { IfOk result (λ x. IsSettledAt all.now s.now (object_of x)) }
 {
     let made = shape_for(alloc, all, s, h)?;
-    let kind = Txt::of(alloc, h.kind.as_str())?;
-    let Shape {
-        version,
-        notes,
-        body,
-    } = made;
-    let meta = copy_meta(alloc, &h.meta, notes)?;
-    Ok(Object {
-        api_version: version,
-        kind,
-        meta,
-        body,
-    })
+    copy_shaped(alloc, h, made)
 }
 
 // The object of a shape, its kind and its other metadata moved.

@@ -17,7 +17,7 @@ mod settling;
 mod spokes;
 
 pub use fault::KeepFault;
-pub use form::{Shape, from_hub, into_spoke, shape_at};
+pub use form::{from_hub, into_spoke, shape_at};
 pub use hub::{back_to_hub, to_hub};
 pub use keys::{hub_key, spoke_key};
 pub use settling::settle;

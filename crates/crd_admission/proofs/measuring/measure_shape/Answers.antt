@@ -1,6 +1,6 @@
 use Rattle.std.proofs.Common.{arith}
 use Rattle.kube_meta.specs.View.{object_of}
-use Rattle.spoke_keep.specs.Shapes.{shaped}
+use Rattle.kube_meta.specs.Shapes.{shaped}
 use Rattle.crd_admission.proofs.Documents.{length-document}
 use Rattle.crd_admission.proofs.measuring.measure_shape.Goals as goal
 

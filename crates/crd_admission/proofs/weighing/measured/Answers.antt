@@ -5,7 +5,7 @@ use Rattle.kube_meta.specs.View.{ObjectView, object_of}
 use Rattle.keep_laws.specs.Spokes.{Spokes}
 use Rattle.keep_laws.specs.WholeHub.{IsWholeHub}
 use Rattle.keep_laws.specs.Pair.{IsPairOf}
-use Rattle.spoke_keep.specs.Shapes.{shaped}
+use Rattle.kube_meta.specs.Shapes.{shaped}
 use Rattle.crd_meaning.specs.Definition.{Seat}
 use Rattle.crd_meaning.specs.Objects.{PairsAt}
 use Rattle.crd_admission.proofs.weighing.measured.Goals as goal

@@ -1,6 +1,6 @@
--- What an object of the hub becomes at a spoke.
+-- What an object becomes at another version.
 use Rattle.kube_meta.specs.View.{ObjectView}
-use Rattle.spoke_keep.specs.declared.form.Shape.{Shape}
+use Rattle.kube_meta.specs.declared.object.Shape.{Shape}
 
 -- its kind stays, and so do its metadata but for the annotations
 abbrev pub shaped : Shape → ObjectView → ObjectView
