@@ -1,8 +1,9 @@
 //! The versions of a definition, as the server asks for them.
-ghost use Rattle.std.specs.Prelude.{◌≡◌, ◌≢◌, ◌+◌, ◌*◌, ◌<◌, ◌≤◌, ◌++◌, ◌↔◌, IfOk, IfErr, IsErrOf, IsSome, IsTrue, MatchOption, Option, None, List, length, ℕ, ℤ, pos, Bool};
+ghost use Rattle.std.specs.Prelude.{◌≡◌, ◌≢◌, ◌+◌, ◌*◌, ◌<◌, ◌≤◌, ◌++◌, ◌↔◌, IfOk, IfErr, IfSome, IsErrOf, IsSome, IsTrue, MatchOption, Option, None, List, length, ℕ, ℤ, pos, Bool};
 ghost use Rattle.kj_value.specs.Json.{depth};
 ghost use Rattle.kube_meta.specs.Document.{document};
 ghost use Rattle.kube_meta.specs.Names.{is_namespace};
+ghost use Rattle.kube_meta.specs.Shapes.{shaped};
 ghost use Rattle.kube_meta.specs.View.{ObjectView, object_of};
 ghost use Rattle.api_calls.specs.Meaning.{Meaning, Weighs, stamped, stored_text};
 ghost use Rattle.api_calls.specs.Versions.{AdmitsWhole, AreFlags, DecidesAdmission, DecidesBodies, IgnoresStamps, IsOneToOne, IsRequest, IsStored, IsStoredList, KeepsFinalizers, NamesDiffer, Refused, RefusesOnce, RefusesUnread, Stand, StandsAt, request_of, versions_of};
@@ -14,7 +15,7 @@ use crate::flags::{Flags, StoredList};
 use crate::tool::Tool;
 use crate::why::Why;
 use kj_value::{NoMemory, Txt, one_text};
-use kube_meta::Object;
+use kube_meta::{Object, Shape};
 use object_reading::accepted;
 use std::alloc::Global;
 
@@ -42,6 +43,8 @@ pub struct Admitted {
     pub weight: u64,
     /// The request's resourceVersion.
     pub expected: Option<u64>,
+    /// What the hub value becomes at the version that was named as the storage version, where it was made to be weighed.
+    pub shape: Option<Shape>,
 }
 
 /// Why nothing was admitted.
@@ -137,19 +140,22 @@ pub trait Versions {
     fn list_kind(&self) -> &Txt
         ensures { result.now.bytes ≡ (meaning self.now).list_kind };
 
-    /// The hub value of a request, its weight, and the number that the request gives. `BadRequest` and `Invalid` come
-    /// exactly where the meaning refuses the request so, `Tool` only where the tool's count of faults rose.
+    /// The hub value of a request, its weight, and the number that the request gives; and, where it is at hand, what the hub
+    /// value becomes at the version of the place `storage`, which may be any number. `BadRequest` and `Invalid` come exactly
+    /// where the meaning refuses the request so, `Tool` only where the tool's count of faults rose.
     fn admit(
         &self,
         alloc: Global,
         tool: &mut Self::Tool,
         input: &Incoming<'_>,
+        storage: u8,
     ) -> Result<Admitted, AdmitFault>
         requires known { IsRequest (meaning self.now) (request_of input.now) }
         requires creating { IsTrue input.now.creating ↔ (IsSome input.now.name → ⊥) }
         ensures ok { IfOk result (λ a. (meaning self.now).admits (request_of input.now) (object_of a.hub) a.expected) }
         ensures weighs { IfOk result (λ a. IsTrue (meaning self.now).honest → Weighs (meaning self.now) (object_of a.hub) a.weight) }
         ensures weight { IfOk result (λ a. 0 < a.weight) }
+        ensures shape { IfOk result (λ a. IfSome a.shape (λ p. (meaning self.now).pair storage (object_of a.hub) (shaped p (object_of a.hub)))) }
         ensures levels { IfOk result (λ a. depth (document (object_of a.hub)) ≤ OBJECT_LEVELS) }
         ensures refused { IfErr result (Refused ((meaning self.now).refuses (request_of input.now)) (Self.Tool.faults tool.old < Self.Tool.faults tool.new)) }
         ensures rises { Self.Tool.faults tool.old ≤ Self.Tool.faults tool.new };

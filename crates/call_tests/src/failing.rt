@@ -92,9 +92,10 @@ impl<V: Versions<Tool = NoTool> + Drop> Versions for Failing<V> {
         alloc: Global,
         tool: &mut Chosen,
         input: &Incoming<'_>,
+        storage: u8,
     ) -> Result<Admitted, AdmitFault> {
         tool.meet(Place::Admit);
-        match self.inner.admit(alloc, &mut NoTool, input) {
+        match self.inner.admit(alloc, &mut NoTool, input, storage) {
             Ok(admitted) => Ok(admitted),
             Err(AdmitFault::BadRequest(why)) => Err(AdmitFault::BadRequest(why)),
             Err(AdmitFault::Invalid { name, cause }) => Err(AdmitFault::Invalid { name, cause }),

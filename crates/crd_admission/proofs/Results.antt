@@ -2,6 +2,7 @@
 use Rattle.std.proofs.Common.{◌≡◌, ◌∙◌, ◌++◌, ℕ, Option, None, Result, Ok, Err, IfOk, ap, subst}
 use Rattle.kj_value.specs.declared.rule.Rule.TheVariants as rule
 use Rattle.kube_meta.specs.View.{ObjectView}
+use Rattle.kube_meta.specs.declared.object.Shape.{Shape}
 use Rattle.api_calls.specs.Meaning.{Fault, bad_request, invalid}
 use Rattle.api_calls.specs.Cause.{why_of, cause_of}
 use Rattle.api_calls.specs.Versions.{Refused}
@@ -41,11 +42,11 @@ told_unread d v x name (BadKept a) same u f t =
     unread (record { key = a.bytes; unread = u; told = t ∙ ap (λ (n : Name). breaks n (annotation_prefix ++ a.bytes) rule.Kept) same })
 told_unread d v x name NoMemory same u f t = absurd t
 
-pub told_heavy : (d : Definition) (v : ℕ) (x h : ObjectView) (name : Name) (o : Option ℕ) → name ≡ x.meta.name
+pub told_heavy : (d : Definition) (v s : ℕ) (x h : ObjectView) (name : Name) (o : Option (ℕ × Option Shape)) → name ≡ x.meta.name
     → ((k : Name) → IsFirstBad d.spokes (own_name (seat d v)) x.meta.annotations k → ⊥) → ((g : ObjectView) → IsHubOf d v x g → g ≡ h)
-    → o ≡ None → IsWeightOf d h o → (f : Fault) → f ≡ breaks name object_path rule.Size → HasNoHub d v x f
-told_heavy d v x h name o same read one none w f t =
-    let large : IsWeightOf d h None = subst (λ (p : Option ℕ). IsWeightOf d h p) none w in
+    → o ≡ None → IsWeightOf d h s o → (f : Fault) → f ≡ breaks name object_path rule.Size → HasNoHub d v x f
+told_heavy d v s x h name o same read one none w f t =
+    let large : IsWeightOf d h s None = subst (λ (p : Option (ℕ × Option Shape)). IsWeightOf d h s p) none w in
     heavy (record {
       read = read;
       large = λ g a l. large (subst (λ (k : ObjectView). IsLight d k) (one g a) l);

@@ -1,6 +1,8 @@
 -- For private clauses: what the forms of a hub value weigh.
-use Rattle.std.specs.Prelude.{◌≡◌, ◌⊎◌, ℕ, ◌<◌, ◌≤◌, Option, None, Some, MatchOption}
+use Rattle.std.specs.Prelude.{◌≡◌, ◌⊎◌, ℕ, ◌<◌, ◌≤◌, Option, None, Some, IfSome, MatchOption}
 use Rattle.kube_meta.specs.View.{ObjectView}
+use Rattle.kube_meta.specs.Shapes.{shaped}
+use Rattle.kube_meta.specs.declared.object.Shape.{Shape}
 use Rattle.api_calls.specs.Meaning.{Weighs, chunks, measure}
 use Rattle.crd_meaning.specs.declared.limits.TheConstants.{MAX_MEASURE}
 use Rattle.crd_meaning.specs.Definition.{Definition}
@@ -12,9 +14,14 @@ use Rattle.crd_meaning.specs.Meant.{meant}
 abbrev pub IsMeasure : ObjectView → Option ℕ → Type 0
 IsMeasure x o = MatchOption o (MAX_MEASURE < measure x) (λ n. (n ≡ measure x) × (n ≤ MAX_MEASURE))
 
--- the one of the form at the version
-abbrev pub IsMeasured : Definition → ObjectView → ℕ → Option ℕ → Type 0
-IsMeasured d h v o = (x : ObjectView) × IsFormAt d v h x × IsMeasure x o
+-- a form of h: what it becomes by a shape, or h itself
+abbrev pub form_of : Option Shape → ObjectView → ObjectView
+form_of None h = h
+form_of (Some p) h = shaped p h
+
+-- where a shape is kept, h becomes by it the form at the version
+abbrev pub IsKept : Definition → ℕ → ObjectView → Option Shape → Type 0
+IsKept d v h o = IfSome o (λ p. IsFormAt d v h (shaped p h))
 
 -- the forms at the versions before v are light, and weigh at most so many chunks, of which there are as many as at one of
 -- them
@@ -22,6 +29,7 @@ pub record AreWeighed (d : Definition) (h : ObjectView) (v most : ℕ) : Type 0 
   pub within : (u : ℕ) (x : ObjectView) → u < v → IsFormAt d u h x → (measure x ≤ MAX_MEASURE) × (chunks (measure x) ≤ most)
   pub met : ((v ≡ 0) × (most ≡ 0)) ⊎ ((u : ℕ) × (x : ObjectView) × (u < v) × IsFormAt d u h x × (chunks (measure x) ≡ most))
 
-abbrev pub IsWeightOf : Definition → ObjectView → Option ℕ → Type 0
-IsWeightOf d h None = IsLight d h → ⊥
-IsWeightOf d h (Some w) = IsLight d h × Weighs (meant d) h w × (0 < w)
+-- the weight, with what is kept of the form at a version
+abbrev pub IsWeightOf : Definition → ObjectView → ℕ → Option (ℕ × Option Shape) → Type 0
+IsWeightOf d h v None = IsLight d h → ⊥
+IsWeightOf d h v (Some w) = IsLight d h × Weighs (meant d) h w.0 × (0 < w.0) × IsKept d v h w.1

@@ -1,5 +1,6 @@
 //! The hub value of an object.
-ghost use Rattle.std.specs.Prelude.{◌<◌, IfOk, IfErr};
+ghost use Rattle.std.specs.Prelude.{◌<◌, IfOk, IfErr, IfSome};
+ghost use Rattle.kube_meta.specs.Shapes.{shaped};
 ghost use Rattle.kube_meta.specs.View.{object_of};
 ghost use Rattle.api_calls.specs.Meaning.{Weighs};
 ghost use Rattle.api_calls.specs.Versions.{Refused};
@@ -8,6 +9,7 @@ ghost use Rattle.keep_laws.specs.Over.{IsFirstBad};
 ghost use Rattle.spoke_keep.specs.Fault.{IsFaultOf};
 ghost use Rattle.crd_meaning.specs.Definition.{count_of, seat};
 ghost use Rattle.crd_meaning.specs.Admission.{own_name, IsHubOf, IsLight};
+ghost use Rattle.crd_meaning.specs.Objects.{IsFormAt};
 ghost use Rattle.crd_meaning.specs.Meant.{meant};
 ghost use Rattle.crd_loading.specs.Passed.{IsPassed};
 ghost use Rattle.crd_admission.specs.NoHub.{HasNoHub};
@@ -19,7 +21,7 @@ use crd_loading::LoadedVersions;
 use crd_meaning::{going_over, one_hub};
 use keep_laws::object_laws::settling;
 use kj_value::Txt;
-use kube_meta::Object;
+use kube_meta::{Object, Shape};
 use spoke_keep::{KeepFault, settle, to_hub};
 use std::alloc::Global;
 
@@ -28,9 +30,12 @@ use std::alloc::Global;
 pub struct Weighed {
     pub hub: Object,
     pub weight: u64,
+    /// What it becomes at the storage version, where that is another than the hub.
+    pub shape: Option<Shape>,
 }
 
-/// The hub value of an object of version `v` that passed, and its weight. `Invalid` comes with the rule `Kept` for the
+/// The hub value of an object of version `v` that passed, its weight, and what it becomes at the version of the place
+/// `storage`, which may be any number. `Invalid` comes with the rule `Kept` for the
 /// first annotation by key that is read and spells no entries, and with the rule `Size` where the measure is above
 /// 262,144 bytes at some version.
 pub fn hub_value(
@@ -38,6 +43,7 @@ pub fn hub_value(
     set: &LoadedVersions,
     v: u8,
     x: Object,
+    storage: u8,
 ) -> Result<Weighed, AdmitFault>
     requires known { v < count_of set.now }
     requires passed { IsPassed set.now v (object_of x) }
@@ -47,6 +53,7 @@ pub fn hub_value(
     ensures light { IfOk result (λ w. IsLight set.now (object_of w.hub)) }
     ensures weighs { IfOk result (λ w. Weighs (meant set.now) (object_of w.hub) w.weight) }
     ensures some { IfOk result (λ w. 0 < w.weight) }
+    ensures shape { IfOk result (λ w. IfSome w.shape (λ p. IsFormAt set.now storage (object_of w.hub) (shaped p (object_of w.hub)))) }
     ensures refused { IfErr result (Refused (HasNoHub set.now v (object_of x)) ⊥) }
 {
     one_hub();
@@ -56,8 +63,8 @@ pub fn hub_value(
         Ok(hub) => hub,
         Err(fault) => return Err(badly_kept(alloc, name, fault)?),
     };
-    match weigh(alloc, set, &hub)? {
-        Some(weight) => Ok(Weighed { hub, weight }),
+    match weigh(alloc, set, &hub, storage)? {
+        Some((weight, shape)) => Ok(Weighed { hub, weight, shape }),
         None => Err(too_large(alloc, name)?),
     }
 }

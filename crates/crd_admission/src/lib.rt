@@ -3,7 +3,8 @@
 //! The one contract is of two steps. `pass` gives the object that the request submits at its version, with its body filled and
 //! checked, as `Passes` of `crd_meaning` says, and all that is known of such an object; or a fault that is the first of the table
 //! of `crd_meaning`. `hub_value` takes it on to the object's one hub value with what that weighs, or names the first annotation
-//! that can't be read, or says that its measure is too large at some version: what each form is made of is made once, measured and let go.
+//! that can't be read, or says that its measure is too large at some version: what each form is made of is made once and measured, and let go but for that of
+//! the storage version.
 //! `measure_within` counts what an object measures, so that no text is written and no memory taken. Beside them stand laws of how
 //! deep a filled value is.
 //!

@@ -144,8 +144,9 @@ impl Versions for VersionSet {
         alloc: Global,
         _tool: &mut NoTool,
         input: &Incoming<'_>,
+        storage: u8,
     ) -> Result<Admitted, AdmitFault> {
-        admitted(alloc, &self.set, input)
+        admitted(alloc, &self.set, input, storage)
     }
 
     fn hub_of(

@@ -44,7 +44,7 @@ fn admit<V: Versions>(
         name,
         bytes: body.as_bytes(),
     };
-    match versions.admit(alloc, tool, &input) {
+    match versions.admit(alloc, tool, &input, version) {
         Ok(admitted) => told(alloc, is_weighed, &admitted),
         Err(fault) => refused(alloc, &fault),
     }

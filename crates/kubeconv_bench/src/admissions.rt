@@ -83,7 +83,7 @@ fn admit<V: Versions>(
         name: None,
         bytes: body.as_bytes(),
     };
-    match versions.admit(alloc, tool, &input) {
+    match versions.admit(alloc, tool, &input, version) {
         Ok(_) => Ok(()),
         Err(AdmitFault::NoMemory) => Err(WorkFault::NoMemory),
         Err(_) => Err(WorkFault::NotAdmitted),

@@ -242,7 +242,7 @@ fn replace_with<V: Versions + Drop, R: Wait>(
             refusal: Refusal::NoResource,
         });
     }
-    let admitted = match lent.versions.admit(lent.alloc, tool, input) {
+    let admitted = match lent.versions.admit(lent.alloc, tool, input, flags.storage) {
         Ok(admitted) => admitted,
         Err(fault) => return Err(not_admitted(lent.alloc, lent.versions, fault)),
     };

@@ -1,5 +1,5 @@
 //! What is admitted: a document with a name and the one property.
-ghost use Rattle.std.specs.Prelude.{◌≡◌, ◌<◌, true, IfOk, IfErr, MatchOption, List, ℕ, Option, option_map};
+ghost use Rattle.std.specs.Prelude.{◌≡◌, ◌<◌, true, IfOk, IfErr, None, MatchOption, List, ℕ, Option, option_map};
 ghost use Rattle.kj_value.specs.Seen.{json};
 ghost use Rattle.kube_meta.specs.Document.{document};
 ghost use Rattle.kube_meta.specs.Names.{is_namespace};
@@ -65,6 +65,7 @@ fn entered(alloc: Global, input: &Incoming<'_>, p: &Parts<'_>) -> Result<Admitte
     requires submits { Submits (request_of input.now) p.now.name.now (option_map (λ s. s.now) p.now.value) }
     ensures ok { IfOk result (λ a. Admits (request_of input.now) (object_of a.hub) a.expected) }
     ensures weight { IfOk result (λ a. Weighs two_names (object_of a.hub) a.weight) }
+    ensures shape { IfOk result (λ a. a.shape ≡ None) }
     ensures refused { IfErr result (Refused (FixtureRefuses (request_of input.now)) ⊥) }
 {
     if !name_ok(p.name) {
@@ -90,6 +91,7 @@ fn entered(alloc: Global, input: &Incoming<'_>, p: &Parts<'_>) -> Result<Admitte
         hub,
         weight,
         expected: None,
+        shape: None,
     })
 }
 
@@ -99,6 +101,7 @@ pub fn admitted(alloc: Global, input: &Incoming<'_>) -> Result<Admitted, AdmitFa
     requires ns { is_namespace input.now.ns.now ≡ true }
     ensures ok { IfOk result (λ a. Admits (request_of input.now) (object_of a.hub) a.expected) }
     ensures weight { IfOk result (λ a. Weighs two_names (object_of a.hub) a.weight) }
+    ensures shape { IfOk result (λ a. a.shape ≡ None) }
     ensures refused { IfErr result (Refused (FixtureRefuses (request_of input.now)) ⊥) }
 {
     let version = Version::at(input.version);

@@ -125,6 +125,7 @@ impl Versions for TwoNames {
         alloc: Global,
         _tool: &mut NoTool,
         input: &Incoming<'_>,
+        _storage: u8,
     ) -> Result<Admitted, AdmitFault> {
         admitted(alloc, input)
     }

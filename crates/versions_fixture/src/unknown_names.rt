@@ -104,6 +104,7 @@ impl Versions for UnknownNames {
         alloc: Global,
         _tool: &mut NoTool,
         input: &Incoming<'_>,
+        _storage: u8,
     ) -> Result<Admitted, AdmitFault> {
         admitted(alloc, input)
     }

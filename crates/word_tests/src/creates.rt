@@ -73,7 +73,7 @@ fn admitted<'a, V: Versions>(
         name: None,
         bytes,
     };
-    match versions.admit(alloc, tool, &input) {
+    match versions.admit(alloc, tool, &input, version) {
         Ok(admitted) => Some(Ok((admitted.hub, admitted.weight))),
         Err(fault) => Some(Err(fault)),
     }

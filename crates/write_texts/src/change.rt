@@ -95,6 +95,7 @@ pub fn changing<V: Versions>(
         hub: new,
         weight,
         expected,
+        shape: _,
     } = admitted;
     let Some(over) = expected else { unreachable!() };
     let seen = match seen_at(lent.alloc, key, found, over) {

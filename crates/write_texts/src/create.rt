@@ -115,6 +115,7 @@ pub fn fresh_of<V: Versions>(
         hub,
         weight,
         expected: _,
+        shape: _,
     } = admitted;
     let hub = new_value(hub, stamp);
     let key = Key::of(lent.alloc, input.ns, hub.meta.name.as_str())?;

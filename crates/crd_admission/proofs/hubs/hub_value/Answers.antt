@@ -26,5 +26,5 @@ returns-in_ok-too_large-in-None-clause-refused c =
     let same : name ≡ x.meta.name = c.in_ok-name.ensures ∙ c.as_str.ensures in
     let hub = c.in-Ok.ensures.hub in
     refused_so (λ (f : Fault). f ≡ breaks name object_path rule.Size) (HasNoHub d c.args.v x) c.in_ok-too_large-in-None.field-0 (
-    told_heavy d c.args.v x h name c.in_ok-weight.field-0 same (c.one_hub.ensures.read d c.args.v x h hub) (λ g a. c.one_hub.ensures.one d c.hub.ensures.loaded c.args.v x g h a hub) c.in-None.is c.in_ok-weight.ensures
+    told_heavy d c.args.v c.args.storage x h name c.in_ok-weight.field-0 same (c.one_hub.ensures.read d c.args.v x h hub) (λ g a. c.one_hub.ensures.one d c.hub.ensures.loaded c.args.v x g h a hub) c.in-None.is c.in_ok-weight.ensures
     ) c.in_ok-too_large-in-None.ensures

@@ -1,4 +1,4 @@
-use Rattle.std.proofs.Common.{◌<◌, ◌≤◌}
+use Rattle.std.proofs.Common.{◌≡◌, ◌<◌, ◌≤◌, None}
 use Rattle.kj_value.specs.Json.{depth}
 use Rattle.kube_meta.specs.View.{object_of}
 use Rattle.kube_meta.specs.Document.{document}
@@ -8,13 +8,16 @@ use Rattle.versions_fixture.specs.Definition.{Admits, placed, two_names}
 use Rattle.versions_fixture.specs.Laws.{weighs_some}
 use Rattle.versions_fixture.specs.declared.parts.Version.TheVariants.{V1}
 use Rattle.versions_fixture.proofs.Found.{levels}
-use Rattle.versions_fixture.proofs.Refusing.{ok_mapped}
+use Rattle.versions_fixture.proofs.Refusing.{without, ok_mapped}
 use Rattle.versions_fixture.proofs.two_names.TwoNamesVersions.admit.Goals as goal
 
 pub returns-clause-weight : goal.returns-clause-weight
 returns-clause-weight c =
     ok_mapped c.admitted.result (λ a. Weighs two_names (object_of a.hub) a.weight) (λ a. 0 < a.weight)
     (λ a w. weighs_some (object_of a.hub) a.weight w) c.admitted.ensures.weight
+
+pub returns-clause-shape : goal.returns-clause-shape
+returns-clause-shape c = ok_mapped c.admitted.result (λ a. a.shape ≡ None) _ (λ a none. without _ a.shape none) c.admitted.ensures.shape
 
 pub returns-clause-levels : goal.returns-clause-levels
 returns-clause-levels c =

@@ -1,4 +1,4 @@
-use Rattle.std.proofs.Common.{◌<◌, ◌≤◌}
+use Rattle.std.proofs.Common.{◌≡◌, ◌<◌, ◌≤◌, None}
 use Rattle.std.specs.Prelude.{IsTrue, false}
 use Rattle.kj_value.specs.Json.{depth}
 use Rattle.kube_meta.specs.View.{object_of}
@@ -10,7 +10,7 @@ use Rattle.versions_fixture.specs.Laws.{weighs_some}
 use Rattle.versions_fixture.specs.Unknown.{unknown, not_honest, refused_so}
 use Rattle.versions_fixture.specs.declared.parts.Version.TheVariants.{V1}
 use Rattle.versions_fixture.proofs.Found.{levels}
-use Rattle.versions_fixture.proofs.Refusing.{ok_mapped, err_mapped}
+use Rattle.versions_fixture.proofs.Refusing.{without, ok_mapped, err_mapped}
 use Rattle.versions_fixture.proofs.unknown_names.UnknownNamesVersions.admit.Goals as goal
 
 pub returns-clause-weighs : goal.returns-clause-weighs
@@ -22,6 +22,9 @@ pub returns-clause-weight : goal.returns-clause-weight
 returns-clause-weight c =
     ok_mapped c.admitted.result (λ a. Weighs two_names (object_of a.hub) a.weight) (λ a. 0 < a.weight)
     (λ a w. weighs_some (object_of a.hub) a.weight w) c.admitted.ensures.weight
+
+pub returns-clause-shape : goal.returns-clause-shape
+returns-clause-shape c = ok_mapped c.admitted.result (λ a. a.shape ≡ None) _ (λ a none. without _ a.shape none) c.admitted.ensures.shape
 
 pub returns-clause-levels : goal.returns-clause-levels
 returns-clause-levels c =

@@ -2,19 +2,19 @@ use Rattle.std.proofs.Common.{◌≡◌, ◌<◌, length, Some, refl, sym, subst
 use Rattle.std.specs.Prelude.{slice_get}
 use Rattle.std.proofs.lemmas.Option.{slice_get_within}
 use Rattle.kube_meta.specs.View.{ObjectView, object_of}
+use Rattle.kube_meta.specs.Shapes.{shaped}
 use Rattle.keep_laws.specs.Spokes.{Spokes}
 use Rattle.keep_laws.specs.WholeHub.{IsWholeHub}
 use Rattle.keep_laws.specs.Pair.{IsPairOf}
-use Rattle.kube_meta.specs.Shapes.{shaped}
 use Rattle.crd_meaning.specs.Definition.{Seat}
 use Rattle.crd_meaning.specs.Objects.{PairsAt}
-use Rattle.crd_admission.proofs.weighing.measured.Goals as goal
+use Rattle.crd_admission.proofs.weighing.form_at.Goals as goal
 
 pub returns-in-None : goal.returns-in-None
 returns-in-None c =
     let d = c.args.set.now in
     let h : ObjectView = object_of c.args.h.now in
-    (h, subst (λ (z : Seat). PairsAt d.spokes z h h) (sym c.in-None.ensures) refl, c.measure_within.ensures)
+    subst (λ (z : Seat). PairsAt d.spokes z h h) (sym c.in-None.ensures) refl
 
 pub shape_at-requires-clause-place : goal.shape_at-requires-clause-place
 shape_at-requires-clause-place c =
@@ -35,4 +35,4 @@ returns-in_ok-form-in-Some c =
     let all = c.spokes.result.now in
     let place : slice_get all.items c.in-Some.p ≡ Some s = subst (λ (a : Spokes). slice_get a.items c.in-Some.p ≡ Some s) (sym c.spokes.ensures.value) at.1 in
     let pair : IsPairOf d.spokes s x h = subst (λ (a : Spokes). IsPairOf a s x h) c.spokes.ensures.value (c.in_ok-form-in-Some.ensures.pair s place) in
-    (x, subst (λ (z : Seat). PairsAt d.spokes z h x) (sym at.2) ((c.in_ok-form-in-Some.ensures.settled s place).object, pair), c.measure_shape.ensures)
+    subst (λ (z : Seat). PairsAt d.spokes z h x) (sym at.2) ((c.in_ok-form-in-Some.ensures.settled s place).object, pair)
