@@ -12,6 +12,7 @@ pub mod MigrationLooks
 pub mod GroupCalls
 pub mod Working
 pub mod WorkCalls
+pub mod Shaping
 pub mod Replaces
 pub mod Deletes
 pub mod DeleteEnds

@@ -1,6 +1,7 @@
 //! A create of an object.
-ghost use Rattle.std.specs.Prelude.{◌≡◌, ◌+◌, ◌<◌, ◌≤◌, ◌^◌, ℕ, None, Some, IsTrue};
+ghost use Rattle.std.specs.Prelude.{◌≡◌, ◌+◌, ◌<◌, ◌≤◌, ◌^◌, ℕ, None, Some, IfSome, IsTrue};
 ghost use Rattle.kube_meta.specs.Names.{is_namespace};
+ghost use Rattle.kube_meta.specs.Shapes.{shaped};
 ghost use Rattle.kube_meta.specs.View.{object_of};
 ghost use Rattle.turn_cell.specs.Turns.{IsResting};
 ghost use Rattle.api_calls.specs.Calls.{answered, create};
@@ -18,14 +19,16 @@ use crate::api::{Pass, SharedApi};
 use crate::cell::{CoreBase, CoreCell};
 use crate::settle::settle;
 use crate::writing::enter_new;
-use api_calls::{Incoming, Refusal, Reply, Versions, is_served};
+use api_calls::{Admitted, Incoming, Refusal, Reply, Versions, is_served};
 use call_texts::{Given, Refused, not_admitted, place_of, plain};
 use kj_value::Stamp;
+use kube_meta::Shape;
 use std::sync::Wait;
 use turn_cell::{PassOf, Turn};
 use write_texts::{Fresh, Tried, fresh_of, ready_new, told_new};
 
-// Prepares a new object for a storage version, outside the turn, and enters it in one.
+// Prepares a new object for a storage version, outside the turn, and enters it in one. Where there is a shape, by which the value
+// becomes the form that is stored, that form isn't converted.
 fn try_new<V: Versions + Drop, R: Wait>(
     rt: &R,
     lent: &Given<'_, V>,
@@ -34,6 +37,7 @@ fn try_new<V: Versions + Drop, R: Wait>(
     tool: &mut V::Tool,
     storage: u8,
     new: &Fresh,
+    shape: Option<Shape>,
 ) -> Tried
     requires own { pass.old.seat.table_id ≡ turn.now.table.shared.table_id }
     requires rest { IsResting pass.old.seat.me.0 }
@@ -41,6 +45,7 @@ fn try_new<V: Versions + Drop, R: Wait>(
     requires known { new.now.v < (V.meaning lent.now.versions.now).count }
     requires storage { storage < (V.meaning lent.now.versions.now).count }
     requires value { IsFresh (V.meaning lent.now.versions.now) new.now.key (object_of new.now.hub) new.now.weight }
+    requires shape { IfSome shape (λ p. (V.meaning lent.now.versions.now).pair storage (object_of new.now.hub) (shaped p (object_of new.now.hub))) }
     ensures own { pass.new.seat.table_id ≡ pass.old.seat.table_id }
     ensures rest { IsResting pass.new.seat.me.0 }
     ensures tries { (b : CoreBase V) → pass.old.seat.me.0.base ≡ Some b
@@ -48,7 +53,7 @@ fn try_new<V: Versions + Drop, R: Wait>(
         (Created (server_of V.meaning b) new.now.v (object_of new.now.hub) new.now.weight) result }
     ensures rises { V.Tool.faults tool.old ≤ V.Tool.faults tool.new }
 {
-    match ready_new(lent, tool, storage, new) {
+    match ready_new(lent, tool, storage, new, shape) {
         Ok((prepared, sealed, name)) => {
             let end = enter_new(rt, turn, pass, new.v, prepared, &new.hub);
             told_new(lent, end, sealed, name)
@@ -57,7 +62,7 @@ fn try_new<V: Versions + Drop, R: Wait>(
     }
 }
 
-// Enters a new object. Where another's item moved the storage version meanwhile, it is prepared again.
+// Enters a new object. Where another's item moved the storage version meanwhile, it is prepared again, and converted.
 fn enter<V: Versions + Drop, R: Wait>(
     rt: &R,
     lent: &Given<'_, V>,
@@ -66,6 +71,7 @@ fn enter<V: Versions + Drop, R: Wait>(
     tool: &mut V::Tool,
     storage: u8,
     new: &Fresh,
+    shape: Option<Shape>,
 ) -> Result<Reply, Refused>
     requires own { pass.old.seat.table_id ≡ turn.now.table.shared.table_id }
     requires rest { IsResting pass.old.seat.me.0 }
@@ -73,6 +79,7 @@ fn enter<V: Versions + Drop, R: Wait>(
     requires known { new.now.v < (V.meaning lent.now.versions.now).count }
     requires storage { storage < (V.meaning lent.now.versions.now).count }
     requires value { IsFresh (V.meaning lent.now.versions.now) new.now.key (object_of new.now.hub) new.now.weight }
+    requires shape { IfSome shape (λ p. (V.meaning lent.now.versions.now).pair storage (object_of new.now.hub) (shaped p (object_of new.now.hub))) }
     ensures own { pass.new.seat.table_id ≡ pass.old.seat.table_id }
     ensures rest { IsResting pass.new.seat.me.0 }
     ensures came { (b : CoreBase V) → pass.old.seat.me.0.base ≡ Some b
@@ -81,11 +88,13 @@ fn enter<V: Versions + Drop, R: Wait>(
     ensures rises { V.Tool.faults tool.old ≤ V.Tool.faults tool.new }
 {
     let mut storage = storage;
+    let mut shape = shape;
     for _ in rt.forever() {
-        match try_new(rt, lent, turn, pass, tool, storage, new) {
+        match try_new(rt, lent, turn, pass, tool, storage, new, shape) {
             Tried::Told(came) => return came,
             Tried::Moved(now) => storage = now,
         }
+        shape = None;
     }
     unreachable!()
 }
@@ -124,8 +133,20 @@ fn create_with<V: Versions + Drop, R: Wait>(
         Ok(admitted) => admitted,
         Err(fault) => return Err(not_admitted(lent.alloc, lent.versions, fault)),
     };
+    let Admitted {
+        hub,
+        weight,
+        expected,
+        shape,
+    } = admitted;
+    let admitted = Admitted {
+        hub,
+        weight,
+        expected,
+        shape: None,
+    };
     let new = fresh_of(lent, input, stamp, admitted)?;
-    enter(rt, lent, turn, pass, tool, flags.storage, &new)
+    enter(rt, lent, turn, pass, tool, flags.storage, &new, shape)
 }
 
 impl<V: Versions + Drop> SharedApi<V> {

@@ -1,6 +1,8 @@
 //! A replace of an object.
-ghost use Rattle.std.specs.Prelude.{◌≡◌, ◌+◌, ◌<◌, ◌≤◌, ◌^◌, ◌↔◌, [], ℕ, false, true, Some, IsSome, IsTrue};
+ghost use Rattle.std.specs.Prelude.{◌≡◌, ◌+◌, ◌<◌, ◌≤◌, ◌^◌, ◌↔◌, [], ℕ, false, true, Some, IfSome, IsSome, IsTrue};
 ghost use Rattle.kube_meta.specs.Names.{is_namespace};
+ghost use Rattle.kube_meta.specs.Shapes.{shaped};
+ghost use Rattle.kube_meta.specs.View.{object_of};
 ghost use Rattle.turn_cell.specs.Turns.{IsResting};
 ghost use Rattle.api_calls.specs.Calls.{answered, replace};
 ghost use Rattle.api_calls.specs.Item.{items};
@@ -20,17 +22,18 @@ use crate::api::{Pass, SharedApi};
 use crate::cell::{CoreBase, CoreCell};
 use crate::look::look;
 use crate::writing::{enter_over, enter_release};
-use api_calls::{Incoming, Refusal, Reply, Versions, is_served, one_stored, one_weight};
+use api_calls::{Admitted, Incoming, Refusal, Reply, Versions, is_served, one_stored, one_weight};
 use api_core::Peeked;
 use call_texts::{Given, Refused, not_admitted, place_of, plain};
-use kube_meta::Key;
+use kube_meta::{Key, Shape};
 use std::sync::Wait;
 use turn_cell::{PassOf, Turn};
 use write_texts::{
     Change, Tried, changing, ready_over, ready_release, told_over, told_release, unchanged,
 };
 
-// Prepares an update for a storage version, outside the turn, and enters it in one.
+// Prepares an update for a storage version, outside the turn, and enters it in one. Where there is a shape, by which the value
+// becomes the form that is stored, that form isn't converted.
 fn put<V: Versions + Drop, R: Wait>(
     rt: &R,
     lent: &Given<'_, V>,
@@ -40,6 +43,7 @@ fn put<V: Versions + Drop, R: Wait>(
     storage: u8,
     key: &Key,
     change: &Change,
+    shape: Option<Shape>,
 ) -> Tried
     requires own { pass.old.seat.table_id ≡ turn.now.table.shared.table_id }
     requires rest { IsResting pass.old.seat.me.0 }
@@ -47,6 +51,7 @@ fn put<V: Versions + Drop, R: Wait>(
     requires goes { (q : Request) × GoesOver (V.meaning lent.now.versions.now) q key.now (items pass.old.seat.me.0.seen) change.now storage }
     requires stays { change.now.release ≡ false }
     requires changes { IsTrue change.now.equal → change.now.at ≡ storage → ⊥ }
+    requires shape { IfSome shape (λ p. (V.meaning lent.now.versions.now).pair storage (object_of change.now.hub) (shaped p (object_of change.now.hub))) }
     ensures own { pass.new.seat.table_id ≡ pass.old.seat.table_id }
     ensures rest { IsResting pass.new.seat.me.0 }
     ensures tries { (b : CoreBase V) (q : Request) → pass.old.seat.me.0.base ≡ Some b
@@ -54,7 +59,7 @@ fn put<V: Versions + Drop, R: Wait>(
         → Attempts (server_of V.meaning b) (V.Tool.faults tool.old < V.Tool.faults tool.new) pass.old.seat.me.0 pass.new.seat.me.0 q key.now change.now result }
     ensures rises { V.Tool.faults tool.old ≤ V.Tool.faults tool.new }
 {
-    match ready_over(lent, tool, storage, key, change) {
+    match ready_over(lent, tool, storage, key, change, shape) {
         Ok((prepared, sealed, name)) => {
             let end = enter_over(rt, turn, pass, change.v, change.over, prepared, &change.hub);
             told_over(lent, end, sealed, name)
@@ -80,12 +85,14 @@ fn attempt<V: Versions + Drop, R: Wait>(
     storage: u8,
     key: &Key,
     change: &Change,
+    shape: Option<Shape>,
 ) -> Tried
     requires own { pass.old.seat.table_id ≡ turn.now.table.shared.table_id }
     requires rest { IsResting pass.old.seat.me.0 }
     requires base { (b : CoreBase V) × (pass.old.seat.me.0.base ≡ Some b) × (lent.now.versions.now ≡ b.versions) × (lent.now.boot ≡ b.boot) }
     requires goes { (q : Request) × GoesOver (V.meaning lent.now.versions.now) q key.now (items pass.old.seat.me.0.seen) change.now storage }
     requires stays { change.now.release ≡ false }
+    requires shape { IfSome shape (λ p. (V.meaning lent.now.versions.now).pair storage (object_of change.now.hub) (shaped p (object_of change.now.hub))) }
     ensures own { pass.new.seat.table_id ≡ pass.old.seat.table_id }
     ensures rest { IsResting pass.new.seat.me.0 }
     ensures tries { (b : CoreBase V) (q : Request) → pass.old.seat.me.0.base ≡ Some b
@@ -96,11 +103,11 @@ fn attempt<V: Versions + Drop, R: Wait>(
     if is_there(change, storage) {
         return Tried::Told(unchanged(lent, tool, change));
     }
-    put(rt, lent, turn, pass, tool, storage, key, change)
+    put(rt, lent, turn, pass, tool, storage, key, change, shape)
 }
 
-// Enters an update. Where another's item moved the storage version meanwhile, it is prepared again: the object stands as
-// before.
+// Enters an update. Where another's item moved the storage version meanwhile, it is prepared again, and converted: the object
+// stands as before.
 fn enter<V: Versions + Drop, R: Wait>(
     rt: &R,
     lent: &Given<'_, V>,
@@ -110,12 +117,14 @@ fn enter<V: Versions + Drop, R: Wait>(
     first: u8,
     key: &Key,
     change: &Change,
+    shape: Option<Shape>,
 ) -> Result<Reply, Refused>
     requires own { pass.old.seat.table_id ≡ turn.now.table.shared.table_id }
     requires rest { IsResting pass.old.seat.me.0 }
     requires base { (b : CoreBase V) × (pass.old.seat.me.0.base ≡ Some b) × (lent.now.versions.now ≡ b.versions) × (lent.now.boot ≡ b.boot) }
     requires goes { (q : Request) × GoesOver (V.meaning lent.now.versions.now) q key.now (items pass.old.seat.me.0.seen) change.now first }
     requires stays { change.now.release ≡ false }
+    requires shape { IfSome shape (λ p. (V.meaning lent.now.versions.now).pair first (object_of change.now.hub) (shaped p (object_of change.now.hub))) }
     ensures own { pass.new.seat.table_id ≡ pass.old.seat.table_id }
     ensures rest { IsResting pass.new.seat.me.0 }
     ensures came { (b : CoreBase V) (q : Request) → pass.old.seat.me.0.base ≡ Some b
@@ -125,11 +134,13 @@ fn enter<V: Versions + Drop, R: Wait>(
     ensures rises { V.Tool.faults tool.old ≤ V.Tool.faults tool.new }
 {
     let mut storage = first;
+    let mut shape = shape;
     for _ in rt.forever() {
-        match attempt(rt, lent, turn, pass, tool, storage, key, change) {
+        match attempt(rt, lent, turn, pass, tool, storage, key, change, shape) {
             Tried::Told(came) => return came,
             Tried::Moved(now) => storage = now,
         }
+        shape = None;
     }
     unreachable!()
 }
@@ -176,11 +187,13 @@ fn commit<V: Versions + Drop, R: Wait>(
     storage: u8,
     key: &Key,
     change: &Change,
+    shape: Option<Shape>,
 ) -> Result<Reply, Refused>
     requires own { pass.old.seat.table_id ≡ turn.now.table.shared.table_id }
     requires rest { IsResting pass.old.seat.me.0 }
     requires base { (b : CoreBase V) × (pass.old.seat.me.0.base ≡ Some b) × (lent.now.versions.now ≡ b.versions) × (lent.now.boot ≡ b.boot) }
     requires goes { (q : Request) × GoesOver (V.meaning lent.now.versions.now) q key.now (items pass.old.seat.me.0.seen) change.now storage }
+    requires shape { IfSome shape (λ p. (V.meaning lent.now.versions.now).pair storage (object_of change.now.hub) (shaped p (object_of change.now.hub))) }
     ensures own { pass.new.seat.table_id ≡ pass.old.seat.table_id }
     ensures rest { IsResting pass.new.seat.me.0 }
     ensures came { (b : CoreBase V) (q : Request) → pass.old.seat.me.0.base ≡ Some b
@@ -193,7 +206,7 @@ fn commit<V: Versions + Drop, R: Wait>(
     if ends {
         release(rt, lent, turn, pass, tool, key, change)
     } else {
-        enter(rt, lent, turn, pass, tool, storage, key, change)
+        enter(rt, lent, turn, pass, tool, storage, key, change, shape)
     }
 }
 
@@ -246,11 +259,33 @@ fn replace_with<V: Versions + Drop, R: Wait>(
         Ok(admitted) => admitted,
         Err(fault) => return Err(not_admitted(lent.alloc, lent.versions, fault)),
     };
+    let Admitted {
+        hub,
+        weight,
+        expected,
+        shape,
+    } = admitted;
+    let admitted = Admitted {
+        hub,
+        weight,
+        expected,
+        shape: None,
+    };
     let change = match changing(lent, tool, input.version, key, found, admitted) {
         Ok(change) => change,
         Err(refused) => return Err(refused),
     };
-    commit(rt, lent, turn, pass, tool, flags.storage, key, &change)
+    commit(
+        rt,
+        lent,
+        turn,
+        pass,
+        tool,
+        flags.storage,
+        key,
+        &change,
+        shape,
+    )
 }
 
 impl<V: Versions + Drop> SharedApi<V> {

@@ -1,5 +1,6 @@
 //! A create of an object.
-ghost use Rattle.std.specs.Prelude.{◌≡◌, ◌+◌, ◌<◌, ◌≤◌, ◌^◌, ℕ, None, Some, IfOk, IsErrOf, IsTrue, length};
+ghost use Rattle.std.specs.Prelude.{◌≡◌, ◌+◌, ◌<◌, ◌≤◌, ◌^◌, ℕ, None, Some, IfOk, IfSome, IsErrOf, IsTrue, length};
+ghost use Rattle.kube_meta.specs.Shapes.{shaped};
 ghost use Rattle.kube_meta.specs.View.{ObjectView, object_of};
 ghost use Rattle.api_calls.specs.Calls.{create};
 ghost use Rattle.api_calls.specs.Ends.{done};
@@ -19,7 +20,7 @@ use api_calls::{Admitted, ConvFault, Incoming, Refusal, Reply, Versions, one_wei
 use api_core::{CreateEnd, Prepared};
 use call_texts::{Given, Refused};
 use kj_value::{NoMemory, Stamp, Txt};
-use kube_meta::{Key, Object};
+use kube_meta::{Key, Object, Shape};
 
 /// A new object that was admitted at a version, with its key and its weight.
 #[derive(Drop)]
@@ -40,23 +41,26 @@ fn new_value(mut hub: Object, stamp: Stamp) -> Object
     hub
 }
 
-/// What a create stores and shows, and the object's name for a refusal that tells it.
+/// What a create stores and shows, and the object's name for a refusal that tells it. Where there is a shape, by which the value
+/// becomes the form that is stored, that form isn't converted.
 pub fn ready_new<V: Versions>(
     lent: &Given<'_, V>,
     tool: &mut V::Tool,
     storage: u8,
     new: &Fresh,
+    shape: Option<Shape>,
 ) -> Result<(Prepared, Sealed, Txt), ConvFault>
     requires known { new.now.v < (V.meaning lent.now.versions.now).count }
     requires storage { storage < (V.meaning lent.now.versions.now).count }
     requires value { IsFresh (V.meaning lent.now.versions.now) new.now.key (object_of new.now.hub) new.now.weight }
+    requires shape { IfSome shape (λ p. (V.meaning lent.now.versions.now).pair storage (object_of new.now.hub) (shaped p (object_of new.now.hub))) }
     ensures ready { IfOk result (λ r. IsReady (V.meaning lent.now.versions.now) new.now.v storage (object_of new.now.hub) new.now.key new.now.weight r.0 r.1) }
     ensures name { IfOk result (λ r. r.2.bytes ≡ new.now.key.name) }
     ensures tool { IsErrOf result ConvFault.Tool → V.Tool.faults tool.old < V.Tool.faults tool.new }
     ensures rises { V.Tool.faults tool.old ≤ V.Tool.faults tool.new }
 {
     let (prepared, sealed) = prepare_write(
-        lent, tool, new.v, storage, &new.hub, &new.key, new.weight,
+        lent, tool, new.v, storage, &new.hub, &new.key, new.weight, shape,
     )?;
     let name = Txt::of(lent.alloc, new.key.name())?;
     Ok((prepared, sealed, name))

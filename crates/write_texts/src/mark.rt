@@ -84,6 +84,6 @@ pub fn prepare_mark<V: Versions>(
     // Asked for what its clause says: the weight is that of the value with its stamp.
     one_weight::<V>();
     let hub = stamped(old, stamp);
-    let (prepared, sealed) = prepare_write(lent, tool, v, storage, &hub, key, weight)?;
+    let (prepared, sealed) = prepare_write(lent, tool, v, storage, &hub, key, weight, None)?;
     Ok((prepared, sealed, hub))
 }

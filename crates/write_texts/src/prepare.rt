@@ -1,49 +1,79 @@
 //! What a write stores and shows, made before its turn.
-ghost use Rattle.std.specs.Prelude.{◌≡◌, ◌<◌, ◌≤◌, IfOk, IsErrOf, IsTrue, pos, ℕ};
+ghost use Rattle.std.specs.Prelude.{◌≡◌, ◌<◌, ◌≤◌, IfOk, IfSome, IsErrOf, IsTrue, pos, ℕ};
+ghost use Rattle.kj_value.specs.Json.{depth};
+ghost use Rattle.kube_meta.specs.Document.{document};
+ghost use Rattle.kube_meta.specs.Shapes.{shaped};
 ghost use Rattle.kube_meta.specs.View.{object_of};
 ghost use Rattle.api_calls.specs.Legal.{key_of};
 ghost use Rattle.api_calls.specs.Meaning.{Weighs};
 ghost use Rattle.api_calls.specs.Versions.{IsStored};
+ghost use Rattle.api_calls.specs.declared.versions.TheConstants.{OBJECT_LEVELS};
 ghost use Rattle.write_texts.specs.Readying.{IsReady};
 ghost use Rattle.write_texts.specs.Sealed.{Seals};
 
 use crate::moving::within;
 use crate::seal::{Sealed, both, seal};
-use api_calls::{ConvFault, Versions, one_weight, stored_fits};
+use api_calls::{ConvFault, OBJECT_LEVELS, Versions, one_weight, stored_fits};
 use api_core::Prepared;
-use call_texts::Given;
+use call_texts::{Given, stored_text};
 use kj_value::Txt;
-use kube_meta::{Key, Object};
+use kube_meta::{Key, Object, Shape, copy_shaped};
+
+// The object in whose form a hub value is stored at a version: by a shape that was made for it, or converted.
+fn stored_form<V: Versions>(
+    lent: &Given<'_, V>,
+    tool: &mut V::Tool,
+    storage: u8,
+    hub: &Object,
+    shape: Option<Shape>,
+) -> Result<Object, ConvFault>
+    requires known { storage < (V.meaning lent.now.versions.now).count }
+    requires whole { (V.meaning lent.now.versions.now).whole (object_of hub.now) }
+    requires shape { IfSome shape (λ p. (V.meaning lent.now.versions.now).pair storage (object_of hub.now) (shaped p (object_of hub.now))) }
+    ensures form { IfOk result (λ x. (V.meaning lent.now.versions.now).pair storage (object_of hub.now) (object_of x)) }
+    ensures levels { IfOk result (λ x. depth (document (object_of x)) ≤ OBJECT_LEVELS) }
+    ensures tool { IsErrOf result ConvFault.Tool → V.Tool.faults tool.old < V.Tool.faults tool.new }
+    ensures rises { V.Tool.faults tool.old ≤ V.Tool.faults tool.new }
+{
+    let Some(shape) = shape else {
+        return lent.versions.form(lent.alloc, tool, storage, hub);
+    };
+    let form = copy_shaped(lent.alloc, hub, shape)?;
+    Ok(form)
+}
 
 // The text in which a hub value is stored at a version, and the one that shows it at another. Where the two versions are
-// one, it is converted once.
+// one, it is made once.
 fn texts<V: Versions>(
     lent: &Given<'_, V>,
     tool: &mut V::Tool,
     v: u8,
     storage: u8,
     hub: &Object,
+    shape: Option<Shape>,
 ) -> Result<(Txt, Sealed), ConvFault>
     requires known { v < (V.meaning lent.now.versions.now).count }
     requires storage { storage < (V.meaning lent.now.versions.now).count }
     requires whole { (V.meaning lent.now.versions.now).whole (object_of hub.now) }
+    requires shape { IfSome shape (λ p. (V.meaning lent.now.versions.now).pair storage (object_of hub.now) (shaped p (object_of hub.now))) }
     ensures stored { IfOk result (λ r. IsStored (V.meaning lent.now.versions.now) storage (object_of hub.now) r.0.bytes) }
     ensures seals { IfOk result (λ r. Seals (V.meaning lent.now.versions.now) v (object_of hub.now) r.1) }
     ensures tool { IsErrOf result ConvFault.Tool → V.Tool.faults tool.old < V.Tool.faults tool.new }
     ensures rises { V.Tool.faults tool.old ≤ V.Tool.faults tool.new }
 {
-    let form = lent.versions.form(lent.alloc, tool, v, hub)?;
+    let form = stored_form(lent, tool, storage, hub, shape)?;
     if v == storage {
         let texts = both(lent.alloc, form)?;
         return Ok(texts);
     }
-    let sealed = seal(lent.alloc, form)?;
-    let bytes = lent.stored(tool, storage, hub)?;
+    let bytes = stored_text(lent.alloc, form)?;
+    let shown = lent.versions.form(lent.alloc, tool, v, hub)?;
+    let sealed = seal(lent.alloc, shown)?;
     Ok((bytes, sealed))
 }
 
-/// A hub value, ready to be stored at a version and to be shown at another. It takes no turn. `Tool` comes only where
-/// the tool's count of faults rose.
+/// A hub value, ready to be stored at a version and to be shown at another. Where there is a shape, by which it becomes the
+/// form that is stored, that form isn't converted. It takes no turn. `Tool` comes only where the tool's count of faults rose.
 pub fn prepare_write<V: Versions>(
     lent: &Given<'_, V>,
     tool: &mut V::Tool,
@@ -52,6 +82,7 @@ pub fn prepare_write<V: Versions>(
     hub: &Object,
     key: &Key,
     weight: u64,
+    shape: Option<Shape>,
 ) -> Result<(Prepared, Sealed), ConvFault>
     requires known { v < (V.meaning lent.now.versions.now).count }
     requires storage { storage < (V.meaning lent.now.versions.now).count }
@@ -59,6 +90,7 @@ pub fn prepare_write<V: Versions>(
     requires key { IsTrue (V.meaning lent.now.versions.now).honest → key_of (object_of hub.now) ≡ key.now }
     requires weighs { IsTrue (V.meaning lent.now.versions.now).honest → Weighs (V.meaning lent.now.versions.now) (object_of hub.now) weight }
     requires counts { IsTrue (V.meaning lent.now.versions.now).honest → (n : ℕ) × ((object_of hub.now).meta.generation ≡ pos n) }
+    requires shape { IfSome shape (λ p. (V.meaning lent.now.versions.now).pair storage (object_of hub.now) (shaped p (object_of hub.now))) }
     ensures ready { IfOk result (λ r. IsReady (V.meaning lent.now.versions.now) v storage (object_of hub.now) key.now weight r.0 r.1) }
     ensures tool { IsErrOf result ConvFault.Tool → V.Tool.faults tool.old < V.Tool.faults tool.new }
     ensures rises { V.Tool.faults tool.old ≤ V.Tool.faults tool.new }
@@ -66,7 +98,7 @@ pub fn prepare_write<V: Versions>(
     // Asked for what their clauses say: a stored text is within its value's weight, which isn't 0.
     stored_fits::<V>();
     one_weight::<V>();
-    let (bytes, sealed) = texts(lent, tool, v, storage, hub)?;
+    let (bytes, sealed) = texts(lent, tool, v, storage, hub, shape)?;
     within::<V>(&bytes, weight)?;
     let key = Key::of(lent.alloc, key.ns(), key.name())?;
     let prepared = Prepared {

@@ -1,5 +1,6 @@
 //! A replace of an object.
-ghost use Rattle.std.specs.Prelude.{◌≡◌, ◌+◌, ◌<◌, ◌≤◌, ◌^◌, ◌↔◌, [], ℕ, None, IfOk, IsErrOf, IsTrue, length, pos};
+ghost use Rattle.std.specs.Prelude.{◌≡◌, ◌+◌, ◌<◌, ◌≤◌, ◌^◌, ◌↔◌, [], ℕ, None, IfOk, IfSome, IsErrOf, IsTrue, length, pos};
+ghost use Rattle.kube_meta.specs.Shapes.{shaped};
 ghost use Rattle.kube_meta.specs.View.{ObjectView, object_of};
 ghost use Rattle.api_calls.specs.Calls.{replace};
 ghost use Rattle.api_calls.specs.Ends.{done};
@@ -19,15 +20,17 @@ use api_calls::{BORN_END, ConvFault, Refusal, Reply, Versions};
 use api_core::{Prepared, ReleaseEnd, ReplaceEnd};
 use call_texts::{Given, Refused};
 use kj_value::Txt;
-use kube_meta::Key;
+use kube_meta::{Key, Shape};
 
-/// What a replace stores and shows, and the object's name for a refusal that tells it.
+/// What a replace stores and shows, and the object's name for a refusal that tells it. Where there is a shape, by which the value
+/// becomes the form that is stored, that form isn't converted.
 pub fn ready_over<V: Versions>(
     lent: &Given<'_, V>,
     tool: &mut V::Tool,
     storage: u8,
     key: &Key,
     change: &Change,
+    shape: Option<Shape>,
 ) -> Result<(Prepared, Sealed, Txt), ConvFault>
     requires known { change.now.v < (V.meaning lent.now.versions.now).count }
     requires storage { storage < (V.meaning lent.now.versions.now).count }
@@ -36,6 +39,7 @@ pub fn ready_over<V: Versions>(
     requires weighs { IsTrue (V.meaning lent.now.versions.now).honest → Weighs (V.meaning lent.now.versions.now) (object_of change.now.hub) change.now.weight }
     requires counts { IsTrue (V.meaning lent.now.versions.now).honest → (n : ℕ) × ((object_of change.now.hub).meta.generation ≡ pos n) }
     requires some { 0 < change.now.weight }
+    requires shape { IfSome shape (λ p. (V.meaning lent.now.versions.now).pair storage (object_of change.now.hub) (shaped p (object_of change.now.hub))) }
     ensures ready { IfOk result (λ r. IsReady (V.meaning lent.now.versions.now) change.now.v storage (object_of change.now.hub) key.now change.now.weight r.0 r.1) }
     ensures name { IfOk result (λ r. r.2.bytes ≡ key.now.name) }
     ensures tool { IsErrOf result ConvFault.Tool → V.Tool.faults tool.old < V.Tool.faults tool.new }
@@ -49,6 +53,7 @@ pub fn ready_over<V: Versions>(
         &change.hub,
         key,
         change.weight,
+        shape,
     )?;
     let name = Txt::of(lent.alloc, key.name())?;
     Ok((prepared, sealed, name))

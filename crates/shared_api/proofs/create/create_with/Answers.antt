@@ -1,6 +1,7 @@
-use Rattle.std.proofs.Common.{◌≡◌, ◌⊎◌, ◌<◌, ℕ, Some, None, Err, Result, false, true, inl, refl, ap, sym, subst, ◌∙◌, arith}
-use Rattle.std.specs.Prelude.{IsTrue}
+use Rattle.std.proofs.Common.{◌≡◌, ◌⊎◌, ◌<◌, ℕ, pos, Some, None, Err, Result, false, true, inl, refl, ap, sym, subst, ◌∙◌, arith}
+use Rattle.std.specs.Prelude.{IfSome, IsTrue}
 use Rattle.std.proofs.lemmas.Result.{err_from_is_err_and}
+use Rattle.kube_meta.specs.Shapes.{shaped}
 use Rattle.kube_meta.specs.View.{ObjectView, object_of}
 use Rattle.api_calls.specs.Calls.{answered, create}
 use Rattle.api_calls.specs.Item.{items}
@@ -20,6 +21,7 @@ use Rattle.shared_api.specs.WriteTurns.{Created, Results}
 use Rattle.shared_api.specs.declared.cell.CoreBase.{CoreBase}
 use Rattle.call_texts.specs.declared.refused.Refused as made
 use Rattle.shared_api.proofs.Results.{admitted_calls, create_calls, reads-writes, refused_came, results-join, unserved_calls}
+use Rattle.shared_api.proofs.Shaping.{shape-stamped}
 use Rattle.shared_api.proofs.create.create_with.Goals as goal
 
 pub returns-then-not-is_served-clause-answer : goal.returns-then-not-is_served-clause-answer
@@ -57,6 +59,15 @@ enter-requires-clause-storage g c =
     let base = c.requires.base in
     let settled = c.settle.ensures.settles base.0 base.1 in
     (subst (λ (x : g.row.V.Denot). AreFlags (g.V.Versions.meaning x).count c.settle.result.0) (sym base.2) settled.are_flags).storage
+
+pub enter-requires-clause-shape : goal.enter-requires-clause-shape
+enter-requires-clause-shape g c =
+    let it = c.args.lent.now.versions.now in
+    let m = g.V.Versions.meaning it in
+    let v = c.settle.result.0.storage in
+    let shape = c.in-Ok.admitted.shape in
+    subst (λ (o : ObjectView). IfSome shape (λ p. m.pair v o (shaped p o))) (sym c.in_ok-new.ensures.hub)
+    (shape-stamped m (g.met.V.Versions.unstamped it) v (object_of c.in-Ok.admitted.hub) (Some c.args.stamp.text) None (pos 1) shape c.in-Ok.ensures.shape)
 
 pub enter-requires-clause-base : goal.enter-requires-clause-base
 enter-requires-clause-base g c =

@@ -15,6 +15,9 @@ try_new-requires-clause-base g c =
       base.3,
     )
 
+pub try_new-requires-clause-shape : goal.try_new-requires-clause-shape
+try_new-requires-clause-shape g c = c.loop.invariant.shape
+
 pub returns-in-Told-clause-came : goal.returns-in-Told-clause-came
 returns-in-Told-clause-came g c b is =
     let s = server_of g.V.Versions.meaning b in
@@ -41,6 +44,7 @@ loop-preserved g c = record {
       let tries = c.in-Moved.ensures.tries b there in
       (rested-join s v w c.try_new.new.pass.seat.me.0 rested.0 tries.0, tries.1)
       );
+  shape = tt;
   next = tt;
   finite = tt;
 }

@@ -28,6 +28,9 @@ attempt-requires-clause-goes g c =
           (c.loop.invariant.known base.0 goes.0 base.1 there).1,
     )
 
+pub attempt-requires-clause-shape : goal.attempt-requires-clause-shape
+attempt-requires-clause-shape g c = c.loop.invariant.shape
+
 pub returns-in-Told-clause-came : goal.returns-in-Told-clause-came
 returns-in-Told-clause-came g c b q is goes =
     let s = server_of g.V.Versions.meaning b in
@@ -54,6 +57,7 @@ loop-preserved g c = record {
       let tries = c.in-Moved.ensures.tries b q there known.1 in
       (rested-join s v w c.attempt.new.pass.seat.me.0 known.0 (inr tries.0), tries.1)
       );
+  shape = tt;
   next = tt;
   finite = tt;
 }

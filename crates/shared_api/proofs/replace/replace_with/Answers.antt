@@ -18,6 +18,7 @@ use Rattle.write_texts.specs.Replacing.{Changes, GoesOver, RefusesReplace, Repli
 use Rattle.shared_api.specs.declared.cell.CoreBase.{CoreBase}
 use Rattle.write_texts.proofs.Overs.{goes, not_admitted-came, refuses-came, refuses-rises, stored-found, unserved-came}
 use Rattle.shared_api.proofs.Replaces.{looked_calls, seen-of, settled-join, settled_calls}
+use Rattle.shared_api.proofs.Shaping.{shape-updated}
 use Rattle.shared_api.proofs.replace.replace_with.Goals as goal
 
 pub returns-in-Err-clause-answer : goal.returns-in-Err-clause-answer
@@ -152,6 +153,13 @@ commit-requires-clause-goes g c =
       subst (λ (x : g.row.V.Denot). GoesOver (g.V.Versions.meaning x) r k (items c.look.new.pass.seat.me.0.seen) change p.flags.storage) (sym base.2)
           (subst (λ (l : List Logged). GoesOver s.meaning r k (items l) change p.flags.storage) (sym (seen-of s c.args.pass.now.seat.me.0 c.look.new.pass.seat.me.0 looked.log looked.reads)) here),
     )
+
+pub commit-requires-clause-shape : goal.commit-requires-clause-shape
+commit-requires-clause-shape g c =
+    let it = c.args.lent.now.versions.now in
+    let changes = c.in-Ok-changing.ensures.changes in
+    shape-updated (g.V.Versions.meaning it) (g.met.V.Versions.unstamped it) c.in-Ok.looked.flags.storage changes.2.old (object_of c.in-Ok-admit.admitted.hub)
+    (object_of c.in-Ok-changing.change.hub) c.in-Ok-admit.admitted.shape changes.2.update c.in-Ok-admit.ensures.shape
 
 pub returns-clause-answer : goal.returns-clause-answer
 returns-clause-answer g c b is =
