@@ -109,7 +109,9 @@ def main():
     """Reads the words, runs and prints."""
     parser = parser_of(__doc__, "kubeconv")
     parser.add_argument("--beside", metavar="OTHER", help="another program that answers `OTHER pipe`, timed in the same rounds")
+    parser.add_argument("--chores", type=int, default=len(CHORES), help="so many of the kinds of requests, from the first on, where an earlier build answers no others (default: all)")
     options = parser.parse_args()
+    chores = CHORES[: options.chores]
     programs = [built("kubeconv", options.program, "pipe")]
     if options.beside:
         programs.append(built("kubeconv", options.beside, "pipe"))
@@ -119,7 +121,7 @@ def main():
             made = [create(turn, 0) for turn in range(size)]
             given, wanted = "".join(made).encode(), [201] * size
             tasks[program, size, None] = lambda program=program, given=given, wanted=wanted: seconds_of(program, given, wanted)
-            for name, ask, code, times in CHORES:
+            for name, ask, code, times in chores:
                 asked = [ask(turn, size) for turn in range(times)]
                 given, wanted = "".join(made + asked).encode(), [201] * size + [code] * times
                 tasks[program, size, name] = lambda program=program, given=given, wanted=wanted: seconds_of(program, given, wanted)
@@ -127,14 +129,14 @@ def main():
     rows = {}
     for program in programs:
         print(f"{'request':<26}" + "".join(f"{f'us, {size} objects':>18}" for size in SIZES) + f"{'last to first':>15}")
-        for name, _ask, _code, times in CHORES:
+        for name, _ask, _code, times in chores:
             each = [(best[program, size, name] - best[program, size, None]) / times for size in SIZES]
             rows[program, name] = each
             print(f"{name:<26}" + "".join(f"{it * 1e6:>18.1f}" for it in each) + f"{each[-1] / each[0]:>15.2f}")
     if options.beside:
         first, other = programs
         print(f"{'the first to the other':<26}")
-        for name, *_ in CHORES:
+        for name, *_ in chores:
             print(f"{name:<26}" + "".join(f"{mine / its:>18.2f}" for mine, its in zip(rows[first, name], rows[other, name])))
 
 
