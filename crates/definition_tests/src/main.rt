@@ -1,88 +1,142 @@
-//! Cases of what a loaded definition does that no request shows yet: names, weights, replaces, conversions, flags and stored
-//! versions, of the shared definition.
+//! Cases of the shared definition: whole objects taken between its versions, what it does once it is loaded, and reviews.
 //!
-//! Each line of standard input is a case: its first byte tells what is done with the text behind the second, and the answer is
-//! printed on a line; one that begins with `#` is printed as it stands. The answers that are wanted stand in `stdout`. In a body
-//! `(PIECE*COUNT)` stands for so many pieces. A path is `VERSION`, which creates, or `VERSION/NAME`, which replaces, in the namespace
-//! `default`.
+//! Each line of standard input is a case, and what it comes to is printed. One that begins with `=` is a title, which says whose
+//! cases the lines behind it are, and one that begins with `#` is a name or a remark; both are printed as they stand. The answers
+//! that are wanted stand in `stdout`.
 //!
-//! | line | what is answered |
-//! |---|---|
-//! | `n` | what the definition is called, and its versions with `*` behind the one that is stored at first |
-//! | `f NAME` | the place of the version of a name |
-//! | `o` | how the first version stands to the second, by priority |
-//! | `w PATH BODY` | what a request's hub value takes at whichever version it is stored, in chunks of 256 bytes |
-//! | `r PATH BODY` | the hub value of a request, and the request's number where it has one |
-//! | `c VERSION DOCUMENT` | the document at a version that is one with this one |
-//! | `s KEPT FLAGS` | the definition's text with the stored versions and the flags that two bodies give |
+//! | title | cases of | what a line says |
+//! |---|---|---|
+//! | `= spokes` | whole objects taken between the versions, each written as its JSON text | `spoke_cases` |
+//! | `= definition` | what the loaded definition does that no request shows yet | `definition_cases` |
+//! | `= reviews` | reviews that are answered and asked, and their responses | `review_cases` |
 //!
-//! Where something is refused, the answer is the word of a bad request, or the name in quotes, the field and the rule. The steps know
-//! of `Versions` alone, so that what a definition means stays outside their proofs; those of converting know of `crd_versions`.
-//! Nothing here has a contract.
+//! The one contract: `object_at` gives an object that stands at a version, as `settle` and `to_hub` require it.
 #![tactic(auto)]
 
 mod conversions;
+mod definition_cases;
 mod requests;
+mod review_cases;
+mod review_told;
 mod settings;
+mod spoke_cases;
+mod spoke_entries;
+mod spoke_objects;
+mod spoke_versions;
 mod texts;
 
-use api_calls::{NoTool, Versions};
-use crd_versions::{VersionSet, load};
+use crd_versions::VersionSet;
 use kj_value::Txt;
+use review_cases::Question;
+use spoke_keep::Spokes;
 use std::alloc::Global;
 use std::io;
 
-// The versions of the shared definition.
-fn shared(alloc: Global) -> Option<VersionSet> {
-    let crd = crontab_example::definition();
-    let rules = crontab_example::rules();
-    load(alloc, crd.as_bytes(), rules.as_bytes()).ok()
+#[derive(Clone, Copy)]
+enum Part {
+    Spoke,
+    Definition,
+    Review,
 }
 
-fn answer(alloc: Global, versions: &VersionSet, word: u8, text: &str) -> Option<Txt> {
-    match word {
-        b'w' => requests::answer(alloc, versions, &mut NoTool, true, text),
-        b'r' => requests::answer(alloc, versions, &mut NoTool, false, text),
-        b'c' => conversions::converted(alloc, versions, text),
-        _ => of_settings(alloc, versions, word, text),
-    }
+// What earlier lines say: whose cases the next ones are, and what was asked for the responses behind it.
+#[derive(Drop)]
+struct Earlier {
+    part: Option<Part>,
+    question: Question,
 }
 
-fn of_settings<V: Versions>(alloc: Global, versions: &V, word: u8, text: &str) -> Option<Txt> {
-    match word {
-        b'n' => settings::names(alloc, versions),
-        b'f' => settings::found(alloc, versions, text),
-        b'o' => settings::order(alloc, versions),
-        b's' => settings::shown(alloc, versions, text),
+fn part_of(title: &str) -> Option<Part> {
+    match title.as_bytes().get(2) {
+        Some(b's') => Some(Part::Spoke),
+        Some(b'd') => Some(Part::Definition),
+        Some(b'r') => Some(Part::Review),
         _ => None,
     }
 }
 
-// Writes what a line is answered.
-fn tell(rt: &HostRuntime, alloc: Global, versions: &VersionSet, line: &str) -> io::Result<()> {
-    let text = line.get(2..).unwrap_or("");
-    match line.as_bytes().first() {
-        Some(b'#') => println!(rt; "{}", line),
-        Some(word) => match answer(alloc, versions, *word, text) {
-            Some(told) => println!(rt; "{}", told.as_str()),
-            None => println!(rt; "no such case"),
-        },
+// Writes an answer on a line.
+fn tell_line(rt: &HostRuntime, answer: Option<Txt>) -> io::Result<()> {
+    match answer {
+        Some(told) => println!(rt; "{}", told.as_str()),
         None => println!(rt; "no such case"),
     }
 }
 
-fn tell_all(rt: &HostRuntime, alloc: Global, versions: &VersionSet) -> io::Result<()> {
+// Writes the lines of an answer, if any.
+fn tell_lines(rt: &HostRuntime, answer: Option<String>) -> io::Result<()> {
+    match answer {
+        Some(told) => print!(rt; "{}", told.as_str()),
+        None => println!(rt; "no such case"),
+    }
+}
+
+fn tell_case(
+    rt: &HostRuntime,
+    alloc: Global,
+    spokes: &Spokes,
+    versions: &VersionSet,
+    earlier: &mut Earlier,
+    line: &str,
+) -> io::Result<()> {
+    match earlier.part {
+        Some(Part::Spoke) => tell_line(rt, spoke_cases::answer(alloc, spokes, line)),
+        Some(Part::Definition) => tell_line(rt, definition_cases::answer(alloc, versions, line)),
+        Some(Part::Review) => {
+            let question = &mut earlier.question;
+            tell_lines(rt, review_cases::take(alloc, versions, question, line))
+        }
+        None => println!(rt; "no such case"),
+    }
+}
+
+fn tell(
+    rt: &HostRuntime,
+    alloc: Global,
+    spokes: &Spokes,
+    versions: &VersionSet,
+    earlier: &mut Earlier,
+    line: &str,
+) -> io::Result<()> {
+    match line.as_bytes().first() {
+        Some(b'#') => println!(rt; "{}", line),
+        Some(b'=') => {
+            earlier.part = part_of(line);
+            println!(rt; "{}", line)
+        }
+        _ => tell_case(rt, alloc, spokes, versions, earlier, line),
+    }
+}
+
+fn tell_all(
+    rt: &HostRuntime,
+    alloc: Global,
+    spokes: &Spokes,
+    versions: &VersionSet,
+    earlier: &mut Earlier,
+) -> io::Result<()> {
     for line in rt.lines(alloc) {
         let line = line?;
-        tell(rt, alloc, versions, line.as_str())?;
+        tell(rt, alloc, spokes, versions, earlier, line.as_str())?;
     }
     Ok(())
 }
 
+fn with_spokes(rt: &HostRuntime, alloc: Global, spokes: &Spokes) -> io::Result<()> {
+    let mut earlier = Earlier {
+        part: None,
+        question: Question::new(alloc),
+    };
+    match definition_cases::shared(alloc) {
+        Some(versions) => tell_all(rt, alloc, spokes, &versions, &mut earlier),
+        None => println!(rt; "the definition isn't loaded"),
+    }
+}
+
 fn main(rt: HostRuntime) -> io::Result<()> {
     let alloc = rt.alloc();
-    match shared(alloc) {
-        Some(versions) => tell_all(&rt, alloc, &versions),
-        None => println!(rt; "the definition isn't loaded"),
+    match spoke_versions::shared_versions(alloc) {
+        Some(spokes) => with_spokes(&rt, alloc, &spokes),
+        None => println!(rt; "the definition isn't read"),
     }
 }

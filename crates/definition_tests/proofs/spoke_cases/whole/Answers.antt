@@ -1,5 +1,5 @@
 use Rattle.kube_meta.specs.View.{object_of}
-use Rattle.spoke_tests.proofs.cases.whole.Goals as goal
+use Rattle.definition_tests.proofs.spoke_cases.whole.Goals as goal
 
 pub returns-in-Ok : goal.returns-in-Ok
 returns-in-Ok c =

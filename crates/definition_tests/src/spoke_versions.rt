@@ -1,4 +1,4 @@
-//! The versions of the shared definition.
+//! The versions of the shared definition, as its spokes.
 ghost use Rattle.std.specs.Prelude.{◌≡◌, [], IfSome};
 ghost use Rattle.keep_laws.specs.FittedBody.{HasRoom};
 
