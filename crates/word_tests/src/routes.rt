@@ -1,12 +1,23 @@
-//! What a request comes to, as a line.
+//! Requests and the calls that they are, over the small definition that other tests use: group `example.com`, plural `crontabs`,
+//! `v1` at place 0 and `v1beta1` at place 1. A case is a method, a space and a target; there is no answer where memory is wanted.
+use crate::words::line;
 use api_calls::{Token, Why};
 use http_routes::{Call, Route, find_call};
+use kj_value::Txt;
 use kube_meta::Key;
 use std::alloc::Global;
 use versions_fixture::TwoNames;
 
-/// What the request of a case comes to; `None` where memory is wanted.
-pub fn answer(alloc: Global, versions: &TwoNames, case: &str) -> Option<String> {
+/// A case, and what its request comes to.
+pub fn answer(alloc: Global, case: &str) -> Option<Txt> {
+    let versions = TwoNames::new(alloc).ok()?;
+    match told(alloc, &versions, case) {
+        Some(text) => line(format!(in alloc; "{case}: {}", text.as_str())),
+        None => None,
+    }
+}
+
+fn told(alloc: Global, versions: &TwoNames, case: &str) -> Option<String> {
     let (method, target) = match case.split_once(' ') {
         Some(parts) => parts,
         None => (case, ""),

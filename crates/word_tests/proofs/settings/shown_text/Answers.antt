@@ -1,5 +1,5 @@
 use Rattle.std.proofs.Common.{arith}
-use Rattle.settings_tests.proofs.cases.shown_text.Goals as goal
+use Rattle.word_tests.proofs.settings.shown_text.Goals as goal
 
 pub show-requires : goal.show-requires
 show-requires c = record {

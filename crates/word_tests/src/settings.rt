@@ -1,4 +1,5 @@
-//! The answers to cases; there is none where memory is wanted.
+//! What bodies say of a definition's flags and stored versions, and how the definition is shown; there is no answer where
+//! memory is wanted.
 ghost use Rattle.std.specs.Prelude.{◌≤◌, IfSome};
 ghost use Rattle.kj_value.specs.Json.{depth};
 
