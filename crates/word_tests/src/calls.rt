@@ -99,23 +99,17 @@ fn of_a_word(alloc: Global, word: &str, name: Txt) -> Option<Refusal> {
 
 fn invalid(alloc: Global, name: Txt) -> Option<Refusal> {
     let subject = subject(alloc, name)?;
-    let cause = cause(alloc)?;
+    let field = Txt::of(alloc, "metadata.resourceVersion").ok()?;
+    let cause = Cause {
+        field,
+        rule: Rule::Required,
+    };
     Some(Refusal::Invalid { subject, cause })
 }
 
 fn subject(alloc: Global, name: Txt) -> Option<Subject> {
     match Txt::of(alloc, "CronTab.example.com") {
         Ok(kind_group) => Some(Subject { kind_group, name }),
-        Err(_) => None,
-    }
-}
-
-fn cause(alloc: Global) -> Option<Cause> {
-    match Txt::of(alloc, "metadata.resourceVersion") {
-        Ok(field) => Some(Cause {
-            field,
-            rule: Rule::Required,
-        }),
         Err(_) => None,
     }
 }

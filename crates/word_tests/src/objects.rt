@@ -14,7 +14,7 @@ use std::alloc::Global;
 pub fn answer(alloc: Global, section: &str, case: &str) -> Option<Txt> {
     match section {
         "# documents that are read" => told(alloc, document(alloc, case)?),
-        "# documents without their name" => unnamed(alloc, case),
+        "# documents without their name" => without_name(alloc, &mut submitted(alloc, case)?),
         "# documents with a number" => numbered(alloc, &list(alloc, case)?),
         "# documents that are measured" => measured(alloc, case),
         _ => None,
@@ -160,11 +160,7 @@ fn measure(o: &Object) -> Option<u64> {
     Some(bytes)
 }
 
-// The measure and the text of an object whose name is empty, and whose body has a kind.
-fn unnamed(alloc: Global, case: &str) -> Option<Txt> {
-    without_name(alloc, &mut submitted(alloc, case)?)
-}
-
+// The measure and the text of an object whose name is emptied, and whose body gets a kind.
 fn without_name(alloc: Global, o: &mut Object) -> Option<Txt> {
     o.meta.name = Txt::of(alloc, "").ok()?;
     set_kind(alloc, o)?;

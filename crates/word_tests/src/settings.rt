@@ -3,6 +3,7 @@
 ghost use Rattle.std.specs.Prelude.{◌≤◌, IfSome};
 ghost use Rattle.kj_value.specs.Json.{depth};
 
+use crate::words::line;
 use api_calls::{AdmitFault, Flags};
 use crd_reading::{Definition, read_definition};
 use crd_settings::{Pieces, opening, read_flags, read_keep};
@@ -24,17 +25,15 @@ fn shown_so(alloc: Global, definition: &Definition, section: &str, body: &str) -
     requires { depth definition.now.spec ≤ MAX_JSON_LEVELS }
 {
     match section {
-        "# shown as loaded" => shown(alloc, definition, &opening(definition), body),
-        "# shown with the first version alone" => shown(alloc, definition, &first(), body),
+        "# shown as loaded" => shown_text(alloc, definition, &opening(definition), body).ok(),
+        "# shown with the first version alone" => {
+            let first = Flags {
+                served: [true, false, false, false, false, false, false, false],
+                storage: 0,
+            };
+            shown_text(alloc, definition, &first, body).ok()
+        }
         _ => None,
-    }
-}
-
-// The first version is served and stored.
-fn first() -> Flags {
-    Flags {
-        served: [true, false, false, false, false, false, false, false],
-        storage: 0,
     }
 }
 
@@ -60,13 +59,12 @@ fn definition(alloc: Global, text: &str) -> Option<Definition>
 fn refusal(alloc: Global, fault: &AdmitFault) -> Option<Txt> {
     match fault {
         AdmitFault::BadRequest(why) => Txt::of(alloc, why.word()).ok(),
-        AdmitFault::Invalid { name, cause } => Some(Txt::of_string(format!(in alloc;
+        AdmitFault::Invalid { name, cause } => line(format!(in alloc;
             "{} {} {}",
             name.as_str(),
             cause.field.as_str(),
             cause.rule.word()
-        )
-        .ok()?)),
+        )),
         AdmitFault::Tool => None,
         AdmitFault::NoMemory => None,
     }
@@ -78,7 +76,7 @@ fn flags_text(alloc: Global, flags: &Flags) -> Option<Txt> {
     let second = flags.served[1];
     let third = flags.served[2];
     let storage = flags.storage;
-    Some(Txt::of_string(format!(in alloc; "{first} {second} {third} {storage}").ok()?))
+    line(format!(in alloc; "{first} {second} {third} {storage}"))
 }
 
 // The flags of a body, or the refusal.
@@ -96,22 +94,13 @@ fn kept_told(alloc: Global, definition: &Definition, body: &str) -> Option<Txt> 
             let count = kept.len;
             let first = kept.items[0];
             let second = kept.items[1];
-            Some(Txt::of_string(format!(in alloc; "{count} of {first} {second}").ok()?))
+            line(format!(in alloc; "{count} of {first} {second}"))
         }
         Err(fault) => refusal(alloc, &fault),
     }
 }
 
 // The definition with these flags and the stored versions that a body keeps.
-fn shown(alloc: Global, definition: &Definition, flags: &Flags, body: &str) -> Option<Txt>
-    requires { depth definition.now.spec ≤ MAX_JSON_LEVELS }
-{
-    match shown_text(alloc, definition, flags, body) {
-        Ok(text) => Some(text),
-        Err(_) => None,
-    }
-}
-
 fn shown_text(
     alloc: Global,
     definition: &Definition,

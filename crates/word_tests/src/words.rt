@@ -10,7 +10,10 @@ pub fn answer(alloc: Global, section: &str, case: &str) -> Option<Txt> {
     match section {
         "# texts that are keys" => keys(alloc, &list(alloc, case)?),
         "# texts that are names of places" => places(alloc, &list(alloc, case)?),
-        _ => word(alloc, is_one(section, case)?),
+        _ => {
+            let word = if is_one(section, case)? { "yes" } else { "no" };
+            Txt::of(alloc, word).ok()
+        }
     }
 }
 
@@ -30,10 +33,6 @@ fn is_of_a_label(section: &str, text: &str) -> Option<bool> {
         "# texts as values of labels" => Some(label_value_ok(text)),
         _ => None,
     }
-}
-
-fn word(alloc: Global, yes: bool) -> Option<Txt> {
-    Txt::of(alloc, if yes { "yes" } else { "no" }).ok()
 }
 
 /// The list that a case is.
