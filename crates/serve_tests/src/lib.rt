@@ -1,8 +1,17 @@
-//! Tests of many connections over a small definition: each is answered and given back, connections and workers go on beside
-//! each other, and how serving ends.
+//! Tests in threads, and with a run for each place of an input: of the turn lock (`turns`), of many connections over a small definition
+//! (`connections`), and of the program over a line of `serve` (`beside`) and over inputs of `pipe` (`splits`), both by `running`. The
+//! last two can't be cases of `program_tests`.
 //!
 //! It has no code of its own.
 #![tactic(auto)]
 
 #[cfg(test)]
-mod tests;
+mod beside;
+#[cfg(test)]
+mod connections;
+#[cfg(test)]
+mod running;
+#[cfg(test)]
+mod splits;
+#[cfg(test)]
+mod turns;

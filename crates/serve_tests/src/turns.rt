@@ -1,4 +1,5 @@
-//! Passes that meet, calls at their places, threads, and what is dropped.
+//! The turn lock over the small counter of `turn_tests` and cores of its `generic`: passes that meet, calls at their places, threads,
+//! and what is dropped.
 use std::alloc::Global;
 use std::sync::Arc;
 use std::sync::atomic::{AtomicU64, Ordering};

@@ -1,3 +1,5 @@
+//! Many connections over a small definition: each is answered and given back, connections and workers go on beside each other, and
+//! how serving ends.
 ghost use Rattle.std.specs.Prelude.{◌≤◌};
 
 use api_calls::{NoTool, NoTools, Tools};
