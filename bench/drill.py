@@ -9,7 +9,7 @@ there at most."""
 import sys
 
 import drill_model
-from programs import best_of, built, parser_of, processor_seconds, timed
+from programs import built, each_of, parser_of, run_of
 
 START = 7
 STEPS = 10_000, 100_000
@@ -20,26 +20,27 @@ def summary_of(output):
     return {word: int(number) for word, number in (line.split() for line in output.decode().splitlines())}
 
 
-def checked(program, steps, wanted):
-    """The processor seconds of a drill of so many steps, which is to write what is wanted."""
-    before = processor_seconds()
-    _seconds, output = timed([program, "drill", str(START), str(steps)])
-    used = processor_seconds() - before
-    told = summary_of(output)
-    if told["created"] != told["deleted"] + told["objects"] or told["objects"] > 64:
-        sys.exit(f"a drill of {steps} steps doesn't add up: {told}")
-    if output.decode() != wanted:
-        sys.exit(f"a drill of {steps} steps isn't that of the model: {output.decode()}")
-    return used
+def drill_of(program, steps):
+    """The run of a drill of so many steps, which is to write what the model does."""
+    wanted = drill_model.drill(START, steps)
+
+    def holds(output):
+        told = summary_of(output)
+        if told["created"] != told["deleted"] + told["objects"] or told["objects"] > 64:
+            sys.exit(f"a drill of {steps} steps doesn't add up: {told}")
+        return output.decode() == wanted
+
+    return run_of([program, "drill", str(START), str(steps)], b"", holds)
 
 
 def main():
-    options = parser_of(__doc__, "kubeconv").parse_args()
-    program = built("kubeconv", options.program, f"drill {START} 0")
-    wanted = {steps: drill_model.drill(START, steps) for steps in (0, *STEPS)}
-    best = best_of(options.runs, {steps: lambda steps=steps: checked(program, steps, wanted[steps]) for steps in wanted})
+    """Reads the words, runs and prints."""
+    options = parser_of(__doc__).parse_args()
+    program = built(options.program)
+    none = drill_of(program, 0)
+    each = each_of(options.runs, {steps: (drill_of(program, steps), none) for steps in STEPS})
     few, many = STEPS
-    times = {steps: (best[steps] - best[0]) / steps * 1e6 for steps in STEPS}
+    times = {steps: seconds / steps * 1e6 for steps, seconds in each.items()}
     print(f"{'steps':>8} {'microseconds a step':>20}")
     for steps in STEPS:
         print(f"{steps:>8} {times[steps]:>20.1f}")

@@ -30,6 +30,9 @@ from serving import (
     Server,
     address_of,
     body_of,
+    looked_at,
+    migration,
+    moved,
     path_of,
     request,
     seconds_now,
@@ -43,7 +46,6 @@ SLOW_SECONDS = 5
 HEAD_BYTES = 16_384
 LISTED = 500
 PAIRS = 100
-LOOKS = 600
 FAULTS = []
 
 
@@ -157,24 +159,11 @@ def long_head(address):
 def migrates(early):
     """Moves the storage version, starts a migration, and sees it to its end."""
     _code, definition = early.ask("GET", DEFINITION)
-    for version in definition["spec"]["versions"]:
-        version["storage"] = not version["storage"]
-    early.ask("PUT", DEFINITION, definition)
+    early.ask("PUT", DEFINITION, moved(definition))
     name = f"h{time.time_ns()}"
-    body = {
-        "apiVersion": "storagemigration.k8s.io/v1alpha1",
-        "kind": "StorageVersionMigration",
-        "metadata": {"name": name},
-        "spec": {"resource": {"group": "example.com", "resource": "crontabs"}},
-    }
-    code, shown = early.ask("POST", MIGRATIONS, body)
+    code, _shown = early.ask("POST", MIGRATIONS, migration(name))
     check(code == 201, f"a migration is started: {code}")
-    for _ in range(LOOKS):
-        _code, shown = early.ask("GET", f"{MIGRATIONS}/{name}")
-        if shown["status"]["conditions"][0]["type"] != "Running":
-            break
-        time.sleep(0.1)
-    condition = shown["status"]["conditions"][0]["type"]
+    condition, _shown = looked_at(early, name)
     check(condition == "Succeeded", f"the workers finish a migration: {condition}")
 
 
@@ -243,7 +232,7 @@ def main():
     parser.add_argument("--workers", type=int, default=2)
     parser.add_argument("--short", action="store_true", help="without what takes a minute and more")
     options = parser.parse_args()
-    server = None if options.address else Server(built("kubeconv", options.program, "pipe"), options.workers)
+    server = None if options.address else Server(built(options.program), options.workers)
     address = address_of(options.address) if options.address else server.address
     mark = f"o{time.time_ns()}-"
     # Lists that are worth not reading.

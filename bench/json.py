@@ -1,49 +1,50 @@
 #!/usr/bin/env python3
-"""Times the reading and writing of JSON: documents of 1 KiB to 1 MiB, and objects of 1,000 to 50,000 names.
+"""Times how `kubeconv` reads and writes JSON, of objects of the shared definition that go from `v1beta1` to `v1` nearly as they are:
+one list of 64 KiB to 4 MiB by `convert`, one object of 4,000 to 200,000 names by `convert`, and by `review` as many lists of 1 KiB to
+1 MiB as make 3 MiB. 4 MiB is the most that is read.
 
-Prints MiB per second (a document that is read and written counts once), and how many times as long a byte takes as at
-the smallest document of its kind. The time of a run that only makes the document is taken off."""
+Prints what a byte takes, in nanoseconds of processor time, so that what else runs counts little, and how many times as long that
+is as in the first row of its kind. An object is read, looked at by its schema, converted and written, so that this is more than
+reading and writing; the run of a small object, or of a review of none, is taken off. Each answer is read and compared with what was
+asked."""
 
-from programs import best_of, built, parser_of, timed
+from documents import list_of, names_of, pair_of, responds, review_of, spelled
+from programs import SHARED_FILES, built, each_of, json, parser_of, run_of
 
 KIB, MIB = 2**10, 2**20
-SIZES = {"json": (KIB, 16 * KIB, 128 * KIB, MIB), "wide": (1000, 10000, 50000)}
-NAME_BYTES = 17  # of one name and its value in a wide object, about
-
-
-def rounds_of(kind, size, mebibytes):
-    """How many rounds over one document make about so many MiB."""
-    return max(1, mebibytes * MIB // (size if kind == "json" else size * NAME_BYTES))
+# What stands in `extra`, of which sizes, and how many bytes of such objects a review has, where they aren't converted by themselves.
+KINDS = {
+    "a list": (list_of, (64 * KIB, 256 * KIB, MIB, 4 * MIB - KIB), None),
+    "an object of many names": (names_of, (4_000, 40_000, 200_000), None),
+    "lists of a review": (list_of, (KIB, 16 * KIB, 128 * KIB, MIB), 3 * MIB),
+}
 
 
 def main():
     """Reads the words, runs and prints."""
-    parser = parser_of(__doc__, "kubeconv_bench")
-    parser.add_argument("--mebibytes", type=int, default=16, help="read and written in a run, about (default: 16)")
-    options = parser.parse_args()
-    program = built("kubeconv_bench", options.program, "json 0 0")
-    tasks, written = {}, {}
+    options = parser_of(__doc__).parse_args()
+    program = built(options.program)
 
-    def seconds_of(task):
-        seconds, output = timed([program, *map(str, task)])
-        written[task] = int(output.split()[0])
-        return seconds
+    def converted(asked, shown):
+        return run_of([program, "convert", *SHARED_FILES, "--to", "v1"], spelled(asked), lambda output: json.loads(output) == shown)
 
-    for kind, sizes in SIZES.items():
+    def reviewed(asked, shown, count):
+        return run_of([program, "review", *SHARED_FILES], review_of([asked] * count), responds([shown] * count))
+
+    small = pair_of("a")
+    one, none = converted(*small), reviewed(*small, 0)
+    works = {}
+    for kind, (extra_of, sizes, in_all) in KINDS.items():
         for size in sizes:
-            for rounds in (0, rounds_of(kind, size, options.mebibytes)):
-                task = kind, size, rounds
-                tasks[task] = lambda task=task: seconds_of(task)
-    best = best_of(options.runs, tasks)
-    print(f"{'kind':>6} {'size':>8} {'rounds':>7} {'MiB/s':>9} {'time to the first':>18}")
-    for kind, sizes in SIZES.items():
-        first = None
-        for size in sizes:
-            rounds = rounds_of(kind, size, options.mebibytes)
-            task = kind, size, rounds
-            each = (best[task] - best[kind, size, 0]) / written[task]
-            first = first or each
-            print(f"{kind:>6} {size:>8} {rounds:>7} {1 / each / MIB:>9.1f} {each / first:>18.2f}")
+            pair = pair_of("a", extra=extra_of(size))
+            each = len(spelled(pair[0]))
+            count = round(in_all / each) if in_all else 1
+            works[kind, each, count] = (reviewed(*pair, count), none) if in_all else (converted(*pair), one)
+    first = {}
+    print(f"{'kind':<26}{'bytes each':>11}{'objects':>9}{'ns a byte':>11}{'to the first':>14}")
+    for (kind, each, count), seconds in each_of(options.runs, works).items():
+        byte = seconds / each / count
+        print(f"{kind:<26}{each:>11}{count:>9}{byte * 1e9:>11.1f}{byte / first.setdefault(kind, byte):>14.2f}")
 
 
 if __name__ == "__main__":

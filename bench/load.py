@@ -1,39 +1,142 @@
 #!/usr/bin/env python3
-"""Times what a definition costs: loading it with its rules, the smallest and the largest that may be, and admitting objects by
-one that is loaded: a small one, and three of the most bytes that an object may have, which are a list of Kubernetes
-objects, lists inside lists, and one object of many names.
+"""Times what a definition costs `kubeconv`: loading it with its rules, where it has two, four and eight versions of the most nodes and
+the most rules that one may have; and creates by the shared definition, of a small object, and of three that are nearly as large as
+one may be, which are a list of Kubernetes objects, lists inside lists, and one object of many names.
 
-Prints how many a second, what one takes, what a byte of the texts or of the object takes, and how many times as long both are
-as at the small one. All is processor time, so that what else runs counts little; the time of a run that only makes the
-texts, or loads the definition once, is taken off."""
+Prints what one takes, in microseconds of processor time, so that what else runs counts little, what a byte of the two files or of the
+object takes, and how many times as long both are as in the first row of their kind. A definition is loaded once in a run, of a
+`review` of no objects, which opens no server; the same run over a definition of one property is taken off, since so small a one can't
+be told from the start of a program. Creates go through one run of `pipe`, of which the run without requests is taken off. A create is
+more than its admission: it is read and answered, and what is stored and shown is written. Every answer is checked: the response that
+has no objects, and 201 for each create."""
 
-from programs import built, each_of, parser_of
+import pathlib
+import tempfile
 
-SIZES = {"load": ("small", "large"), "admit": ("small", "large", "deep", "wide")}
+from documents import definition_of, files_of, list_of, names_of, object_of, responds, review_of, spelled, text_of
+from pipe import answered
+from programs import SHARED_FILES, built, each_of, is_empty, parser_of, run_of
+from serving import path_of, request
+
+VERSIONS = 2, 4, 8
+# A group of names has six nodes at each version, and seven rules at each but the hub; then come objects as deep as rules may nest.
+GROUPS = 8
+DEPTH = 8
+# What is left of 1,024 nodes beside the root.
+FREE_NAMES = 1_024 - 1 - 6 * GROUPS - DEPTH
+PAIRS = 16
+TEXT = {"type": "string"}
+# An object of so long a body measures at most 262,144 bytes, as one may: it has a namespace beside, a default, two stamps and a
+# generation.
+MOST_BYTES = 261_988
+EXTRA_BYTES = 261_000
+MANY_NAMES = 15_000
+# The lists inside `extra`, which is the second level of 64.
+LISTS = 62
+
+
+def bounded(most):
+    return {"maximum": most, "minimum": 0, "type": "integer"}
+
+
+def hub_names(group):
+    return {f"scaled{group}": bounded(1_000_999), f"level{group}": {"type": "integer"}} | {
+        f"{name}{group}": TEXT for name in ("first", "second", "named", "owned")
+    }
+
+
+def spoke_names(group):
+    return {f"counted{group}": bounded(1_000)} | {f"{name}{group}": TEXT for name in ("joined", "listed", "renamed", "old", "older")}
+
+
+def rules_of(group):
+    pairs = [[f"size{pair}", pair] for pair in range(PAIRS)]
+    return [
+        {"scale": {"by": 1000, "names": [f"counted{group}", f"scaled{group}"]}},
+        {"split": {"hub": [f"first{group}", f"second{group}"], "spoke": f"joined{group}"}},
+        {"same": [f"renamed{group}", f"named{group}"]},
+        {"spokeOnly": f"old{group}"},
+        {"spokeOnly": f"older{group}"},
+        {"hubOnly": f"owned{group}"},
+        {"table": {"names": [f"listed{group}", f"level{group}"], "pairs": pairs, "spokeBlank": None, "hubBlank": None}},
+    ]
+
+
+def largest(versions):
+    """A definition of so many versions with 1,024 nodes each, and 64 rules for each but the hub, some of them eight objects deep. Most
+    names stand at the root without a rule, in no order, and are required."""
+    free, inner, inner_rules = [text_of(number) for number in range(FREE_NAMES)], {}, []
+    for _ in range(DEPTH):
+        inner = {"inner": {"properties": inner, "type": "object"}}
+        inner_rules = [{"object": {"names": ["inner", "inner"], "rules": inner_rules}}]
+    both = {name: TEXT for name in free} | inner
+
+    def root(names_at):
+        groups = {}
+        for group in range(GROUPS):
+            groups |= names_at(group)
+        return groups | both, free
+
+    spokes = [f"v{number}" for number in range(1, versions)]
+    rules = [rule for group in range(GROUPS) for rule in rules_of(group)] + inner_rules
+    return definition_of({"v0": root(hub_names), **{name: root(spoke_names) for name in spokes}}, {name: rules for name in spokes})
+
+
+def smallest():
+    roots = {"v1": ({"host": TEXT}, []), "v1beta1": ({"address": TEXT}, [])}
+    return definition_of(roots, {"v1beta1": [{"same": ["address", "host"]}]})
+
+
+def deep():
+    """Names of which each has lists inside lists."""
+    value = []
+    for _ in range(LISTS - 1):
+        value = [value]
+    return {str(number): value for number in range(EXTRA_BYTES // (2 * LISTS + 10))}
+
+
+def body_of(name, extra):
+    """A small object, or one with this beside, which a note fills up to the most bytes."""
+    if extra is None:
+        return object_of("v1beta1", name, hostPort="h:80")
+    body = object_of("v1beta1", name, hostPort="h:80", extra=extra, note="")
+    return {**body, "note": "n" * (MOST_BYTES - len(spelled(body)))}
 
 
 def main():
     """Reads the words, runs and prints."""
-    parser = parser_of(__doc__, "kubeconv_bench")
-    parser.add_argument("--loads", type=int, default=5000, help="loads of a small definition in a run (default: 5000)")
-    parser.add_argument("--large-loads", type=int, default=5, help="loads of a large one in a run (default: 5)")
-    parser.add_argument("--admits", type=int, default=50000, help="small objects admitted in a run (default: 50000)")
-    parser.add_argument("--large-admits", type=int, default=50, help="objects of each other kind in a run (default: 50)")
+    parser = parser_of(__doc__)
+    parser.add_argument("--creates", type=int, default=5000, help="small objects of a run (default: 5000)")
+    parser.add_argument("--large-creates", type=int, default=50, help="objects of each other kind in a run (default: 50)")
     options = parser.parse_args()
-    program = built("kubeconv_bench", options.program, "load small 1")
-    rounds = {"load": (options.loads, options.large_loads), "admit": (options.admits, options.large_admits)}
+    program = built(options.program)
     works = {}
-    for kind, sizes in SIZES.items():
-        for size in sizes:
-            count = rounds[kind][size != "small"]
-            works[kind, size] = (kind, size, count), (kind, size, 0)
-    each, numbers = each_of(program, works, options.runs)
-    print(f"{'chore':>6} {'size':>6} {'bytes':>8} {'a second':>10} {'us each':>11} {'ns a byte':>10} {'time to small':>14} {'a byte':>8}")
-    for (kind, size), seconds in each.items():
-        count, least = numbers[kind, size, 0], numbers[kind, "small", 0]
-        ratio = seconds / each[kind, "small"]
-        rate = f"{1 / seconds:>10.1f} {seconds * 1e6:>11.2f} {seconds / count * 1e9:>10.1f}"
-        print(f"{kind:>6} {size:>6} {count:>8} {rate} {ratio:>14.2f} {ratio * least / count:>8.2f}")
+    with tempfile.TemporaryDirectory() as place:
+
+        def load(name, documents):
+            files = files_of(pathlib.Path(place), name, documents)
+            return run_of([program, "review", *files], review_of([]), responds([]))
+
+        def creates(bodies):
+            given = b"".join(request("POST", path_of("v1beta1", "default"), body) for body in bodies)
+            return run_of([program, "pipe", *SHARED_FILES], given, answered([201] * len(bodies)) if bodies else is_empty)
+
+        least, none = load("smallest", smallest()), creates([])
+        for versions in VERSIONS:
+            name, documents = f"{versions} versions", largest(versions)
+            works["load", name, sum(len(spelled(it)) for it in documents), 1] = load(name, documents), least
+        extras = {"small": None, "a list": list_of(EXTRA_BYTES), "lists inside lists": deep(), "many names": names_of(MANY_NAMES)}
+        for kind, extra in extras.items():
+            bodies = [body_of(f"a{number:04}", extra) for number in range(options.large_creates if extra else options.creates)]
+            works["create", kind, len(spelled(bodies[0])), len(bodies)] = creates(bodies), none
+        each = each_of(options.runs, works)
+    first = {}
+    print(f"{'chore':<8}{'of':<20}{'bytes':>8}{'a second':>11}{'us each':>11}{'ns a byte':>11}{'time to first':>15}{'a byte':>8}")
+    for (chore, kind, length, count), seconds in each.items():
+        one, byte = seconds / count, seconds / count / length
+        first_one, first_byte = first.setdefault(chore, (one, byte))
+        rate = f"{1 / one:>11.1f}{one * 1e6:>11.2f}{byte * 1e9:>11.1f}"
+        print(f"{chore:<8}{kind:<20}{length:>8}{rate}{one / first_one:>15.2f}{byte / first_byte:>8.2f}")
 
 
 if __name__ == "__main__":

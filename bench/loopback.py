@@ -13,8 +13,8 @@ import socket
 import subprocess
 import sys
 
-from programs import built
-from serving import LISTENING, TOP, address_of, json
+from programs import SHARED_FILES, TOP, built, json
+from serving import LISTENING, address_of
 
 FAULTS = []
 FIRST = (TOP / "examples/first.http").read_bytes()
@@ -23,7 +23,6 @@ SHARED = (TOP / "examples/crontabs.http").read_bytes() + (
 )
 # What the built-in definition says, as files.
 FIRST_FILES = ["--crd", TOP / "examples/rules/same.json", "--rules", TOP / "examples/rules/same.rules.json"]
-SHARED_FILES = ["--crd", TOP / "examples/crontabs.json", "--rules", TOP / "examples/crontabs.rules.json"]
 OBJECT = '{"apiVersion":"example.com/v1beta1","kind":"CronTab","metadata":{"name":"a"},"hostPort":"localhost:1234"}'
 SECONDS = 300
 
@@ -116,7 +115,7 @@ def main():
     """Reads the words, runs and prints."""
     parser = argparse.ArgumentParser(description=__doc__, formatter_class=argparse.RawDescriptionHelpFormatter)
     parser.add_argument("--program", help="the built program (default: crates/kubeconv/out/kubeconv)")
-    program = built("kubeconv", parser.parse_args().program, "pipe")
+    program = built(parser.parse_args().program)
     first = masked(subprocess.run([program, "pipe"], input=FIRST, stdout=subprocess.PIPE).stdout)
     shared = masked(subprocess.run([program, "pipe", *SHARED_FILES], input=SHARED, stdout=subprocess.PIPE).stdout)
     places = [("IPv4", "127.0.0.1:0"), ("a host's name", "localhost:0")]

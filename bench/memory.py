@@ -68,8 +68,8 @@ def peak_of(words, given):
 
 def main():
     """Reads the words, runs and prints."""
-    options = parser_of(__doc__, "kubeconv").parse_args()
-    program = built("kubeconv", options.program, "pipe")
+    options = parser_of(__doc__).parse_args()
+    program = built(options.program)
     with tempfile.TemporaryDirectory() as folder:
         crd, rules = pathlib.Path(folder, "crd.json"), pathlib.Path(folder, "rules.json")
         crd.write_text(definition())

@@ -10,22 +10,18 @@ an earlier build of this one, or the plain server of `bench/plain/server.go`, wh
 
 A run answers at most 10,000 requests, the creates among them, so no run of `pipe` comes to the 16,384 objects that a server may
 hold. With 5,000 objects 4,900 requests are left to be timed over them; with more, what is left takes too little time beside the
-creates to be told from them. `serve.py sizes` times the same chores over 1,000 and 16,000 objects, by several connections."""
+creates to be told from them. `store.py` times the same chores over 1,000 to 16,000 objects, by several connections of `serve`."""
 
 import sys
 
-from programs import best_of, built, parser_of, processor_seconds, timed
+from documents import name_of
+from programs import built, each_of, parser_of, run_of
 
 # So many objects stand while a chore is timed, and so many requests of it are made; at most 10,000 requests are read in a run.
 SIZES = 1000, 2000, 5000
 TIMES = 4900
 LISTS = 50
 VERSION = "/apis/example.com/{}/namespaces/default/crontabs"
-
-
-def name_of(number):
-    """The name of an object: distinct for each number, and in no order as the numbers rise."""
-    return f"cron-{number * 2654435769 % 2**32:08x}"
 
 
 def request(line, body=""):
@@ -92,45 +88,43 @@ def codes_of(answers):
     return codes
 
 
-def seconds_of(program, given, wanted):
-    """The processor seconds of one run whose answers have the codes that are wanted."""
-    before = processor_seconds()
-    _seconds, answers = timed([program, "pipe"], given)
-    seconds = processor_seconds() - before
-    codes = codes_of(answers)
-    if codes != wanted:
-        wrong = next((i for i, pair in enumerate(zip(codes, wanted)) if pair[0] != pair[1]), min(len(codes), len(wanted)))
-        found = codes[wrong] if wrong < len(codes) else "missing"
-        sys.exit(f"answer {wrong + 1} of {len(wanted)} is {found}")
-    return seconds
+def answered(wanted):
+    """Whether what was written are answers of these codes. Ends the script where they aren't, and tells the first that is another."""
+
+    def holds(answers):
+        codes = codes_of(answers)
+        if codes != wanted:
+            wrong = next((i for i, pair in enumerate(zip(codes, wanted)) if pair[0] != pair[1]), min(len(codes), len(wanted)))
+            found = codes[wrong] if wrong < len(codes) else "missing"
+            sys.exit(f"answer {wrong + 1} of {len(wanted)} is {found}")
+        return True
+
+    return holds
 
 
 def main():
     """Reads the words, runs and prints."""
-    parser = parser_of(__doc__, "kubeconv")
+    parser = parser_of(__doc__)
     parser.add_argument("--beside", metavar="OTHER", help="another program that answers `OTHER pipe`, timed in the same rounds")
     parser.add_argument("--chores", type=int, default=len(CHORES), help="so many of the kinds of requests, from the first on, where an earlier build answers no others (default: all)")
     options = parser.parse_args()
     chores = CHORES[: options.chores]
-    programs = [built("kubeconv", options.program, "pipe")]
+    programs = [built(options.program)]
     if options.beside:
-        programs.append(built("kubeconv", options.beside, "pipe"))
-    tasks = {}
+        programs.append(built(options.beside))
+    works = {}
     for program in programs:
         for size in SIZES:
-            made = [create(turn, 0) for turn in range(size)]
-            given, wanted = "".join(made).encode(), [201] * size
-            tasks[program, size, None] = lambda program=program, given=given, wanted=wanted: seconds_of(program, given, wanted)
+            made = "".join(create(turn, 0) for turn in range(size))
+            filled = run_of([program, "pipe"], made.encode(), answered([201] * size))
             for name, ask, code, times in chores:
-                asked = [ask(turn, size) for turn in range(times)]
-                given, wanted = "".join(made + asked).encode(), [201] * size + [code] * times
-                tasks[program, size, name] = lambda program=program, given=given, wanted=wanted: seconds_of(program, given, wanted)
-    best = best_of(options.runs, tasks)
-    rows = {}
+                given = made + "".join(ask(turn, size) for turn in range(times))
+                works[program, size, name] = run_of([program, "pipe"], given.encode(), answered([201] * size + [code] * times)), filled
+    seconds, rows = each_of(options.runs, works), {}
     for program in programs:
         print(f"{'request':<26}" + "".join(f"{f'us, {size} objects':>18}" for size in SIZES) + f"{'last to first':>15}")
         for name, _ask, _code, times in chores:
-            each = [(best[program, size, name] - best[program, size, None]) / times for size in SIZES]
+            each = [seconds[program, size, name] / times for size in SIZES]
             rows[program, name] = each
             print(f"{name:<26}" + "".join(f"{it * 1e6:>18.1f}" for it in each) + f"{each[-1] / each[0]:>15.2f}")
     if options.beside:

@@ -1,4 +1,4 @@
-"""What the scripts of this folder share: their options, finding a built program, and timing its runs from outside."""
+"""What the scripts of this folder share: their options, finding the built program, and timing its runs from outside."""
 
 import argparse
 import os
@@ -7,47 +7,65 @@ import resource
 import subprocess
 import sys
 import tempfile
-import time
+
+# The script json.py of this folder isn't the library of that name.
+HERE = sys.path.pop(0)
+import json  # noqa: E402
+
+sys.path.insert(0, HERE)
 
 TOP = pathlib.Path(__file__).resolve().parent.parent
+CRATE = TOP / "crates/kubeconv"
+# The words that name the shared definition.
+SHARED_FILES = ["--crd", TOP / "examples/crontabs.json", "--rules", TOP / "examples/crontabs.rules.json"]
 
 
-def parser_of(description, crate):
+def parser_of(description):
     """The options that every script has."""
     parser = argparse.ArgumentParser(description=description, formatter_class=argparse.RawDescriptionHelpFormatter)
-    parser.add_argument("--program", help=f"the built program (default: crates/{crate}/out/{crate})")
+    parser.add_argument("--program", help="the built program (default: crates/kubeconv/out/kubeconv)")
     parser.add_argument("--runs", type=int, default=3, help="runs of each kind; the best one counts (default: 3)")
     return parser
 
 
-def built(crate, path, words):
-    """The program at `path`, or the one that `rt run` left in the folder of `crate`. Where there is none the script ends
-    and says what builds it: a run with these words."""
-    program = pathlib.Path(path) if path else TOP / "crates" / crate / "out" / crate
+def built(path):
+    """The program at `path`, or the one that `rt run` left in the folder of its crate. Where there is none the script ends and
+    says what builds it."""
+    program = pathlib.Path(path) if path else CRATE / "out/kubeconv"
     if not os.access(program, os.X_OK) or program.is_dir():
-        sys.exit(f"there is no program {program}; this builds it: cd {TOP}/crates/{crate} && rt run -- {words} </dev/null")
+        sys.exit(f"there is no program {program}; this builds it: cd {CRATE} && rt run -- pipe </dev/null")
     return program.resolve()
-
-
-def timed(words, given=b""):
-    """Runs a program on the bytes `given`: the seconds that it took, and what it wrote. Its input and output are
-    files, so that no reader or writer beside it counts. Ends the script where the status is not 0."""
-    with tempfile.TemporaryFile() as source, tempfile.TemporaryFile() as sink:
-        source.write(given)
-        source.seek(0)
-        start = time.perf_counter()
-        status = subprocess.run(words, stdin=source, stdout=sink).returncode
-        seconds = time.perf_counter() - start
-        if status != 0:
-            sys.exit(f"{' '.join(map(str, words))} ended with status {status}")
-        sink.seek(0)
-        return seconds, sink.read()
 
 
 def processor_seconds():
     """The processor time of all runs so far."""
     used = resource.getrusage(resource.RUSAGE_CHILDREN)
     return used.ru_utime + used.ru_stime
+
+
+def run_of(line, given, holds):
+    """A run of a program on the bytes `given`, as a call that gives the processor seconds that it took. Its input and output are
+    files, so that no reader or writer beside it counts. The call ends the script where the status is not 0, or where `holds` isn't
+    true of what was written."""
+
+    def run():
+        with tempfile.TemporaryFile() as source, tempfile.TemporaryFile() as sink:
+            source.write(given)
+            source.seek(0)
+            before = processor_seconds()
+            status = subprocess.run(line, stdin=source, stdout=sink).returncode
+            seconds = processor_seconds() - before
+            sink.seek(0)
+            output = sink.read()
+        if status != 0 or not holds(output):
+            sys.exit(f"{' '.join(map(str, line))} ended with status {status} and wrote {output[:200]!r}")
+        return seconds
+
+    return run
+
+
+def is_empty(output):
+    return output == b""
 
 
 def best_of(rounds, tasks):
@@ -60,21 +78,7 @@ def best_of(rounds, tasks):
     return best
 
 
-def each_of(program, works, runs):
-    """What one of each work takes, in processor seconds, and the number that each run wrote first, by its words. `works` maps a
-    name to two rows of words: those of a run whose number says how many were done, and those of one that does none of
-    them, whose time is taken off."""
-    wrote = {}
-
-    def seconds_of(words):
-        before = processor_seconds()
-        _seconds, output = timed([program, *map(str, words)])
-        wrote[words] = int(output.split()[0])
-        return processor_seconds() - before
-
-    tasks = {}
-    for full, empty in works.values():
-        for words in empty, full:
-            tasks[words] = lambda words=words: seconds_of(words)
-    best = best_of(runs, tasks)
-    return {name: (best[full] - best[empty]) / wrote[full] for name, (full, empty) in works.items()}, wrote
+def each_of(rounds, works):
+    """The seconds that each work takes beside another, which is taken off. `works` maps a name to the calls of both."""
+    best = best_of(rounds, {call: call for calls in works.values() for call in calls})
+    return {name: best[whole] - best[less] for name, (whole, less) in works.items()}

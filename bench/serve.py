@@ -1,18 +1,16 @@
 #!/usr/bin/env python3
-"""Times `kubeconv serve`, by four tables, of which each is a comparison within one run:
+"""Times `kubeconv serve`, by three tables, of which each is a comparison within one run:
 
 - rates: requests a second by 1, 4, 16 and 64 connections over loopback, and the processor time that a request takes of the
   server, each also as a ratio to one connection. A connection asks for one object after the other, and waits for each answer:
   nine reads at either version, then an edit. The clients are processes of this script, so requests a second are bounded by what
   the machine leaves to both sides; the processor time is that of the server alone.
-- sizes: what a create, a get, a replace and a list of 500 take of the server while 1,000 and 16,000 objects stand, and how many
-  times as long it takes with the most as with the fewest. A connection is answered 10,000 requests at most, so several come one
-  after the other. What makes the objects isn't timed, nor are the deletes of those that were created to be timed.
 - callers: requests a second of one kind by 1, 2, 4 and 8 connections together, each of which asks of objects of its own, 16
   requests at a time, while 1,000 and 16,000 objects stand; how many times as many that is as by one; and the processor time that
   a request takes of the server. The clients take processors too, so that more connections than half of the processors show less.
 - memory: what the process holds with as many objects as a server may hold.
 
+What a request takes while more and more objects stand is timed by store.py, by one connection.
 Every answer is checked for its code. The program is built by `rt run` in its folder, or is the one of --program."""
 
 import argparse
@@ -20,39 +18,42 @@ import multiprocessing
 import os
 import sys
 import threading
-import time
 
-from pipe import name_of
-from programs import best_of, built
-from serving import GROUP, VERSIONS, Connection, Server, body_of, drawn_state, generator, number_of, path_of, request, seconds_now
+from documents import name_of
+from programs import built
+from serving import (
+    CREATED,
+    GROUP,
+    VERSIONS,
+    Connection,
+    Filled,
+    Server,
+    answers_of,
+    ask,
+    body_of,
+    creation,
+    drawn_state,
+    generator,
+    number_of,
+    path_of,
+    request,
+    seconds_now,
+)
 
 CONNECTIONS = 1, 4, 16, 64
 # So many seconds a run may take.
 PATIENCE = 300
 
 SIZES = 1_000, 16_000
-# So many requests of a chore are made, and so many creates, since a server holds few objects more.
-TIMES = 4_800
-CREATES = 300
-LISTS = 48
-# So many requests are sent before their answers are read.
-BATCH = 16
-# So many connections ask beside each other, so many gets or replaces in all.
+# So many connections ask beside each other, so many gets or replaces in all, and so many creates, since a server holds few objects more.
 CALLERS = 1, 2, 4, 8
 ASKED = 9_600
-# A connection of its own makes so many objects.
-CREATED = 8_000
+CREATES = 300
+LISTS = 48
 
 # What the limits reserve of a server: 80 MiB of chunks; and of a connection: an inbox, and as much again for what is written.
 CHUNKS_MB = 80 * 2**20 / 1e6
 LINK_MB = 2 * 2**20 / 1e6
-
-
-def ask(connection, wanted, method, path, body=None):
-    code, shown = connection.ask(method, path, body)
-    if code != wanted:
-        sys.exit(f"{method} {path} is answered {code}")
-    return shown
 
 
 # ---- rates
@@ -129,95 +130,6 @@ def print_rates(program, options):
     server.stop()
 
 
-# ---- sizes
-
-
-class Filled:
-    """A server at which so many objects stand, and the number at which each does."""
-
-    def __init__(self, program, size):
-        self.server, self.numbers, self.more = Server(program, 0), [], 0
-        self.quiet = self.server.threads()
-        for first in range(0, size, CREATED):
-            made = self.asked([creation(number) for number in range(first, min(first + CREATED, size))], 201)[1]
-            self.numbers += [number_of(Connection.read(text)) for text in made]
-
-    def asked(self, requests, wanted):
-        """What these requests take of one connection's thread, in seconds of processor time, and the bodies of their answers."""
-        connection = Connection(self.server.address)
-        ask(connection, 200, "GET", "/apis/example.com")
-        # The threads of the connections before are gone.
-        while self.server.threads() > self.quiet + 1:
-            time.sleep(0.001)
-        before, bodies = self.server.thread_seconds(), []
-        for first in range(0, len(requests), BATCH):
-            batch = requests[first : first + BATCH]
-            connection.send(b"".join(batch))
-            for asked in batch:
-                code, text = connection.answer()
-                if code != wanted:
-                    sys.exit(f"{asked!r} is answered {code}")
-                bodies.append(text)
-        seconds = self.server.thread_seconds() - before
-        connection.close()
-        return seconds, bodies
-
-    def create(self):
-        """Creates, which are deleted again."""
-        numbers = range(len(self.numbers), len(self.numbers) + CREATES)
-        seconds, _bodies = self.asked([creation(number) for number in numbers], 201)
-        self.asked([request("DELETE", path_of("v1beta1", "default", name_of(number))) for number in numbers], 200)
-        return seconds / CREATES
-
-    def get(self, version):
-        names = [name_of(turn % len(self.numbers)) for turn in range(TIMES)]
-        return self.asked([request("GET", path_of(version, "default", name)) for name in names], 200)[0] / TIMES
-
-    def replace(self):
-        """Edits of the objects one after the other, in an order that goes on from call to call."""
-        turns, edits = [(self.more + turn) % len(self.numbers) for turn in range(min(TIMES, len(self.numbers)))], []
-        for turn in turns:
-            state = drawn_state(generator("edit", self.numbers[turn]))
-            body = body_of("v1beta1", name_of(turn), state, self.numbers[turn])
-            edits.append(request("PUT", path_of("v1beta1", "default", name_of(turn)), body))
-        seconds, bodies = self.asked(edits, 200)
-        for turn, text in zip(turns, bodies):
-            self.numbers[turn] = number_of(Connection.read(text))
-        self.more += len(turns)
-        return seconds / len(turns)
-
-    def list(self, version):
-        return self.asked([request("GET", path_of(version, "default") + "?limit=500")] * LISTS, 200)[0] / LISTS
-
-
-def creation(number):
-    return request("POST", path_of("v1beta1", "default"), body_of("v1beta1", name_of(number), drawn_state(generator("fill", number))))
-
-
-CHORES = {
-    "create": Filled.create,
-    "get at the stored version": lambda it: it.get("v1beta1"),
-    "get at the other version": lambda it: it.get("v1"),
-    "replace": Filled.replace,
-    "list of 500, stored": lambda it: it.list("v1beta1"),
-    "list of 500, converted": lambda it: it.list("v1"),
-}
-
-
-def print_sizes(program, options):
-    """The second table."""
-    filled = {size: Filled(program, size) for size in options.sizes}
-    tasks = {(size, name): lambda it=it, chore=chore: chore(it) for name, chore in CHORES.items() for size, it in filled.items()}
-    best = best_of(options.runs, tasks)
-    print(f"{'request':<26}" + "".join(f"{f'us, {size} objects':>19}" for size in filled) + f"{'last to first':>15}")
-    for name in CHORES:
-        each = [best[size, name] for size in filled]
-        print(f"{name:<26}" + "".join(f"{it * 1e6:>19.1f}" for it in each) + f"{each[-1] / each[0]:>15.2f}")
-    for it in filled.values():
-        it.server.stop()
-    sys.stdout.flush()
-
-
 # ---- callers
 
 
@@ -227,15 +139,7 @@ def send_all(address, asked, wanted, gate, leave, done):
     ask(connection, 200, "GET", GROUP)
     done.put(None)
     gate.wait()
-    bodies = []
-    for first in range(0, len(asked), BATCH):
-        batch = asked[first : first + BATCH]
-        connection.send(b"".join(batch))
-        for _ in batch:
-            code, text = connection.answer()
-            if code != wanted:
-                sys.exit(f"a request of {first} and the next is answered {code}")
-            bodies.append(text)
+    bodies = answers_of(connection, asked, wanted)
     done.put(None)
     # The server's thread is asked what it took before it ends.
     leave.wait()
@@ -319,7 +223,7 @@ BESIDE = {
 
 
 def print_callers(program, options):
-    """The third table."""
+    """The second table."""
     print(f"{'request':<26}{'objects':>8}{'connections':>12}{'a second':>10}{'to one':>8}{'us each':>9}{'to one':>8}")
     for size in options.sizes:
         filled, best = Filled(program, size), {}
@@ -359,7 +263,7 @@ def print_memory(program, options):
     server.stop()
 
 
-TABLES = {"rates": print_rates, "sizes": print_sizes, "callers": print_callers, "memory": print_memory}
+TABLES = {"rates": print_rates, "callers": print_callers, "memory": print_memory}
 
 
 def main():
@@ -369,10 +273,10 @@ def main():
     parser.add_argument("--requests", type=int, default=9_600, help="requests of each rate, 9,900 at most (default: 9,600)")
     parser.add_argument("--runs", type=int, default=3, help="runs of each kind; the best one counts (default: 3)")
     parser.add_argument("--workers", type=int, default=2, help="workers beside the rates and the memory (default: 2)")
-    parser.add_argument("--sizes", type=int, nargs="+", default=SIZES, help="so many objects stand (default: 1000 16000)")
-    parser.add_argument("tables", nargs="*", metavar="TABLE", help="rates, sizes, callers, memory (default: all)")
+    parser.add_argument("--sizes", type=int, nargs="+", default=SIZES, help="so many objects stand while callers ask (default: 1000 16000)")
+    parser.add_argument("tables", nargs="*", metavar="TABLE", help="rates, callers, memory (default: all)")
     options = parser.parse_args()
-    program = built("kubeconv", options.program, "pipe")
+    program = built(options.program)
     for name in options.tables or TABLES:
         if name not in TABLES:
             parser.error(f"there is no table {name}")

@@ -9,18 +9,19 @@ import subprocess
 import sys
 import time
 
-# The script json.py of this folder isn't the library of that name.
-HERE = sys.path.pop(0)
-import json  # noqa: E402
+from documents import name_of, spelled
+from programs import SHARED_FILES, json
 
-sys.path.insert(0, HERE)
-
-TOP = pathlib.Path(__file__).resolve().parent.parent
 GROUP = "/apis/example.com"
 DEFINITION = "/apis/apiextensions.k8s.io/v1/customresourcedefinitions/crontabs.example.com"
 MIGRATIONS = "/apis/storagemigration.k8s.io/v1alpha1/storageversionmigrations"
 VERSIONS = "v1", "v1beta1"
 LISTENING = "listening on "
+# A migration is looked at so often.
+LOOKS = 600
+# A connection of its own makes so many objects, and sends so many requests before it reads their answers.
+CREATED = 8_000
+BATCH = 16
 
 
 class Gone(Exception):
@@ -32,8 +33,7 @@ class Server:
 
     def __init__(self, program, workers, connections=None, words=()):
         end = [] if connections is None else ["--connections", str(connections)]
-        files = ["--crd", TOP / "examples/crontabs.json", "--rules", TOP / "examples/crontabs.rules.json"]
-        line = [program, "serve", *files, "--listen", "127.0.0.1:0", "--workers", str(workers), *end, *words]
+        line = [program, "serve", *SHARED_FILES, "--listen", "127.0.0.1:0", "--workers", str(workers), *end, *words]
         self.process = subprocess.Popen(line, stdin=subprocess.DEVNULL, stdout=subprocess.PIPE, text=True)
         told = self.process.stdout.readline()
         if not told.startswith(LISTENING):
@@ -130,8 +130,8 @@ def request(method, path, body=None, fields=""):
     """The bytes of a request, whose body is what is to be spelled."""
     if body is None:
         return f"{method} {path} HTTP/1.1\r\n{fields}\r\n".encode()
-    text = json.dumps(body, separators=(",", ":"))
-    return f"{method} {path} HTTP/1.1\r\n{fields}Content-Length: {len(text)}\r\n\r\n{text}".encode()
+    text = spelled(body)
+    return f"{method} {path} HTTP/1.1\r\n{fields}Content-Length: {len(text)}\r\n\r\n".encode() + text
 
 
 def path_of(version, namespace, name=None):
@@ -167,9 +167,92 @@ def drawn_state(draw):
     return f"h{draw.randrange(1000)}", str(draw.randrange(100_000)), draw.randrange(1001)
 
 
+def moved(definition):
+    """A definition that is shown, with the other storage version."""
+    for version in definition["spec"]["versions"]:
+        version["storage"] = not version["storage"]
+    return definition
+
+
+def migration(name):
+    """The body that starts a migration."""
+    head = {"apiVersion": "storagemigration.k8s.io/v1alpha1", "kind": "StorageVersionMigration", "metadata": {"name": name}}
+    return {**head, "spec": {"resource": {"group": "example.com", "resource": "crontabs"}}}
+
+
+def looked_at(connection, name, pause=0.1):
+    """The condition of a migration once it doesn't run any more, and what is shown of it then."""
+    for _ in range(LOOKS):
+        code, shown = connection.ask("GET", f"{MIGRATIONS}/{name}")
+        condition = shown["status"]["conditions"][0]["type"] if code == 200 else f"answered {code}"
+        if condition != "Running":
+            break
+        time.sleep(pause)
+    return condition, shown
+
+
 def generator(*seeds):
     return random.Random(" ".join(map(str, seeds)))
 
 
 def seconds_now():
     return time.monotonic()
+
+
+def ask(connection, wanted, method, path, body=None):
+    """What is shown to one who asks. Ends the script where the code isn't the one that is wanted."""
+    code, shown = connection.ask(method, path, body)
+    if code != wanted:
+        sys.exit(f"{method} {path} is answered {code}")
+    return shown
+
+
+def answers_of(connection, requests, wanted):
+    """The bodies of the answers to these requests, of which some are sent before the first answer is read. Ends the script where a
+    code isn't the one that is wanted."""
+    bodies = []
+    for first in range(0, len(requests), BATCH):
+        batch = requests[first : first + BATCH]
+        connection.send(b"".join(batch))
+        for asked in batch:
+            code, text = connection.answer()
+            if code != wanted:
+                sys.exit(f"{asked!r} is answered {code}")
+            bodies.append(text)
+    return bodies
+
+
+def creation(number):
+    return request("POST", path_of("v1beta1", "default"), body_of("v1beta1", name_of(number), drawn_state(generator("fill", number))))
+
+
+class Filled:
+    """A server at which so many objects stand, and the number at which each does."""
+
+    def __init__(self, program, size, workers=0):
+        self.server, self.numbers = Server(program, workers), []
+        connection = Connection(self.server.address)
+        ask(connection, 200, "GET", GROUP)
+        # Its workers are there before it answers.
+        self.quiet = self.server.threads() - 1
+        connection.close()
+        for first in range(0, size, CREATED):
+            made = self.asked([creation(number) for number in range(first, min(first + CREATED, size))], 201)[1]
+            self.numbers += [number_of(Connection.read(text)) for text in made]
+
+    def alone(self):
+        """A connection that was answered, and beside which the threads of those before are gone."""
+        connection = Connection(self.server.address)
+        ask(connection, 200, "GET", GROUP)
+        while self.server.threads() > self.quiet + 1:
+            time.sleep(0.001)
+        return connection
+
+    def asked(self, requests, wanted):
+        """What these requests take of one connection's thread, in seconds of processor time, and the bodies of their answers."""
+        connection = self.alone()
+        before = self.server.thread_seconds()
+        bodies = answers_of(connection, requests, wanted)
+        seconds = self.server.thread_seconds() - before
+        connection.close()
+        return seconds, bodies

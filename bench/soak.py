@@ -27,14 +27,12 @@ import multiprocessing
 import os
 import sys
 import threading
-import time
 import traceback
 
-from programs import built
+from programs import built, json
 from serving import (
     DEFINITION,
     MIGRATIONS,
-    TOP,
     VERSIONS,
     Connection,
     Gone,
@@ -43,7 +41,9 @@ from serving import (
     body_of,
     drawn_state,
     generator,
-    json,
+    looked_at,
+    migration,
+    moved,
     number_of,
     path_of,
     seconds_now,
@@ -57,11 +57,8 @@ OWN_MOST = 40
 MIGRATIONS_MOST = 240
 # The client that moves the storage version.
 OPERATOR = 0
-# A list in pages begins again so often where its pages are shown no more, and a migration is looked at so often, and so many
-# seconds apart.
+# A list in pages begins again so often where its pages are shown no more.
 LISTS = 20
-LOOKS = 600
-LOOK_SECONDS = 0.1
 # So many seconds an answer is waited for, and what a round came to behind its last request.
 PATIENCE = 300
 
@@ -221,20 +218,11 @@ class Client:
         """The other storage version, and a migration to it."""
         if not self.check(self.ask("GET", DEFINITION) == 200, "the definition isn't shown"):
             return
-        definition = self.shown
-        for version in definition["spec"]["versions"]:
-            version["storage"] = not version["storage"]
-        self.check(self.ask("PUT", DEFINITION, definition) == 200, "the storage version isn't moved")
+        self.check(self.ask("PUT", DEFINITION, moved(self.shown)) == 200, "the storage version isn't moved")
         name = migration_of(self.mark, self.moves)
         self.moves += 1
-        body = {
-            "apiVersion": "storagemigration.k8s.io/v1alpha1",
-            "kind": "StorageVersionMigration",
-            "metadata": {"name": name},
-            "spec": {"resource": {"group": "example.com", "resource": "crontabs"}},
-        }
         # One that still ran isn't waited for: it failed as the storage version was moved.
-        self.check(self.ask("POST", MIGRATIONS, body) == 201, "a migration isn't started")
+        self.check(self.ask("POST", MIGRATIONS, migration(name)) == 201, "a migration isn't started")
 
     # ---- all of it
 
@@ -369,14 +357,7 @@ def faults_of_shared(made, known, touched):
 
 def faults_of_migration(connection, name):
     """The last migration succeeds, and then every object stands at its target: no other version has to stay stored."""
-    for _ in range(LOOKS):
-        code, shown = connection.ask("GET", f"{MIGRATIONS}/{name}")
-        if code != 200:
-            return [f"the migration {name} is answered {code}"]
-        condition = shown["status"]["conditions"][0]["type"]
-        if condition != "Running":
-            break
-        time.sleep(LOOK_SECONDS)
+    condition, shown = looked_at(connection, name)
     if condition != "Succeeded":
         return [f"the migration {name} is {condition} at the end"]
     _code, definition = connection.ask("GET", DEFINITION)
@@ -489,7 +470,7 @@ def main():
     if options.address:
         address = address_of(options.address)
     else:
-        program = built("kubeconv", options.program, "pipe")
+        program = built(options.program)
         server = Server(program, options.workers, ends)
         address = server.address
         print(f"memory before: {server.memory():.1f} MB", flush=True)

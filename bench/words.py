@@ -51,8 +51,8 @@ def least_room(program):
 
 def main():
     """Reads the words, runs and prints."""
-    options = parser_of(__doc__, "kubeconv").parse_args()
-    program = built("kubeconv", options.program, "pipe")
+    options = parser_of(__doc__).parse_args()
+    program = built(options.program)
     bad = 0
     for words in ([b"\xff"], [b"pipe\xc3"], [b"pipe", b"--turns", b"\xed\xa0\x80"]):
         came = ended(program, words)
