@@ -17,7 +17,7 @@ import os, re, sys
 
 PROGRAMS = ["kubeconv_cmd", "kubeconv"]
 UNSERVED = "## What no program reaches yet"
-NOT_COUNTED = re.compile(r"(_tests|_fixture|_example|_bench)$")
+NOT_COUNTED = re.compile(r"(_tests|_fixture|_example)$")
 TOKEN = re.compile(r"[^\s(){}\[\],.;\"«»]+")
 USE = re.compile(r"(?<![A-Za-z0-9_])((?:pub\s+)?(?:ghost\s+)?use)\s+(Rattle(?:\.[A-Za-z0-9_+'«»\-]+)+)(?:\s*\.\s*\{([^}]*)\})?(?:\s+as\s+([A-Za-z0-9_]+))?")
 HEAD = re.compile(r"(?:(?:abbrev|unfoldable|opaque)\s+)*(?:pub\s+)?(?:(?:data|record|abbrev)\s+)?([^\s:(){}]+)")
