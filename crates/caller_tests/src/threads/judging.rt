@@ -1,10 +1,10 @@
 //! Whether what two callers were told fits together, and whether what stands is what they were told.
 ghost use Rattle.shared_api.specs.Passes.{IsOf};
 
-use crate::calls::{create, show};
-use crate::fold::{Entry, Tally, fits, follows, last_of, merged, rises};
-use crate::rounds::KEYS;
-use crate::texts::{host_in, host_of, number_in};
+use crate::threads::calls::{create, show};
+use crate::threads::fold::{Entry, Tally, fits, follows, last_of, merged, rises};
+use crate::threads::rounds::KEYS;
+use crate::threads::texts::{host_in, host_of, number_in};
 use api_calls::Versions;
 use shared_api::{Pass, SharedApi};
 use std::alloc::Global;

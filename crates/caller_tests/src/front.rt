@@ -1,9 +1,8 @@
 //! Cases of one connection: what is answered in any pieces, how it ends, faults and what stands after them.
 //!
-//! Each line of standard input is a case: its first byte tells what is done with the text behind the second, and the answer is
-//! printed on a line; one that begins with `#` is printed as it stands. The answers that are wanted stand in `stdout`. In an input
-//! `|M|J` is the end of a line. The server is of the small definition of `versions_fixture` and has room for 64 objects, but where
-//! the table says another.
+//! Each line is a case: its first byte tells what is done with the text behind the second, and the answer is printed on a line; one
+//! that begins with `#` is printed as it stands. In an input `|M|J` is the end of a line. The server is of the small definition of
+//! `versions_fixture` and has room for 64 objects, but where the table says another.
 //!
 //! | line | what is answered |
 //! |---|---|
@@ -13,8 +12,6 @@
 //! | `r PIECE FIRST LAST INPUT` | where each read from the first to before the last fails in turn: whether a front was written of what is written where none fails, and how it ends; and what a get of `a` is answered behind it, where it isn't the same as before |
 //! | `w PIECE FIRST LAST INPUT` | the same, where each write fails |
 //! | `o PIECE - - INPUT` | how one step of a connection ends, and what is left of its input |
-#![tactic(auto)]
-
 ghost use Rattle.std.specs.Prelude.{◌<◌};
 
 mod links;
@@ -22,7 +19,6 @@ mod told;
 
 use links::{Input, Written, one_step, served_at};
 use std::alloc::Global;
-use std::io;
 use std::sync::Wait;
 use told::{add, add_text, bytes_of, cut};
 
@@ -168,25 +164,25 @@ fn add_answer(rt: &impl Wait, alloc: Global, word: u8, text: &str, out: &mut Str
     tell(rt, alloc, word, piece, numbers, bytes.as_slice(), out)
 }
 
-fn answer(rt: &impl Wait, alloc: Global, word: u8, text: &str) -> Option<String> {
+/// What a line is answered; nothing where it is no case, or begins with `#`.
+pub(crate) fn answer(rt: &impl Wait, alloc: Global, line: &str) -> Option<String> {
+    let word = *line.as_bytes().first()?;
+    if word == b'#' {
+        return None;
+    }
+    let text = line.get(2..).unwrap_or("");
     let mut out = String::new(alloc);
     add_answer(rt, alloc, word, text, &mut out)?;
     Some(out)
 }
 
-fn main(rt: HostRuntime) -> io::Result<()> {
-    let alloc = rt.alloc();
-    for line in rt.lines(alloc) {
-        let line = line?;
-        let text = line.as_str().get(2..).unwrap_or("");
-        match line.as_bytes().first() {
-            Some(b'#') => println!(rt; "{}", line.as_str())?,
-            Some(word) => match answer(&rt, alloc, *word, text) {
-                Some(told) => println!(rt; "{}", told.as_str())?,
-                None => println!(rt; "no such case")?,
-            },
-            None => println!(rt; "no such case")?,
-        }
+/// What is printed of a line: what it is answered, or itself where it begins with `#`.
+pub(crate) fn shown<'a>(line: &'a str, told: &'a Option<String>) -> &'a str {
+    if line.starts_with('#') {
+        return line;
     }
-    Ok(())
+    match told {
+        Some(text) => text.as_str(),
+        None => "no such case",
+    }
 }

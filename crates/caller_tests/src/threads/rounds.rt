@@ -1,9 +1,9 @@
 //! The rounds of a caller, and what it keeps of their answers.
 ghost use Rattle.shared_api.specs.Passes.{IsOf};
 
-use crate::calls::{create, delete, replace};
-use crate::fold::{Entry, Tally};
-use crate::texts::number_in;
+use crate::threads::calls::{create, delete, replace};
+use crate::threads::fold::{Entry, Tally};
+use crate::threads::texts::number_in;
 use api_calls::{Refusal, Reply, Versions, code_of};
 use shared_api::{Pass, SharedApi};
 use std::alloc::Global;

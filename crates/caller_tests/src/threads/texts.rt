@@ -2,7 +2,7 @@
 ghost use Rattle.std.specs.Prelude.{IfSome, IsTrue};
 ghost use Rattle.kube_meta.specs.Names.{is_namespace};
 
-use crate::fold::Entry;
+use crate::threads::fold::Entry;
 use kube_meta::{Key, NAME_BYTES, NAMESPACE_BYTES, namespace_ok};
 use std::alloc::Global;
 

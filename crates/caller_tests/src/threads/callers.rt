@@ -2,9 +2,9 @@
 ghost use Rattle.std.specs.Prelude.{IfSome};
 ghost use Rattle.shared_api.specs.Passes.{IsOf};
 
-use crate::fold::Tally;
-use crate::judging::verdict;
-use crate::rounds::rounds_of;
+use crate::threads::fold::Tally;
+use crate::threads::judging::verdict;
+use crate::threads::rounds::rounds_of;
 use api_calls::{NoTool, Versions};
 use crd_versions::load;
 use kube_meta::Limits;

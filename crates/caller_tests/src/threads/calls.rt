@@ -2,8 +2,8 @@
 ghost use Rattle.api_calls.specs.Versions.{IsStamp};
 ghost use Rattle.shared_api.specs.Passes.{IsOf};
 
-use crate::fold::Entry;
-use crate::texts::{NAMESPACE, created_text, key_of, number_in, replaced_text};
+use crate::threads::fold::Entry;
+use crate::threads::texts::{NAMESPACE, created_text, key_of, number_in, replaced_text};
 use api_calls::{Refusal, Reply, Versions};
 use edge_io::{Clock, FixedClock};
 use kj_value::Stamp;

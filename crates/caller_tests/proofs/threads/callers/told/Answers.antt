@@ -1,6 +1,6 @@
 use denote.Param.Send.{sendable}
 use Rattle.crd_crossing.proofs.Crossing.{set_send, set_sync}
-use Rattle.thread_call_tests.proofs.callers.told.Goals as goal
+use Rattle.caller_tests.proofs.threads.callers.told.Goals as goal
 
 pub over-requires-send-V : goal.over-requires-send-V
 over-requires-send-V g c κs within = search (set_send, sendable)
