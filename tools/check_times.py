@@ -5,6 +5,10 @@
 
 A check saves each part of a proof as it is done, in the crate's out/incremental, so the time between two such files is what the
 later one took. That holds for a check by one job (`rt check --jobs 1`) with nothing kept before; what other work on the machine adds is in it.
+
+The second column says how much of it went to the steps that the prover makes of the function's code (its parts called `Lts`). They grow faster
+than the code, by what is held where it may return early: a function that takes a struct apart, makes it again and may return behind that took a
+minute where one that takes the one member out, by `take` or `mem::replace`, takes a few seconds.
 """
 import os
 import sys
@@ -32,15 +36,17 @@ def function_of(crate, name):
 
 
 def main(crate, most):
-    parts, seconds = saved(crate), {}
+    parts, seconds, steps = saved(crate), {}, {}
     # (what was loaded before the first part is of another time)
     for (before, _), (now, name) in zip(parts, parts[1:]):
         if now - before < 600:
             at = function_of(crate, name)
             seconds[at] = seconds.get(at, 0.0) + now - before
+            if name.removesuffix(".decls").endswith(".Lts"):
+                steps[at] = steps.get(at, 0.0) + now - before
     for name, took in sorted(seconds.items(), key=lambda it: -it[1])[:most]:
-        print(f"{took:7.1f}  {name}")
-    print(f"{sum(seconds.values()):7.1f}  all of {len(seconds)}")
+        print(f"{took:7.1f} {steps.get(name, 0.0):7.1f}  {name}")
+    print(f"{sum(seconds.values()):7.1f} {sum(steps.values()):7.1f}  all of {len(seconds)}")
 
 
 if __name__ == "__main__":
