@@ -7,8 +7,7 @@ A check saves each part of a proof as it is done, in the crate's out/incremental
 later one took. That holds for a check by one job (`rt check --jobs 1`) with nothing kept before; what other work on the machine adds is in it.
 
 The second column says how much of it went to the steps that the prover makes of the function's code (its parts called `Lts`). They grow faster
-than the code, by what is held where it may return early: a function that takes a struct apart, makes it again and may return behind that took a
-minute where one that takes the one member out, by `take` or `mem::replace`, takes a few seconds.
+than the code, by what is held where it may return early.
 """
 import os
 import sys
