@@ -19,7 +19,7 @@ use crate::api::{Pass, SharedApi};
 use crate::cell::{CoreBase, CoreCell};
 use crate::settle::settle;
 use crate::writing::enter_new;
-use api_calls::{Admitted, Incoming, Refusal, Reply, Versions, is_served};
+use api_calls::{Incoming, Refusal, Reply, Versions, is_served};
 use call_texts::{Given, Refused, not_admitted, place_of, plain};
 use kj_value::Stamp;
 use kube_meta::Shape;
@@ -129,22 +129,11 @@ fn create_with<V: Versions + Drop, R: Wait>(
             refusal: Refusal::NoResource,
         });
     }
-    let admitted = match lent.versions.admit(lent.alloc, tool, input, flags.storage) {
+    let mut admitted = match lent.versions.admit(lent.alloc, tool, input, flags.storage) {
         Ok(admitted) => admitted,
         Err(fault) => return Err(not_admitted(lent.alloc, lent.versions, fault)),
     };
-    let Admitted {
-        hub,
-        weight,
-        expected,
-        shape,
-    } = admitted;
-    let admitted = Admitted {
-        hub,
-        weight,
-        expected,
-        shape: None,
-    };
+    let shape = admitted.shape.take();
     let new = fresh_of(lent, input, stamp, admitted)?;
     enter(rt, lent, turn, pass, tool, flags.storage, &new, shape)
 }

@@ -22,7 +22,7 @@ use crate::api::{Pass, SharedApi};
 use crate::cell::{CoreBase, CoreCell};
 use crate::look::look;
 use crate::writing::{enter_over, enter_release};
-use api_calls::{Admitted, Incoming, Refusal, Reply, Versions, is_served, one_stored, one_weight};
+use api_calls::{Incoming, Refusal, Reply, Versions, is_served, one_stored, one_weight};
 use api_core::Peeked;
 use call_texts::{Given, Refused, not_admitted, place_of, plain};
 use kube_meta::{Key, Shape};
@@ -255,22 +255,11 @@ fn replace_with<V: Versions + Drop, R: Wait>(
             refusal: Refusal::NoResource,
         });
     }
-    let admitted = match lent.versions.admit(lent.alloc, tool, input, flags.storage) {
+    let mut admitted = match lent.versions.admit(lent.alloc, tool, input, flags.storage) {
         Ok(admitted) => admitted,
         Err(fault) => return Err(not_admitted(lent.alloc, lent.versions, fault)),
     };
-    let Admitted {
-        hub,
-        weight,
-        expected,
-        shape,
-    } = admitted;
-    let admitted = Admitted {
-        hub,
-        weight,
-        expected,
-        shape: None,
-    };
+    let shape = admitted.shape.take();
     let change = match changing(lent, tool, input.version, key, found, admitted) {
         Ok(change) => change,
         Err(refused) => return Err(refused),

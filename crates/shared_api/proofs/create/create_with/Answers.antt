@@ -1,7 +1,8 @@
-use Rattle.std.proofs.Common.{◌≡◌, ◌⊎◌, ◌<◌, ℕ, pos, Some, None, Err, Result, false, true, inl, refl, ap, sym, subst, ◌∙◌, arith}
+use Rattle.std.proofs.Common.{◌≡◌, ◌⊎◌, ◌<◌, ℕ, Option, pos, Some, None, Err, Result, false, true, inl, refl, ap, sym, subst, ◌∙◌, arith}
 use Rattle.std.specs.Prelude.{IfSome, IsTrue}
 use Rattle.std.proofs.lemmas.Result.{err_from_is_err_and}
 use Rattle.kube_meta.specs.Shapes.{shaped}
+use Rattle.kube_meta.specs.declared.object.Shape.{Shape}
 use Rattle.kube_meta.specs.View.{ObjectView, object_of}
 use Rattle.api_calls.specs.Calls.{answered, create}
 use Rattle.api_calls.specs.Item.{items}
@@ -65,9 +66,11 @@ enter-requires-clause-shape g c =
     let it = c.args.lent.now.versions.now in
     let m = g.V.Versions.meaning it in
     let v = c.settle.result.0.storage in
-    let shape = c.in-Ok.admitted.shape in
+    let h : ObjectView = object_of c.in-Ok.admitted.hub in
+    let shape = c.take-shape.result in
+    let its = subst (λ (o : Option Shape). IfSome o (λ p. m.pair v h (shaped p h))) (sym c.take-shape.ensures.value) c.in-Ok.ensures.shape in
     subst (λ (o : ObjectView). IfSome shape (λ p. m.pair v o (shaped p o))) (sym c.in_ok-new.ensures.hub)
-    (shape-stamped m (g.met.V.Versions.unstamped it) v (object_of c.in-Ok.admitted.hub) (Some c.args.stamp.text) None (pos 1) shape c.in-Ok.ensures.shape)
+    (shape-stamped m (g.met.V.Versions.unstamped it) v h (Some c.args.stamp.text) None (pos 1) shape its)
 
 pub enter-requires-clause-base : goal.enter-requires-clause-base
 enter-requires-clause-base g c =

@@ -2,7 +2,9 @@ use Rattle.std.proofs.Common.{◌≡◌, ◌⊎◌, ◌<◌, ℕ, List, Some, Er
 use Rattle.std.specs.Prelude.{IfOk, IfSome, IsSome, Option, Result}
 use Rattle.kj_value.specs.declared.error.NoMemory.{NoMemory}
 use Rattle.kube_meta.specs.Names.{is_namespace}
+use Rattle.kube_meta.specs.Shapes.{shaped}
 use Rattle.kube_meta.specs.View.{ObjectView, object_of}
+use Rattle.kube_meta.specs.declared.object.Shape.{Shape}
 use Rattle.api_calls.specs.Item.{Logged, items}
 use Rattle.api_calls.specs.Refusal.{no_memory, no_resource, refusal_of}
 use Rattle.api_calls.specs.Replies.{WeighsIt}
@@ -157,9 +159,12 @@ commit-requires-clause-goes g c =
 pub commit-requires-clause-shape : goal.commit-requires-clause-shape
 commit-requires-clause-shape g c =
     let it = c.args.lent.now.versions.now in
+    let m = g.V.Versions.meaning it in
+    let v = c.in-Ok.looked.flags.storage in
+    let h : ObjectView = object_of c.in-Ok-admit.admitted.hub in
+    let its = subst (λ (o : Option Shape). IfSome o (λ p. m.pair v h (shaped p h))) (sym c.take-shape.ensures.value) c.in-Ok-admit.ensures.shape in
     let changes = c.in-Ok-changing.ensures.changes in
-    shape-updated (g.V.Versions.meaning it) (g.met.V.Versions.unstamped it) c.in-Ok.looked.flags.storage changes.2.old (object_of c.in-Ok-admit.admitted.hub)
-    (object_of c.in-Ok-changing.change.hub) c.in-Ok-admit.admitted.shape changes.2.update c.in-Ok-admit.ensures.shape
+    shape-updated m (g.met.V.Versions.unstamped it) v changes.2.old h (object_of c.in-Ok-changing.change.hub) c.take-shape.result changes.2.update its
 
 pub returns-clause-answer : goal.returns-clause-answer
 returns-clause-answer g c b is =
