@@ -12,14 +12,14 @@ use Rattle.record_store.specs.ByKey.{KeysRise, find, put}
 use Rattle.record_store.specs.Rows.{row_key}
 use Rattle.record_store.specs.declared.row.Row.{Row}
 use Rattle.record_store.specs.declared.row.Record.{Record}
-use Rattle.record_store.specs.View.{Item, StoreView, IsStore, item_key, item_weight, record_of}
+use Rattle.record_store.specs.View.{Item, StoreView, item_key, item_weight, record_of}
 use Rattle.record_store.specs.Moves.{removed, removed_found, replaced, born_of, with_new, added}
 use Rattle.record_store.specs.Room.{put_end, touch_end, lacking, lacking_chunks, free_chunks, unless_full, is_done, HasRoom}
 use Rattle.record_store.specs.Inside.{item_of, AreKept, IsKept}
 use Rattle.record_store.specs.declared.answer.PutEnd.{PutEnd}
 use Rattle.record_store.specs.declared.answer.PutEnd.TheVariants.{Done, Present, Gone, Moved, Full}
 use Rattle.record_store.specs.declared.record.NewRecord.{NewRecord}
-use Rattle.record_store.proofs.Keyed.{weights-without, length-without, each-found, find-without, put-without}
+use Rattle.record_store.proofs.Keyed.{weights-without, each-found, put-without}
 use Rattle.record_store.proofs.Mapped.{find-seen, first-seen}
 use Rattle.record_store.proofs.Pieces.{record-kept}
 
@@ -116,15 +116,9 @@ done_room (Some n) weight (Some x) s e = by (nat_eq x.rv n) e
     by true e = nothing_lacks (lacking_chunks s x.weight weight) e
     by false e = absurd (cc)
 
--- ---- what a removal leaves for a write
+-- ---- what room for a write says
 
-pub record Ready (weight now : ℕ) (k : KeyView) (s : StoreView) : Type 0 where
-  pub fresh : find item_key k s.items ≡ None
-  pub room : length s.items < s.limits.objects
-  pub light : weights item_weight s.items + weight ≤ s.limits.chunks
-  pub numbers : s.last ≤ now
-
-enough_chunks : (s : StoreView) (going weight : ℕ) → weights item_weight s.items ≤ s.limits.chunks → lacking_chunks s going weight ≡ None → weights item_weight s.items + weight ≤ s.limits.chunks + going
+pub enough_chunks : (s : StoreView) (going weight : ℕ) → weights item_weight s.items ≤ s.limits.chunks → lacking_chunks s going weight ≡ None → weights item_weight s.items + weight ≤ s.limits.chunks + going
 enough_chunks s going weight light e = by (nat_lt (free_chunks s going) weight) refl e
   where
     lack : Option Room
@@ -134,30 +128,22 @@ enough_chunks s going weight light e = by (nat_lt (free_chunks s going) weight) 
     by true is e = absurd (cc)
     by false is e = let le : weight ≤ free_chunks s going = grind (arith, nat_tests) in omega (arith, le, light)
 
-pub ready : (weight now : ℕ) (k : KeyView) (s : StoreView) → IsStore s → s.last < now → HasRoom weight (find item_key k s.items) s → Ready weight now k (removed now k s)
-ready weight now k s h later room = by (find item_key k s.items) refl room
+-- there is room for one more record, and for its weight
+pub record HasMore (weight : ℕ) (s : StoreView) : Type 0 where
+  pub few : length s.items < s.limits.objects
+  pub light : weights item_weight s.items + weight ≤ s.limits.chunks
+
+pub has_more : (weight : ℕ) (s : StoreView) → weights item_weight s.items ≤ s.limits.chunks → lacking s weight ≡ None → HasMore weight s
+has_more weight s light e = by (nat_lt (length s.items) s.limits.objects) refl e
   where
-    by : (o : Option Item) → find item_key k s.items ≡ o → HasRoom weight o s → Ready weight now k (removed_found now k o s)
-    by None is room = record { fresh = is; room = few room; light = light_of room; numbers = omega (arith, later) }
-      where
-        lack : Option Room
-        lack = Some (record { what = Objects; need = 1; free = 0 })
+    lack : Option Room
+    lack = Some (record { what = Objects; need = 1; free = 0 })
 
-        first_test : (b : Bool) → nat_lt (length s.items) s.limits.objects ≡ b → (if b then lacking_chunks s 0 weight else lack) ≡ None → (length s.items < s.limits.objects) × (lacking_chunks s 0 weight ≡ None)
-        first_test true t e = (grind (arith, nat_tests), e)
-        first_test false t e = absurd (cc)
-
-        few : lacking s weight ≡ None → length s.items < s.limits.objects
-        few e = (first_test (nat_lt (length s.items) s.limits.objects) refl e).0
-
-        light_of : lacking s weight ≡ None → weights item_weight s.items + weight ≤ s.limits.chunks
-        light_of e = let le = enough_chunks s 0 weight h.light (first_test (nat_lt (length s.items) s.limits.objects) refl e).1 in omega (arith, le)
-    by (Some x) is room =
-        let long = length-without item_key k x s.items is in
-        let weigh = weights-without item_key item_weight k x s.items is in
-        let le = enough_chunks s x.weight weight h.light room in
-        let few = h.few in
-        record { fresh = find-without item_key k s.items h.order; room = omega (arith, long, few); light = omega (arith, weigh, le); numbers = omega arith }
+    by : (b : Bool) → nat_lt (length s.items) s.limits.objects ≡ b → (if b then lacking_chunks s 0 weight else lack) ≡ None → HasMore weight s
+    by true t e =
+        let le = enough_chunks s 0 weight light e in
+        record { few = grind (arith, nat_tests); light = omega (arith, le) }
+    by false t e = absurd (cc)
 
 pub born_some : (o : Option Item) (r : Record) (now : ℕ) → Some r ≡ option_map record_of o → r.born ≡ born_of o now
 born_some None r now e = absurd (cc)

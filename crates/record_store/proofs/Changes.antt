@@ -66,13 +66,6 @@ module _ (limits : Limits) (index : Rows) (window : Pasts) (places : Places) (li
       let lives = h.lives in
       omega (arith, light, fit, lacks, rows, pasts, same, bounds, counted, size, lives)
 
-  pub fresh-row : (k : KeyView) → find item_key k (map (item_of places) index.rows) ≡ None → find row_key k index.rows ≡ None
-  fresh-row k none = by (find row_key k index.rows) (sym (find-seen (item_of places) item_key k index.rows) ∙ none)
-    where
-      by : (o : Option Row) → option_map (item_of places) o ≡ None → o ≡ None
-      by None e = refl
-      by (Some r) e = absurd (cc)
-
   -- ---- where no record stood
 
   pub unchanged : (k : KeyView) (now : ℕ) (index2 : Rows) → index2 ≡ record index { rows = without row_key k index.rows } → find row_key k index.rows ≡ None

@@ -1,5 +1,5 @@
 -- What a list by key keeps where one thing is put into it or taken out.
-use Rattle.std.proofs.Common.{◌≡◌, ℕ, ◌+◌, List, [], ◌∷◌, ◌++◌, length, map, None, Some, Ordering, Less, Equal, Greater, ap, subst, refl, ◌∙◌, arith}
+use Rattle.std.proofs.Common.{◌≡◌, ℕ, ◌+◌, List, [], ◌∷◌, ◌++◌, map, None, Some, Ordering, Less, Equal, Greater, ap, subst, refl, ◌∙◌, arith}
 use Rattle.std.specs.List.{AllByRecursion as Each}
 use Rattle.std.specs.Ordering.{match_ordering}
 use Rattle.kube_meta.specs.Key.{KeyView, key_cmp}
@@ -28,16 +28,6 @@ module _ {X : Type 0} (key : X → KeyView) where
           → w x + weights w xs ≡ w y + weights w (match_ordering o (x ∷ xs) xs (x ∷ without key k xs))
       by Less h more = cc
       by Equal h more = let e : x ≡ y = cc in let f = ap w e in omega (arith, f)
-      by Greater h more = let e = more h in omega (arith, e)
-
-  pub length-without : (k : KeyView) (y : X) (xs : List X) → find key k xs ≡ Some y → length xs ≡ 1 + length (without key k xs)
-  length-without k y [] h = cc
-  length-without k y (x ∷ xs) h = by (key_cmp k (key x)) h (length-without k y xs)
-    where
-      by : (o : Ordering) → match_ordering o None (Some x) (find key k xs) ≡ Some y → (find key k xs ≡ Some y → length xs ≡ 1 + length (without key k xs))
-          → length (x ∷ xs) ≡ 1 + length (match_ordering o (x ∷ xs) xs (x ∷ without key k xs))
-      by Less h more = cc
-      by Equal h more = omega arith
       by Greater h more = let e = more h in omega (arith, e)
 
   -- ---- what holds of each

@@ -1,5 +1,5 @@
--- A write over a record: the one that stood goes into the window, and the new one stands in its place.
-use Rattle.std.proofs.Common.{◌≡◌, ℕ, ◌+◌, ◌-◌, ◌≤◌, ◌<◌, List, [], ◌∷◌, ◌++◌, length, map, get_or, set, zero, suc, Option, Some, None, Ok, Err, ap, refl, sym, subst, ◌∙◌, arith}
+-- A write at the place of its key: a record that stood there goes into the window, and the new one stands in its place.
+use Rattle.std.proofs.Common.{◌≡◌, ℕ, ◌+◌, ◌-◌, ◌≤◌, ◌<◌, List, [], ◌∷◌, ◌++◌, length, map, get_or, set, zero, suc, Option, Some, None, Result, Ok, Err, ap, refl, sym, subst, ◌∙◌, arith}
 use Rattle.std.specs.Prelude.{option_map, slice_get, slice_set, IsUtf8}
 use Rattle.std.proofs.lemmas.List.{length-set}
 use Rattle.kube_meta.specs.Key.{KeyView}
@@ -13,42 +13,35 @@ use Rattle.record_store.specs.declared.row.Row.{Row}
 use Rattle.record_store.specs.declared.row.Record.{Record}
 use Rattle.record_store.specs.Held.{trimmed}
 use Rattle.record_store.specs.Pasts.{Pasts, past_by, past_weight}
-use Rattle.record_store.specs.View.{Item, StoreView, IsStore, item_key, item_weight}
-use Rattle.record_store.specs.Moves.{removed, removed_found, replaced, added, new_item, with_new}
+use Rattle.record_store.specs.View.{Item, StoreView, item_key, item_weight}
+use Rattle.record_store.specs.Moves.{removed, replaced, added, new_item, with_new}
 use Rattle.record_store.specs.Room.{HasRoom}
 use Rattle.record_store.specs.declared.record.NewRecord.{NewRecord}
-use Rattle.record_store.specs.Inside.{item_of, store_view, IsSoundStore}
-use Rattle.record_store.proofs.Keyed.{find-without, put-without}
-use Rattle.record_store.proofs.Mapped.{keys-seen, find-seen}
-use Rattle.record_store.proofs.Sorted.{hit, miss_of}
-use Rattle.record_store.proofs.Changes.{Changed, is-store, live-seen, removal, addition, spare-enough}
-use Rattle.record_store.proofs.Answered.{Ready, ready}
+use Rattle.record_store.specs.Inside.{item_of, store_view, row_weight, IsSoundStore}
+use Rattle.record_store.proofs.Keyed.{find-without, put-without, weights-without}
+use Rattle.record_store.proofs.Mapped.{keys-seen, find-seen, length-seen}
+use Rattle.record_store.proofs.Sorted.{hit, miss}
+use Rattle.record_store.proofs.Changes.{Changed, live-seen, removal, addition, spare-enough}
+use Rattle.record_store.proofs.Answered.{enough_chunks, has_more}
 
 -- ---- the place of a key
 
 -- the keys of the rows are those of the records
-pub place-seen : (places : Places) (rows : List Row) (k : KeyView) (i : ℕ) → place k (map item_key (map (item_of places) rows)) ≡ Ok i → place k (map row_key rows) ≡ Ok i
-place-seen places rows k i e = ap (place k) (sym (keys-seen (item_of places) item_key rows)) ∙ e
+pub place-seen : (places : Places) (rows : List Row) (k : KeyView) (r : Result ℕ ℕ) → place k (map item_key (map (item_of places) rows)) ≡ r → place k (map row_key rows) ≡ r
+place-seen places rows k r e = ap (place k) (sym (keys-seen (item_of places) item_key rows)) ∙ e
 
-pub place-of : (places : Places) (rows : List Row) (k : KeyView) (ns name : List ℕ) (xs : List Row) (i : ℕ) → ns ≡ k.ns → name ≡ k.name → xs ≡ rows
-    → Ok i ≡ place (record { ns = ns; name = name }) (map row_key xs) → place k (map item_key (map (item_of places) rows)) ≡ Ok i
-place-of places rows k ns name xs i e f same h =
-    ap (place k) (keys-seen (item_of places) item_key rows) ∙ ap (λ (rs : List Row). place k (map row_key rs)) (sym same)
-    ∙ sym (ap (λ (n : List ℕ). place (record { ns = k.ns; name = n }) (map row_key xs)) f)
-    ∙ sym (ap (λ (n : List ℕ). place (record { ns = n; name = name }) (map row_key xs)) e) ∙ sym h
+-- the same, where the key's parts were read one by one
+pub place-of : (places : Places) (rows : List Row) (k : KeyView) (ns name : List ℕ) (r : Result ℕ ℕ) → ns ≡ k.ns → name ≡ k.name
+    → r ≡ place (record { ns = ns; name = name }) (map row_key rows) → r ≡ place k (map item_key (map (item_of places) rows))
+place-of places rows k ns name r e f h =
+    h ∙ ap (λ (n : List ℕ). place (record { ns = n; name = name }) (map row_key rows)) e ∙ ap (λ (n : List ℕ). place (record { ns = k.ns; name = n }) (map row_key rows)) f
+    ∙ sym (ap (place k) (keys-seen (item_of places) item_key rows))
 
-pub none-at : (places : Places) (rows : List Row) (k : KeyView) (ns name : List ℕ) (xs : List Row) (i : ℕ) → ns ≡ k.ns → name ≡ k.name → xs ≡ rows
-    → Err i ≡ place (record { ns = ns; name = name }) (map row_key xs) → find item_key k (map (item_of places) rows) ≡ None
-none-at places rows k ns name xs i e f same h =
-    let missed = miss_of row_key k ns name xs rows i e f same h in
-    find-seen (item_of places) item_key k rows ∙ ap (option_map (item_of places)) missed.value
-
--- where no record stands there is room for one more
-pub ready-fresh : (weight now : ℕ) (k : KeyView) (s : StoreView) → IsStore s → s.last < now → find item_key k s.items ≡ None → HasRoom weight (find item_key k s.items) s → Ready weight now k s
-ready-fresh weight now k s h later none room = subst (λ (o : Option Item). Ready weight now k (removed_found now k o s)) none (ready weight now k s h later room)
-
-pub written-fresh : (now : ℕ) (new : NewRecord) (s : StoreView) → find item_key new.key s.items ≡ None → added now now new s ≡ with_new now new s
-written-fresh now new s none = sym (ap (λ (o : Option Item). record (replaced now o s) { items = put item_key (new_item now new o) s.items; last = now }) none)
+-- where no record stands, a write adds one
+pub written-fresh : (now : ℕ) (new : NewRecord) (s : StoreView) (i : ℕ) → place new.key (map item_key s.items) ≡ Err i → added now now new s ≡ with_new now new s
+written-fresh now new s i there =
+    let none = (miss item_key new.key s.items s.items i refl (sym there)).value in
+    sym (ap (λ (o : Option Item). record (replaced now o s) { items = put item_key (new_item now new o) s.items; last = now }) none)
 
 -- ---- one row changes
 
@@ -96,6 +89,44 @@ placed index waiting piece i index1 index2 there is1 is2 =
     ∙ ap (λ (rs : List Row). record index { rows = slice_set rs i row }) first
     ∙ ap (λ (rs : List Row). record index { rows = rs }) (set-set index.rows i waiting row ∙ h.replaced row refl)
 
+-- ---- the room that a write needs
+
+module _ (limits : Limits) (index : Rows) (window : Pasts) (places : Places) (live last : ℕ) (h : IsSoundStore limits index window places live last) where
+  -- the index has no row of a key, and there is room for one of a weight
+  pub record IsNew (k : KeyView) (i weight : ℕ) : Type 0 where
+    pub there : place k (map row_key index.rows) ≡ Err i
+    pub fresh : find row_key k index.rows ≡ None
+    pub few : length index.rows < index.room
+    pub light : live + weight ≤ limits.chunks
+
+  pub is-new : (k : KeyView) (i weight : ℕ) (v : StoreView) → store_view limits index window places last ≡ v → place k (map item_key v.items) ≡ Err i → HasRoom weight (find item_key k v.items) v → IsNew k i weight
+  is-new k i weight v same there room =
+      let its = place-seen places index.rows k (Err i) (ap (λ (s : StoreView). place k (map item_key s.items)) same ∙ there) in
+      let lives = live-seen limits index window places live last h ∙ ap (λ (s : StoreView). weights item_weight s.items) same in
+      let chunks = ap (λ (s : StoreView). s.limits.chunks) same in
+      let none = (miss item_key k v.items v.items i refl (sym there)).value in
+      let more = has_more weight v (omega (arith, lives, chunks, h.light)) (subst (λ (o : Option Item). HasRoom weight o v) none room) in
+      let rows = length-seen (item_of places) index.rows in
+      let items = ap (λ (s : StoreView). length s.items) same in
+      let objects = ap (λ (s : StoreView). s.limits.objects) same in
+      record {
+        there = its;
+        fresh = (miss row_key k index.rows index.rows i refl (sym its)).value;
+        few = omega (arith, more.few, rows, items, objects, h.room);
+        light = omega (arith, more.light, lives, chunks);
+      }
+
+  -- where a row stands, its weight is room for another
+  pub light : (k : KeyView) (old : Row) → find row_key k index.rows ≡ Some old → (weight : ℕ) (v : StoreView) → store_view limits index window places last ≡ v → HasRoom weight (find item_key k v.items) v
+      → live - old.record.weight + weight ≤ limits.chunks
+  light k old found weight v same room =
+      let stood = ap (λ (s : StoreView). find item_key k s.items) (sym same) ∙ find-seen (item_of places) item_key k index.rows ∙ ap (option_map (item_of places)) found in
+      let weigh = weights-without row_key row_weight k old index.rows found in
+      let lives = live-seen limits index window places live last h ∙ ap (λ (s : StoreView). weights item_weight s.items) same in
+      let chunks = ap (λ (s : StoreView). s.limits.chunks) same in
+      let fits = enough_chunks v old.record.weight weight (omega (arith, lives, chunks, h.light)) (subst (λ (o : Option Item). HasRoom weight o v) stood room) in
+      omega (arith, weigh, h.lives, lives, chunks, fits)
+
 -- ---- the record that stood leaves, and another comes
 
 module _ (limits : Limits) (index : Rows) (window : Pasts) (places : Places) (live last : ℕ) (h : IsSoundStore limits index window places live last) (now : ℕ) (later : last < now) (rise : KeysRise (map row_key index.rows)) where
@@ -111,14 +142,6 @@ module _ (limits : Limits) (index : Rows) (window : Pasts) (places : Places) (li
 
     gone : Changed limits others window3 places2 (live - old.record.weight) now (removed now k view)
     gone = removal limits index window places live last h k now old found later others window2 window3 places2 refl is limits3 items3 floor3 places3
-
-    pub light : (weight : ℕ) → length index.rows ≤ index.room → HasRoom weight (find item_key k view.items) view → live - old.record.weight + weight ≤ limits.chunks
-    light weight few room =
-        let r = ready weight now k view (is-store limits index window places live last h rise few) later room in
-        let lives = live-seen limits others window3 places2 (live - old.record.weight) now gone.sound ∙ ap (λ (v : StoreView). weights item_weight v.items) gone.seen in
-        let chunks = ap (λ (v : StoreView). v.limits.chunks) gone.seen in
-        let fits = r.light in
-        omega (arith, lives, chunks, fits)
 
     pub enough : (n weight : ℕ) → live - old.record.weight + weight ≤ limits.chunks → chunks_of n ≤ weight → spare places2 < chunks_of n → ⊥
     enough n weight = spare-enough limits others window3 places2 (live - old.record.weight) now gone.sound n weight

@@ -65,7 +65,7 @@ module _ {F : Type 0} (key : F → KeyView) where
   pub hit : (k : KeyView) (xs fs : List F) (i : ℕ) → xs ≡ fs → Ok i ≡ place k (map key xs) → Hits k fs i
   hit k xs fs i same e = subst (λ (ys : List F). Hits k ys i) same (subst (Found k xs) (sym e) (found k xs))
 
-  miss : (k : KeyView) (xs fs : List F) (i : ℕ) → xs ≡ fs → Err i ≡ place k (map key xs) → Misses k fs i
+  pub miss : (k : KeyView) (xs fs : List F) (i : ℕ) → xs ≡ fs → Err i ≡ place k (map key xs) → Misses k fs i
   miss k xs fs i same e = subst (λ (ys : List F). Misses k ys i) same (subst (Found k xs) (sym e) (found k xs))
 
   -- as `place` answers, where the key's parts were read one by one

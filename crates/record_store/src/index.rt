@@ -1,5 +1,5 @@
 //! The rows by key.
-ghost use Rattle.std.specs.Prelude.{◌≡◌, ◌+◌, ◌<◌, ◌≤◌, ◌^◌, ◌++◌, [], Ok, Some, None, drop, find as first, length, map, not, option_map, option_copied, slice_get, slice_set, IfOk, ◌-◌, ℕ, Bool, true, false, take, slice_index_or};
+ghost use Rattle.std.specs.Prelude.{◌≡◌, ◌+◌, ◌<◌, ◌≤◌, ◌^◌, ◌++◌, [], Ok, Err, Some, None, drop, find as first, length, map, not, option_map, option_copied, slice_get, slice_set, IfOk, ◌-◌, ℕ, Bool, true, false, take, slice_index_or};
 ghost use Rattle.kube_meta.specs.Page.{bound_after, listed};
 ghost use Rattle.kube_meta.specs.Plan.{passed};
 ghost use Rattle.record_store.specs.ByKey.{KeysRise, all_behind, find, place as place_of, put, without};
@@ -186,16 +186,13 @@ impl Index {
         }
     }
 
-    /// Adds the row of a key that isn't there, where there is room for one more.
-    pub fn put(&mut self, row: Row)
-        requires fresh { find row_key row.key self.old.rows ≡ None }
+    /// Puts a row in where its key would go, as `seek` tells it, where there is room for one more.
+    pub fn insert(&mut self, place: usize, row: Row)
+        requires there { place_of row.key (map row_key self.old.rows) ≡ Err place }
         requires room { length self.old.rows < self.old.room }
         ensures { self.new ≡ record self.old { rows = put row_key row self.old.rows } }
     {
-        match self.seek(row.key.ns(), row.key.name()) {
-            Ok(_) => unreachable!(),
-            Err(i) => self.rows.insert(i, row),
-        }
+        self.rows.insert(place, row);
     }
 
     /// What is known of the record at a place.

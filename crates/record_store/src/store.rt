@@ -1,5 +1,5 @@
 //! The store: an index of records, a window, and the region that holds their texts.
-ghost use Rattle.std.specs.Prelude.{◌≡◌, ◌+◌, ◌*◌, ◌<◌, ◌≤◌, ◌≢◌, ◌^◌, [], Ok, None, IfOk, find as first, if◌then◌else◌, length, map, not, option_copied, option_map};
+ghost use Rattle.std.specs.Prelude.{◌≡◌, ◌+◌, ◌*◌, ◌<◌, ◌≤◌, ◌≢◌, ◌^◌, [], Ok, Err, None, IfOk, find as first, if◌then◌else◌, length, map, not, option_copied, option_map};
 ghost use Rattle.std.specs.Option.{ForSome};
 ghost use Rattle.kube_meta.specs.Page.{bound_after, listed, page_of};
 ghost use Rattle.kube_meta.specs.Plan.{passed};
@@ -23,6 +23,13 @@ use kube_meta::{Key, KeySpot, Limits, Room, RoomKind};
 use record_region::{Piece, Region};
 use std::alloc::Global;
 use std::marker::Model;
+
+// Where a key stands among the records, or else where it would go, and what is known of the record that stands there.
+#[derive(Drop)]
+struct Sought {
+    place: Result<usize, usize>,
+    standing: Option<Record>,
+}
 
 /// Records by key, and the window of those that were superseded. It takes its memory when it is opened.
 #[derive(Drop)]
@@ -49,7 +56,7 @@ impl Model for Store {
 }
 
 impl Store {
-    ghost use Rattle.record_store.specs.Moves.{added, removed, with_new};
+    ghost use Rattle.record_store.specs.Moves.{removed, with_new};
     ghost use Rattle.record_store.specs.Room.{HasRoom, is_done, lacking_chunks, put_end, touch_end, unless_full};
 
     /// A store with no records, which takes all memory that these limits ask for.
@@ -96,10 +103,7 @@ impl Store {
     pub fn look(&self, key: &Key) -> Option<Record>
         ensures { result ≡ option_map record_of (find item_key key.now self.now.items) }
     {
-        match self.index.find(key) {
-            Some(row) => Some(row.record),
-            None => None,
-        }
+        self.seek(key).standing
     }
 
     /// The record of a key, and its text, copied. The key is looked up once.
@@ -196,9 +200,10 @@ impl Store {
         ensures end { result ≡ put_end expected new.weight (find item_key new.key self.old.items) self.old }
         ensures store { self.new ≡ (if is_done result then with_new now new self.old else self.old) }
     {
-        match self.put_end(expected, &new.key, new.weight) {
+        let Sought { place, standing } = self.seek(&new.key);
+        match self.put_end(expected, &new, standing) {
             PutEnd::Done => {
-                self.commit(now, new);
+                self.commit(place, now, new);
                 PutEnd::Done
             }
             refused => refused,
@@ -215,11 +220,12 @@ impl Store {
         ensures end { result ≡ touch_end expected (find item_key new.key self.old.items) }
         ensures store { self.new ≡ (if is_done result then with_new now new self.old else self.old) }
     {
-        match self.look(&new.key) {
+        let Sought { place, standing } = self.seek(&new.key);
+        match standing {
             None => PutEnd::Gone,
             Some(standing) if standing.rv != expected => PutEnd::Moved { newer: standing.rv },
             Some(_) => {
-                self.commit(now, new);
+                self.commit(place, now, new);
                 PutEnd::Done
             }
         }
@@ -251,13 +257,32 @@ impl Store {
         Some(found)
     }
 
-    fn put_end(&self, expected: Option<u64>, key: &Key, weight: u64) -> PutEnd
-        ensures { result ≡ put_end expected weight (find item_key key.now self.now.items) self.now }
+    // Seeks a key. A write does it once, and goes by the place afterwards.
+    fn seek(&self, key: &Key) -> Sought
+        ensures place { result.place ≡ place_of key.now (map item_key self.now.items) }
+        ensures standing { result.standing ≡ option_map record_of (find item_key key.now self.now.items) }
     {
-        match (expected, self.look(key)) {
+        match self.index.seek(key.ns(), key.name()) {
+            Ok(place) => Sought {
+                place: Ok(place),
+                standing: Some(self.index.at(place).record),
+            },
+            Err(place) => Sought {
+                place: Err(place),
+                standing: None,
+            },
+        }
+    }
+
+    // What the write of a record answers where this is known of the one under its key.
+    fn put_end(&self, expected: Option<u64>, new: &NewRecord, standing: Option<Record>) -> PutEnd
+        requires { standing ≡ option_map record_of (find item_key new.now.key self.now.items) }
+        ensures { result ≡ put_end expected new.now.weight (find item_key new.now.key self.now.items) self.now }
+    {
+        match (expected, standing) {
             (None, None) => {
                 if self.len() < self.limits.objects {
-                    self.room_for(0, weight)
+                    self.room_for(0, new.weight)
                 } else {
                     PutEnd::Full(Room {
                         what: RoomKind::Objects,
@@ -270,7 +295,7 @@ impl Store {
             (Some(_), None) => PutEnd::Gone,
             (Some(number), Some(standing)) => {
                 if standing.rv == number {
-                    self.room_for(standing.weight, weight)
+                    self.room_for(standing.weight, new.weight)
                 } else {
                     PutEnd::Moved { newer: standing.rv }
                 }
@@ -295,17 +320,18 @@ impl Store {
         }
     }
 
-    // Writes a record for which there is room.
-    fn commit(&mut self, now: u64, new: NewRecord)
+    // Writes a record for which there is room at the place of its key.
+    fn commit(&mut self, place: Result<usize, usize>, now: u64, new: NewRecord)
         requires later { self.old.last < now }
         requires weighed { new.weight ≢ 0 }
         requires within { length new.bytes.bytes ≤ 256 * new.weight }
+        requires there { place ≡ place_of new.key (map item_key self.old.items) }
         requires room { HasRoom new.weight (find item_key new.key self.old.items) self.old }
         ensures { self.new ≡ with_new now new self.old }
     {
-        match self.index.seek(new.key.ns(), new.key.name()) {
+        match place {
             Ok(place) => self.write_over(place, now, new),
-            Err(_) => self.add(now, new),
+            Err(place) => self.add(place, now, new),
         }
     }
 
@@ -349,16 +375,14 @@ impl Store {
         self.last = now;
     }
 
-    // Adds a record for which there is room, under a key where none stands.
-    fn add(&mut self, now: u64, new: NewRecord)
-        requires fresh { find item_key new.key self.old.items ≡ None }
-        requires numbers { self.old.last ≤ now }
-        requires counted { 1 ≤ now }
-        requires room { length self.old.items < self.old.limits.objects }
-        requires light { weights item_weight self.old.items + new.weight ≤ self.old.limits.chunks }
+    // Adds a record for which there is room at this place of the index, where its key would go.
+    fn add(&mut self, place: usize, now: u64, new: NewRecord)
+        requires later { self.old.last < now }
         requires weighed { new.weight ≢ 0 }
         requires within { length new.bytes.bytes ≤ 256 * new.weight }
-        ensures { self.new ≡ added now now new self.old }
+        requires there { place_of new.key (map item_key self.old.items) ≡ Err place }
+        requires room { HasRoom new.weight (find item_key new.key self.old.items) self.old }
+        ensures { self.new ≡ with_new now new self.old }
     {
         let NewRecord {
             key,
@@ -376,7 +400,7 @@ impl Store {
             weight,
             len: bytes.len() as u64,
         };
-        self.index.put(Row { key, record, piece });
+        self.index.insert(place, Row { key, record, piece });
         self.live += weight;
         self.last = now;
     }

@@ -1,4 +1,4 @@
-use Rattle.std.proofs.Common.{◌≡◌, ◌+◌, ◌-◌, ◌<◌, ℕ, List, Option, Some, length, map, ap, refl, sym, subst, ◌∙◌, arith}
+use Rattle.std.proofs.Common.{◌≡◌, ◌+◌, ◌-◌, ◌<◌, ℕ, List, Option, Some, Ok, length, map, ap, refl, sym, subst, ◌∙◌, arith}
 use Rattle.std.specs.Prelude.{option_map, slice_set, IsUtf8}
 use Rattle.kube_meta.specs.WindowLaws.{fits-bounds}
 use Rattle.record_region.specs.Places.{Places}
@@ -11,7 +11,6 @@ use Rattle.record_store.specs.Held.{holders}
 use Rattle.record_store.specs.Pasts.{Pasts, past_by, past_weight, rows_of}
 use Rattle.record_store.specs.View.{Item, StoreView, item_key}
 use Rattle.record_store.specs.Moves.{added, born_of, removed, with_new}
-use Rattle.record_store.specs.Room.{HasRoom}
 use Rattle.record_store.specs.Inside.{item_of, row_weight}
 use Rattle.record_store.proofs.Keyed.{weights-without}
 use Rattle.record_store.proofs.Mapped.{find-seen}
@@ -24,12 +23,12 @@ use Rattle.record_store.proofs.store.Store.write_over.Goals as goal
 
 pub record_at-standing-requires : goal.record_at-standing-requires
 record_at-standing-requires c =
-    let there = place-seen c.self.inside.region c.self.inside.index.rows c.args.new.key c.args.place (ap (λ (v : StoreView). place_of c.args.new.key (map item_key v.items)) c.self.view_is ∙ c.requires.there) in
+    let there = place-seen c.self.inside.region c.self.inside.index.rows c.args.new.key (Ok c.args.place) (ap (λ (v : StoreView). place_of c.args.new.key (map item_key v.items)) c.self.view_is ∙ c.requires.there) in
     record { within = within-rows c.self.inside.index.rows c.args.place c.args.new.key there }
 
 pub replace-row-requires : goal.replace-row-requires
 replace-row-requires c =
-    record { there = place-seen c.self.inside.region c.self.inside.index.rows c.args.new.key c.args.place (ap (λ (v : StoreView). place_of c.args.new.key (map item_key v.items)) c.self.view_is ∙ c.requires.there) }
+    record { there = place-seen c.self.inside.region c.self.inside.index.rows c.args.new.key (Ok c.args.place) (ap (λ (v : StoreView). place_of c.args.new.key (map item_key v.items)) c.self.view_is ∙ c.requires.there) }
 
 pub append-requires-clause-light : goal.append-requires-clause-light
 append-requires-clause-light c =
@@ -52,11 +51,7 @@ trim-requires c =
 
 pub put-requires : goal.put-requires
 put-requires c =
-    let last = ap (λ (v : StoreView). v.last) c.self.view_is in
-    let asked = c.requires.later in
-    let later : c.self.inside.last < c.args.now = omega (arith, last, asked) in
-    let room = subst (λ (v : StoreView). HasRoom c.args.new.weight (find item_key c.args.new.key v.items) v) (sym c.self.view_is) c.requires.room in
-    let fits = light c.self.inside.limits c.self.inside.index c.self.inside.window c.self.inside.region c.self.inside.live c.self.inside.last c.self.invariant c.args.now later c.replace-row.ensures.order c.args.new.key c.replace-row.result c.replace-row.ensures.row c.append.new.self c.trim.new.self c.trim.new.region c.append.ensures c.trim.ensures.limits c.trim.ensures.items c.trim.ensures.floor c.trim.ensures.region c.args.new.weight c.replace-row.ensures.room room in
+    let fits = light c.self.inside.limits c.self.inside.index c.self.inside.window c.self.inside.region c.self.inside.live c.self.inside.last c.self.invariant c.args.new.key c.replace-row.result c.replace-row.ensures.row c.args.new.weight c.args.self.now c.self.view_is c.requires.room in
     let text = c.as_bytes.ensures.value ∙ c.as_str.ensures in
     let long = ap (λ (b : List ℕ). length b) text in
     let within = c.requires.within in
@@ -69,8 +64,7 @@ unreachable-requires c =
     let last = ap (λ (v : StoreView). v.last) c.self.view_is in
     let asked = c.requires.later in
     let later : c.self.inside.last < c.args.now = omega (arith, last, asked) in
-    let room = subst (λ (v : StoreView). HasRoom c.args.new.weight (find item_key c.args.new.key v.items) v) (sym c.self.view_is) c.requires.room in
-    let fits = light c.self.inside.limits c.self.inside.index c.self.inside.window c.self.inside.region c.self.inside.live c.self.inside.last c.self.invariant c.args.now later c.replace-row.ensures.order c.args.new.key c.replace-row.result c.replace-row.ensures.row c.append.new.self c.trim.new.self c.trim.new.region c.append.ensures c.trim.ensures.limits c.trim.ensures.items c.trim.ensures.floor c.trim.ensures.region c.args.new.weight c.replace-row.ensures.room room in
+    let fits = light c.self.inside.limits c.self.inside.index c.self.inside.window c.self.inside.region c.self.inside.live c.self.inside.last c.self.invariant c.args.new.key c.replace-row.result c.replace-row.ensures.row c.args.new.weight c.args.self.now c.self.view_is c.requires.room in
     let text = c.as_bytes.ensures.value ∙ c.as_str.ensures in
     let long = ap (λ (b : List ℕ). length b) text in
     let within = c.requires.within in
@@ -79,13 +73,13 @@ unreachable-requires c =
 
 pub set_piece-requires : goal.set_piece-requires
 set_piece-requires c =
-    let there = place-seen c.self.inside.region c.self.inside.index.rows c.args.new.key c.args.place (ap (λ (v : StoreView). place_of c.args.new.key (map item_key v.items)) c.self.view_is ∙ c.requires.there) in
+    let there = place-seen c.self.inside.region c.self.inside.index.rows c.args.new.key (Ok c.args.place) (ap (λ (v : StoreView). place_of c.args.new.key (map item_key v.items)) c.self.view_is ∙ c.requires.there) in
     let waiting : Row = record { key = c.args.new.key; «record» = record { at = c.args.new.at; rv = c.args.now; born = c.record_at-standing.result.born; weight = c.args.new.weight; len = c.len.result }; piece = c.none.result } in
     record { within = subst (λ (v : Rows). c.args.place < length v.rows) (sym c.replace-row.ensures.rows) (within-put c.self.inside.index.rows c.args.place waiting there) }
 
 pub overflow_sub-self : goal.overflow_sub-self
 overflow_sub-self c =
-    let there = place-seen c.self.inside.region c.self.inside.index.rows c.args.new.key c.args.place (ap (λ (v : StoreView). place_of c.args.new.key (map item_key v.items)) c.self.view_is ∙ c.requires.there) in
+    let there = place-seen c.self.inside.region c.self.inside.index.rows c.args.new.key (Ok c.args.place) (ap (λ (v : StoreView). place_of c.args.new.key (map item_key v.items)) c.self.view_is ∙ c.requires.there) in
     let same = c.record_at-standing.ensures c.replace-row.result (found-at c.self.inside.index.rows c.args.place c.args.new.key c.replace-row.result there c.replace-row.ensures.row) in
     let weight = ap (λ (r : Record). r.weight) same in
     let weigh = weights-without row_key row_weight c.args.new.key c.replace-row.result c.self.inside.index.rows c.replace-row.ensures.row in
@@ -94,12 +88,8 @@ overflow_sub-self c =
 
 pub overflow_add-self : goal.overflow_add-self
 overflow_add-self c =
-    let last = ap (λ (v : StoreView). v.last) c.self.view_is in
-    let asked = c.requires.later in
-    let later : c.self.inside.last < c.args.now = omega (arith, last, asked) in
-    let room = subst (λ (v : StoreView). HasRoom c.args.new.weight (find item_key c.args.new.key v.items) v) (sym c.self.view_is) c.requires.room in
-    let fits = light c.self.inside.limits c.self.inside.index c.self.inside.window c.self.inside.region c.self.inside.live c.self.inside.last c.self.invariant c.args.now later c.replace-row.ensures.order c.args.new.key c.replace-row.result c.replace-row.ensures.row c.append.new.self c.trim.new.self c.trim.new.region c.append.ensures c.trim.ensures.limits c.trim.ensures.items c.trim.ensures.floor c.trim.ensures.region c.args.new.weight c.replace-row.ensures.room room in
-    let there = place-seen c.self.inside.region c.self.inside.index.rows c.args.new.key c.args.place (ap (λ (v : StoreView). place_of c.args.new.key (map item_key v.items)) c.self.view_is ∙ c.requires.there) in
+    let fits = light c.self.inside.limits c.self.inside.index c.self.inside.window c.self.inside.region c.self.inside.live c.self.inside.last c.self.invariant c.args.new.key c.replace-row.result c.replace-row.ensures.row c.args.new.weight c.args.self.now c.self.view_is c.requires.room in
+    let there = place-seen c.self.inside.region c.self.inside.index.rows c.args.new.key (Ok c.args.place) (ap (λ (v : StoreView). place_of c.args.new.key (map item_key v.items)) c.self.view_is ∙ c.requires.there) in
     let same = c.record_at-standing.ensures c.replace-row.result (found-at c.self.inside.index.rows c.args.place c.args.new.key c.replace-row.result there c.replace-row.ensures.row) in
     let weight = ap (λ (r : Record). r.weight) same in
     let small = c.self.invariant.small in
@@ -110,9 +100,8 @@ changed c =
     let last = ap (λ (v : StoreView). v.last) c.self.view_is in
     let asked = c.requires.later in
     let later : c.self.inside.last < c.args.now = omega (arith, last, asked) in
-    let room = subst (λ (v : StoreView). HasRoom c.args.new.weight (find item_key c.args.new.key v.items) v) (sym c.self.view_is) c.requires.room in
-    let fits = light c.self.inside.limits c.self.inside.index c.self.inside.window c.self.inside.region c.self.inside.live c.self.inside.last c.self.invariant c.args.now later c.replace-row.ensures.order c.args.new.key c.replace-row.result c.replace-row.ensures.row c.append.new.self c.trim.new.self c.trim.new.region c.append.ensures c.trim.ensures.limits c.trim.ensures.items c.trim.ensures.floor c.trim.ensures.region c.args.new.weight c.replace-row.ensures.room room in
-    let there = place-seen c.self.inside.region c.self.inside.index.rows c.args.new.key c.args.place (ap (λ (v : StoreView). place_of c.args.new.key (map item_key v.items)) c.self.view_is ∙ c.requires.there) in
+    let fits = light c.self.inside.limits c.self.inside.index c.self.inside.window c.self.inside.region c.self.inside.live c.self.inside.last c.self.invariant c.args.new.key c.replace-row.result c.replace-row.ensures.row c.args.new.weight c.args.self.now c.self.view_is c.requires.room in
+    let there = place-seen c.self.inside.region c.self.inside.index.rows c.args.new.key (Ok c.args.place) (ap (λ (v : StoreView). place_of c.args.new.key (map item_key v.items)) c.self.view_is ∙ c.requires.there) in
     let same = c.record_at-standing.ensures c.replace-row.result (found-at c.self.inside.index.rows c.args.place c.args.new.key c.replace-row.result there c.replace-row.ensures.row) in
     let weight = ap (λ (r : Record). r.weight) same in
     let within = c.requires.within in
