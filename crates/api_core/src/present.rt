@@ -121,7 +121,7 @@ impl<V: Versions> Core<V> {
         let Some((record, bytes)) = self.store.read(alloc, key)? else {
             return Ok(None);
         };
-        let key = Key::of(alloc, key.ns(), key.name())?;
+        let key = key.shared()?;
         Ok(Some(Seen {
             key,
             bytes,

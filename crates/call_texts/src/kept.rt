@@ -58,14 +58,14 @@ fn add_found(
 }
 
 // Keeps a text for a key, a number and a version. Where it is too long, or there is no memory, nothing is kept.
-fn keep(alloc: Global, cache: &mut FormCache, key: &Key, number: u64, v: u8, text: Txt)
+fn keep(cache: &mut FormCache, key: &Key, number: u64, v: u8, text: Txt)
     ensures { (cache.new ≡ cache.old)
         ⊎ ((length text.bytes ≤ longest_text) × (cache.new ≡ forms_of (kept (record { key = key.now; number = number; version = v; text = text.bytes }) cache.old) cache.old.most)) }
 {
     if text.len() > TEXT_BYTES {
         return;
     }
-    let Ok(key) = Key::of(alloc, key.ns(), key.name()) else {
+    let Ok(key) = key.shared() else {
         return;
     };
     let _ = cache.keep(key, number, v, text);
@@ -118,7 +118,7 @@ impl<V: Versions> Given<'_, V> {
             → AreCached (V.meaning self.now.versions.now) self.now.boot log cache.new.forms }
         ensures most { cache.new.most ≡ cache.old.most }
     {
-        keep(self.alloc, cache, &seen.key, seen.rv, v, text);
+        keep(cache, &seen.key, seen.rv, v, text);
     }
 
     /// Keeps a copy of a text that shows at a version what was seen. Where it is too long, or there is no memory, nothing is

@@ -55,7 +55,7 @@ impl From<PageFault> for Refused {
 fn token_at(alloc: Global, rv: u64, key: &Key) -> Result<Txt, NoMemory>
     ensures { IfOk result (λ t. t.bytes ≡ token_text rv key.now) }
 {
-    let key = Key::of(alloc, key.ns(), key.name())?;
+    let key = key.shared()?;
     write_token(alloc, &Token { rv, key })
 }
 

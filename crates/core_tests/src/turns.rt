@@ -141,15 +141,15 @@ fn marked<V: Versions>(
     requires few { core.old.view.revision ≤ 2 ^ 61 }
     requires weight { Some weight ≡ option_map (λ x. x.weight) (find item_key key.now core.old.view.store.items) }
 {
-    let stamped = prepared(alloc, again(alloc, key)?, order.at, "stamped", weight)?;
+    let stamped = prepared(alloc, again(key)?, order.at, "stamped", weight)?;
     Some(core.commit_delete(order.asked, key, order.number, Some(stamped)))
 }
 
 /// The same key once more.
-pub fn again(alloc: Global, key: &Key) -> Option<Key>
+pub fn again(key: &Key) -> Option<Key>
     ensures { IfSome result (λ k. k ≡ key.now) }
 {
-    match Key::of(alloc, key.ns(), key.name()) {
+    match key.shared() {
         Ok(key) => Some(key),
         Err(_) => None,
     }

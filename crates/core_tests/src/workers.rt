@@ -60,7 +60,7 @@ fn moved_under<V: Versions>(alloc: Global, core: &Core<V>, key: &Key, at: u8) ->
     ensures weight { IfSome result (λ p. Some p.weight ≡ option_map (λ x. x.weight) (find item_key key.now core.now.view.store.items)) }
 {
     match standing(alloc, core, key) {
-        Some(seen) => moved(again(alloc, key)?, at, seen),
+        Some(seen) => moved(again(key)?, at, seen),
         None => None,
     }
 }

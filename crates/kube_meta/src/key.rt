@@ -6,6 +6,7 @@ use kj_value::{NoMemory, Txt};
 use std::alloc::Global;
 use std::cmp::Ordering;
 use std::marker::Model;
+use std::sync::Arc;
 
 /// The most bytes of a namespace: a label of RFC 1123.
 pub const NAMESPACE_BYTES: usize = 63;
@@ -21,22 +22,23 @@ struct Parts {
 }
 
 /// The namespace and the name of an object, each within its bound in bytes. It is as wide as a pointer, so that lists of things
-/// with keys move little.
+/// with keys move little. It never changes, and whoever shares it has the same memory.
 #[derive(Drop)]
 pub struct Key {
-    parts: Box<Parts>,
+    parts: Arc<Parts>,
 }
 
 impl Model for Key {
     ghost use Rattle.std.specs.Prelude.{◌≤◌, length};
+    ghost use Rattle.std.specs.Arc.{arc_value};
     ghost use Rattle.kube_meta.specs.Key.{KeyView};
     ghost use Rattle.kube_meta.specs.declared.key.TheConstants.{NAMESPACE_BYTES, NAME_BYTES};
 
     ghost Value = { KeyView };
 
-    ghost view = { λ k. record { ns = k.parts.value.ns.bytes; name = k.parts.value.name.bytes } };
+    ghost view = { λ k. record { ns = (arc_value k.parts).ns.bytes; name = (arc_value k.parts).name.bytes } };
 
-    ghost invariant = { λ k. (length k.parts.value.ns.bytes ≤ NAMESPACE_BYTES) × (length k.parts.value.name.bytes ≤ NAME_BYTES) };
+    ghost invariant = { λ k. (length (arc_value k.parts).ns.bytes ≤ NAMESPACE_BYTES) × (length (arc_value k.parts).name.bytes ≤ NAME_BYTES) };
 }
 
 impl Key {
@@ -51,7 +53,15 @@ impl Key {
     {
         let ns = Txt::of(alloc, ns)?;
         let name = Txt::of(alloc, name)?;
-        let parts = Box::new(alloc, Parts { ns, name })?;
+        let parts = Arc::new(alloc, Parts { ns, name })?;
+        Ok(Key { parts })
+    }
+
+    /// The same key once more, in the same memory. It takes none: `NoMemory` comes only where the count of those who share it is full.
+    pub fn shared(&self) -> Result<Key, NoMemory>
+        ensures { IfOk result (λ k. k ≡ self.now) }
+    {
+        let parts = Arc::try_clone(&self.parts)?;
         Ok(Key { parts })
     }
 

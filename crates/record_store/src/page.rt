@@ -369,7 +369,7 @@ fn copy(alloc: Global, region: &Region, row: &Row) -> Result<StoredRecord, NoMem
     requires { IsKept region.now row.now }
     ensures { IfOk result (λ item. copied item ≡ item_of region.now row.now) }
 {
-    let key = Key::of(alloc, row.key.ns(), row.key.name())?;
+    let key = row.key.shared()?;
     let text = copy_text(alloc, region, &row.piece)?;
     Ok(StoredRecord {
         key,

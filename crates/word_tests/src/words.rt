@@ -92,8 +92,10 @@ pub fn line(made: Result<String, AllocError>) -> Option<Txt> {
     }
 }
 
+// A key out of its place, shared by one whose memory it has.
 fn again(alloc: Global, spot: &KeySpot) -> Option<Key> {
-    spot.again().key(alloc).ok()
+    let key = spot.again().key(alloc).ok()?;
+    key.shared().ok()
 }
 
 fn place(name: &str) -> Option<NameSpot> {

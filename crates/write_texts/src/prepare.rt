@@ -100,7 +100,7 @@ pub fn prepare_write<V: Versions>(
     one_weight::<V>();
     let (bytes, sealed) = texts(lent, tool, v, storage, hub, shape)?;
     within::<V>(&bytes, weight)?;
-    let key = Key::of(lent.alloc, key.ns(), key.name())?;
+    let key = key.shared()?;
     let prepared = Prepared {
         key,
         at: storage,

@@ -1,4 +1,4 @@
-use Rattle.std.proofs.Common.{◌≡◌, refl, sym, ◌∙◌, arith}
+use Rattle.std.proofs.Common.{refl, sym, ◌∙◌, arith}
 use Rattle.kube_meta.specs.View.{object_of}
 use Rattle.write_texts.proofs.Preparing.{text_within}
 use Rattle.write_texts.proofs.prepare.prepare_write.Goals as goal
@@ -20,15 +20,13 @@ within-requires g c =
 pub returns-clause-ready : goal.returns-clause-ready
 returns-clause-ready g c =
     let h = object_of c.args.hub.now in
-    let key : c.in_ok-key.key ≡ c.args.key.now =
-    (λ i. record { ns = (c.in_ok-key.ensures.ns ∙ c.ns.ensures.value) i; name = (c.in_ok-key.ensures.name ∙ c.name.ensures.value) i }) in
     record {
       sized = record { weighed = c.in_ok-within.ensures.within.0; within = c.in_ok-within.ensures.within.1 };
       at = refl;
-      key = key;
+      key = c.in_ok-key.ensures;
       weight = refl;
       prepares = record {
-        value = λ honest. record { whole = c.requires.whole; key = c.requires.key honest ∙ sym key; weighs = c.requires.weighs honest };
+        value = λ honest. record { whole = c.requires.whole; key = c.requires.key honest ∙ sym c.in_ok-key.ensures; weighs = c.requires.weighs honest };
         text = record { value = h; stored = c.in_ok-bytes.ensures.stored; same = λ honest. refl };
       };
       seals = c.in_ok-bytes.ensures.seals;

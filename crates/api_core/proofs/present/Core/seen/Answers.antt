@@ -1,4 +1,4 @@
-use Rattle.std.proofs.Common.{◌≡◌, ap, sym, ◌∙◌, rules}
+use Rattle.std.proofs.Common.{ap, sym, ◌∙◌}
 use Rattle.std.specs.Prelude.{option_map}
 use Rattle.record_store.specs.ByKey.{find}
 use Rattle.record_store.specs.View.{item_key}
@@ -7,8 +7,7 @@ use Rattle.api_core.proofs.present.Core.seen.Goals as goal
 
 pub returns : goal.returns
 returns g c =
-    let key_is : c.in_ok-key.key ≡ c.args.key.now = search rules in
     let told = record-told c.args.key.now (find item_key c.args.key.now c.self.inside.store.items) c.in-Some.record c.in-Some.bytes.bytes
     (record-key c.args.key.now c.self.inside.store.items) (sym c.in_ok-record.ensures.record ∙ ap (option_map (λ p. p.0)) c.in-Some.is)
     (sym c.in_ok-record.ensures.text ∙ ap (option_map (λ p. p.1.bytes)) c.in-Some.is) in
-    rw (← c.self.view_is, key_is) told
+    rw (← c.self.view_is, c.in_ok-key.ensures) told
