@@ -47,7 +47,7 @@ fn cut(path: &[u8]) -> Option<(&[u8], &[u8])>
 pub fn segments(alloc: Global, path: &[u8]) -> Result<Option<Vec<CowSlice<'_, u8>>>, NoMemory>
     ensures { IfOk result (λ found. MatchOption found (MOST_SEGMENTS < length (segments_of path.now)) (λ parts. map cow_slice_items parts.items ≡ segments_of path.now)) }
 {
-    let mut parts = Vec::new(alloc);
+    let mut parts = Vec::with_capacity(alloc, MOST_SEGMENTS)?;
     let mut rest = path;
     while parts.len() < MOST_SEGMENTS {
         match cut(rest) {

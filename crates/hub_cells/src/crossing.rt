@@ -195,7 +195,7 @@ fn with_colon(alloc: Global, a: &str, b: &str) -> Result<Txt, NoMemory>
     let mut joined = String::from_str(alloc, a)?;
     joined.push_str(":")?;
     joined.push_str(b)?;
-    Txt::of(alloc, joined.as_str())
+    Ok(Txt::of_string(joined))
 }
 
 // By a table, whose other side has this blank.
