@@ -16,7 +16,7 @@ ghost use Rattle.keep_bodies.specs.Over.{tuple_here, mark_over, cell_fields, cel
 
 use crate::entries::{keep, kept_of};
 use crate::left::Left;
-use crate::tuples::{names_on, other, put_tuple, read_tuple, tuple_same};
+use crate::tuples::{copy_over, names_on, other, put_tuple, read_tuple, tuple_same};
 use hub_cells::{Cell, CellKind, Side, Tuple, allowed_crosses, cross};
 use kept_entries::Entry;
 use kj_value::{JFields, NoMemory};
@@ -129,6 +129,36 @@ fn cross_mark(
     }
 }
 
+// A cell of whose other side nothing is kept.
+#[inline(never)]
+fn cross_bare(
+    alloc: Global,
+    c: &Cell,
+    from: Side,
+    x: &JFields,
+    fields: &mut JFields,
+    entries: &mut Vec<Entry>,
+) -> Result<(), NoMemory>
+    requires fits { CellFits (cell c.now) }
+    requires allowed { allows (side from) (cell c.now) (tuple_here (side from) (cell c.now) x.now) ≡ true }
+    ensures fields { OnOk result (fields.new ≡ put (names (sides.other (side from)) (cell c.now))
+        (mark_over (side from) (cell c.now) x.now []).0 fields.old) }
+    ensures entries { OnOk result (map turned entries.new.items ≡ map turned entries.old.items
+        ++ entry_of (names (side from) (cell c.now)) (mark_over (side from) (cell c.now) x.now []).1 []) }
+{
+    allowed_crosses();
+    let own = names_on(c, from);
+    let theirs = names_on(c, other(from));
+    // Equal values are copied to where they go.
+    if is_same(c) {
+        return copy_over(alloc, own, theirs, x, fields);
+    }
+    let values = read_tuple(alloc, own, x)?;
+    let Marked { tuple, kept } = cross_mark(alloc, c, from, values, None)?;
+    put_tuple(alloc, theirs, tuple, fields)?;
+    keep(alloc, own, kept, entries)
+}
+
 fn cross_cell(
     alloc: Global,
     c: &Cell,
@@ -147,6 +177,9 @@ fn cross_cell(
         ++ entry_of (names (side from) (cell c.now))
         (mark_over (side from) (cell c.now) x.now (entries_left kept.entry.now)).1 []) }
 {
+    if kept.entries.is_empty() {
+        return cross_bare(alloc, c, from, x, fields, entries);
+    }
     allowed_crosses();
     let own = names_on(c, from);
     let theirs = names_on(c, other(from));

@@ -99,6 +99,47 @@ pub(crate) fn put_tuple(
     }
 }
 
+// The value at the name `own`, where there is one, copied to the name `theirs`.
+fn copy_value(
+    alloc: Global,
+    own: &Name,
+    theirs: &Name,
+    x: &JFields,
+    into: &mut JFields,
+) -> Result<(), NoMemory>
+    ensures { OnOk result (into.new
+        ≡ put (theirs.now.text.bytes ∷ []) (field own.now.text.bytes x.now ∷ []) into.old) }
+{
+    match x.get(own.text.as_str()) {
+        Some(v) => {
+            let copied = copy(alloc, v)?;
+            into.set(Txt::of(alloc, theirs.text.as_str())?, copied)?;
+            Ok(())
+        }
+        None => Ok(()),
+    }
+}
+
+// The values at the names `own`, copied to the names `theirs`.
+pub(crate) fn copy_over(
+    alloc: Global,
+    own: &Names,
+    theirs: &Names,
+    x: &JFields,
+    into: &mut JFields,
+) -> Result<(), NoMemory>
+    ensures { OnOk result (into.new
+        ≡ put (name_list theirs.now) (tuple_of (name_list own.now) x.now) into.old) }
+{
+    match (own, theirs) {
+        (Names::One(m), Names::One(n)) => copy_value(alloc, m, n, x, into),
+        _ => {
+            let values = read_tuple(alloc, own, x)?;
+            put_tuple(alloc, theirs, values, into)
+        }
+    }
+}
+
 fn value_same(a: &Option<JVal>, b: &Option<JVal>) -> bool
     ensures { result ≡ value_same (option_map json a.now) (option_map json b.now) }
 {
