@@ -1,3 +1,4 @@
 pub mod Alive
 pub mod Loops
 pub mod Steps
+pub mod Shaping

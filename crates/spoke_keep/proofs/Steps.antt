@@ -65,3 +65,6 @@ made_of P o v w kind m b e q h = subst P (sym (e ∙ ap (λ (u : Name). record {
 
 pub version_of : (a b g n v : Name) → v ≡ api_version a b → a ≡ g → b ≡ n → v ≡ api_version g n
 version_of a b g n v e p q = e ∙ ap (λ (u : Name). api_version u b) p ∙ ap (api_version g) q
+
+pub fault_of : (all : Spokes) (n : Option Name) (ns ms : Texts) (e : KeepFault) → ns ≡ ms → IsFaultOf all n ns e → IsFaultOf all n ms e
+fault_of all n ns ms e q h = subst (λ (ts : Texts). IsFaultOf all n ts e) q h

@@ -1,3 +1,4 @@
 pub mod SpokesCode
 pub mod Seen
 pub mod Fault
+pub mod Shaping

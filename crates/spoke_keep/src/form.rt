@@ -115,14 +115,22 @@ fn formed(alloc: Global, all: &Spokes, s: &Spoke, h: Object) -> Result<Object, N
     ensures settled { IfOk result (λ x. IsSettledAt all.now s.now (object_of x)) }
 {
     let made = shape_for(alloc, all, s, &h)?;
+    Ok(reshaped(h, made))
+}
+
+// The object of a shape, its kind and its other metadata moved.
+#[inline(always)]
+pub(crate) fn reshaped(h: Object, p: Shape) -> Object
+    ensures { object_of result ≡ shaped p (object_of h) }
+{
     let Shape {
         version,
         notes,
         body,
-    } = made;
+    } = p;
     let mut form = h;
     form.api_version = version;
     form.meta.annotations = notes;
     form.body = body;
-    Ok(form)
+    form
 }

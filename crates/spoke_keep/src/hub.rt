@@ -1,29 +1,35 @@
 //! From a spoke to the hub.
-ghost use Rattle.std.specs.Prelude.{◌≡◌, ℕ, Some, slice_get, IfOk, IfErr};
+ghost use Rattle.std.specs.Prelude.{◌≡◌, ◌≤◌, ℕ, Some, true, slice_get, IfOk, IfErr};
 ghost use Rattle.kube_meta.specs.View.{ObjectView, object_of};
+ghost use Rattle.kj_value.specs.Fields.{field};
+ghost use Rattle.kj_value.specs.Json.{depth};
+ghost use Rattle.kept_entries.specs.Entry.{are_in_order};
+ghost use Rattle.kept_entries.specs.Text.{kept_json};
 ghost use Rattle.hub_cells.specs.Side as sides;
 ghost use Rattle.keep_laws.specs.FittedBody.{IsBodyOf};
 ghost use Rattle.keep_laws.specs.Spokes as laws;
 ghost use Rattle.keep_laws.specs.Pair.{IsPairOf};
 ghost use Rattle.keep_laws.specs.Keys.{hub_key};
-ghost use Rattle.keep_laws.specs.Notes.{Spells, noted};
+ghost use Rattle.keep_laws.specs.Notes.{Spells};
 ghost use Rattle.keep_laws.specs.WholeHub.{IsSettledAt, IsWholeHub};
 ghost use Rattle.keep_laws.specs.Settling.{SettlesAtSpoke};
 ghost use Rattle.keep_laws.specs.Over.{GoesOver};
 ghost use Rattle.keep_laws.specs.Place.{StandsAt};
 ghost use Rattle.spoke_keep.specs.Fault.{IsFaultOf};
+ghost use Rattle.spoke_keep.specs.Shaping.{IsShapeOf, ShapesOver};
 
 use crate::carrying::carried_over;
 use crate::fault::KeepFault;
+use crate::form::reshaped;
 use crate::keys::{hub_key, version_text};
 use crate::notes::{kept_at, put_note, write_note};
 use crate::spokes::{Spoke, Spokes};
 use hub_cells::Side;
 use keep_bodies::{KeptBody, convert};
 use keep_laws::object_laws::{given, going_over, settling};
-use kept_entries::Kept;
-use kj_value::{NoMemory, TextMap};
-use kube_meta::Object;
+use kept_entries::{KEPT_LEVELS, Kept};
+use kj_value::{JFields, NoMemory, TextMap};
+use kube_meta::{Object, Shape};
 use std::alloc::Global;
 use std::mem;
 
@@ -52,24 +58,60 @@ fn over(alloc: Global, all: &Spokes, s: &Spoke, x: Object) -> Result<Object, Kee
     ensures over { IfOk result (λ h. GoesOver all.now s.now (object_of x) (object_of h)) }
     ensures err { IfErr result (IsFaultOf all.now (Some s.now.name) x.meta.annotations) }
 {
-    given();
-    let _ = all.items();
-    let _ = x.body.len();
-    let kept = kept_at(alloc, &x.meta.annotations, hub_key())?;
-    let made = convert(alloc, s.fitted(), Side::Spoke, &x.body, &kept)?;
-    let KeptBody { fields, kept: left } = made;
     let mut hub = x;
     let annotations = mem::replace(&mut hub.meta.annotations, TextMap::new(alloc));
-    let mut notes = carried_over(alloc, all, Some(s), &fields, annotations)?;
-    let own = write_note(alloc, &left)?;
+    let made = shape_over(alloc, all, s, &hub.body, annotations)?;
+    Ok(reshaped(hub, made))
+}
+
+// What an object of a spoke with this body and these annotations becomes at the hub.
+fn shape_over(
+    alloc: Global,
+    all: &Spokes,
+    s: &Spoke,
+    body: &JFields,
+    annotations: TextMap,
+) -> Result<Shape, KeepFault>
+    requires place { (v : ℕ) × (slice_get all.now.items v ≡ Some s.now) }
+    requires body { IsBodyOf sides.spoke s.now.fit body.now }
+    ensures over { IfOk result (λ p. ShapesOver all.now s.now body.now annotations p) }
+    ensures err { IfErr result (IsFaultOf all.now (Some s.now.name) annotations) }
+{
+    given();
+    let _ = all.items();
+    let _ = body.len();
+    let kept = kept_at(alloc, &annotations, hub_key())?;
+    let made = convert(alloc, s.fitted(), Side::Spoke, body, &kept)?;
+    let KeptBody { fields, kept: left } = made;
+    let notes = carried_over(alloc, all, Some(s), &fields, annotations)?;
+    let shape = shape_with(alloc, all, s, fields, &left, notes)?;
+    Ok(shape)
+}
+
+// The shape at the hub of a body, where this is kept of the spoke, and these annotations beside.
+fn shape_with(
+    alloc: Global,
+    all: &Spokes,
+    s: &Spoke,
+    body: JFields,
+    left: &Kept,
+    annotations: TextMap,
+) -> Result<Shape, NoMemory>
+    requires order { are_in_order left.now ≡ true }
+    requires levels { depth (kept_json left.now) ≤ KEPT_LEVELS }
+    ensures { IfOk result (IsShapeOf all.now s.now body left.now annotations) }
+{
+    let mut notes = annotations;
+    let own = write_note(alloc, left)?;
     put_note(alloc, s.key(), own, &mut notes)?;
     let _ = notes.len();
-    let _ = fields.len();
+    let _ = body.len();
     let version = version_text(alloc, all.group(), all.hub())?;
-    hub.api_version = version;
-    hub.meta.annotations = notes;
-    hub.body = fields;
-    Ok(hub)
+    Ok(Shape {
+        version,
+        notes,
+        body,
+    })
 }
 
 /// The object of the hub that a settled object of the spoke at place `v` becomes. Its metadata are moved. What its
@@ -83,11 +125,11 @@ pub fn back_to_hub(alloc: Global, all: &Spokes, v: u8, x: Object) -> Result<Obje
 }
 
 // What a settled object of a spoke keeps of the hub. It can be read.
-fn hub_kept(alloc: Global, x: &Object) -> Result<Kept, NoMemory>
-    requires { (all : laws.Spokes) × (s : laws.Spoke) × IsSettledAt all s (object_of x.now) }
-    ensures { IfOk result (Spells (noted hub_key (object_of x.now))) }
+fn hub_kept(alloc: Global, annotations: &TextMap) -> Result<Kept, NoMemory>
+    requires { (all : laws.Spokes) × (s : laws.Spoke) × (x : ObjectView) × (x.meta.annotations ≡ annotations.now) × IsSettledAt all s x }
+    ensures { IfOk result (Spells (field hub_key annotations.now)) }
 {
-    match kept_at(alloc, &x.meta.annotations, hub_key()) {
+    match kept_at(alloc, annotations, hub_key()) {
         Ok(kept) => Ok(kept),
         Err(KeepFault::NoMemory) => Err(NoMemory),
         Err(KeepFault::BadKept { annotation: _ }) => unreachable!(),
@@ -99,23 +141,32 @@ fn back(alloc: Global, all: &Spokes, s: &Spoke, x: Object) -> Result<Object, NoM
     requires settled { IsSettledAt all.now s.now (object_of x) }
     ensures { IfOk result (λ h. GoesOver all.now s.now (object_of x) (object_of h)) }
 {
+    let mut hub = x;
+    let annotations = mem::replace(&mut hub.meta.annotations, TextMap::new(alloc));
+    let made = shape_back(alloc, all, s, &hub.body, annotations)?;
+    Ok(reshaped(hub, made))
+}
+
+// What a settled object of a spoke with this body and these annotations becomes at the hub.
+fn shape_back(
+    alloc: Global,
+    all: &Spokes,
+    s: &Spoke,
+    body: &JFields,
+    annotations: TextMap,
+) -> Result<Shape, NoMemory>
+    requires place { (v : ℕ) × (slice_get all.now.items v ≡ Some s.now) }
+    requires settled { (x : ObjectView) × (x.body ≡ body.now) × (x.meta.annotations ≡ annotations) × IsSettledAt all.now s.now x }
+    ensures { IfOk result (λ p. ShapesOver all.now s.now body.now annotations p) }
+{
     given();
     settling();
     let _ = all.items();
-    let _ = x.body.len();
-    let kept = hub_kept(alloc, &x)?;
-    let made = convert(alloc, s.fitted(), Side::Spoke, &x.body, &kept)?;
+    let _ = body.len();
+    let mut notes = annotations;
+    let kept = hub_kept(alloc, &notes)?;
+    let made = convert(alloc, s.fitted(), Side::Spoke, body, &kept)?;
     let KeptBody { fields, kept: left } = made;
-    let mut hub = x;
-    let mut notes = mem::replace(&mut hub.meta.annotations, TextMap::new(alloc));
     let _ = notes.remove(hub_key());
-    let own = write_note(alloc, &left)?;
-    put_note(alloc, s.key(), own, &mut notes)?;
-    let _ = notes.len();
-    let _ = fields.len();
-    let version = version_text(alloc, all.group(), all.hub())?;
-    hub.api_version = version;
-    hub.meta.annotations = notes;
-    hub.body = fields;
-    Ok(hub)
+    shape_with(alloc, all, s, fields, &left, notes)
 }

@@ -1,61 +1,15 @@
-use Rattle.std.proofs.Common.{◌≡◌, Option, Some, ap, refl, sym, subst, ◌∙◌}
-use Rattle.std.specs.Prelude.{option_map}
+use Rattle.std.proofs.Common.{Some, refl, sym, subst}
 use Rattle.std.proofs.lemmas.Result.{err_from_is_err_and}
-use Rattle.hub_cells.specs.Side as sides
-use Rattle.hub_cells.specs.Fit.{Fit}
-use Rattle.hub_cells.specs.Level.{Name}
-use Rattle.kube_meta.specs.View.{Texts, ObjectView, object_of}
-use Rattle.kj_value.specs.Fields.{field}
-use Rattle.kj_value.specs.Texts.{bytes_of}
-use Rattle.keep_laws.specs.Whole.{marks_of}
-use Rattle.keep_laws.specs.Settle.{IsAllowed, converted}
-use Rattle.keep_laws.specs.Notes.{with_entries, with_note, Spells}
-use Rattle.keep_laws.specs.Settling.{Carries}
-use Rattle.keep_laws.specs.Over.{GoesOver, HubIsRead}
-use Rattle.keep_laws.proofs.Judged.{allowed}
-use Rattle.keep_laws.proofs.Made.{hub_made_body, hub_made_writable, goes_over}
-use Rattle.spoke_keep.proofs.Steps.{spells_order, hub_read, hub_fault, made_of, version_of}
+use Rattle.kube_meta.specs.View.{object_of}
+use Rattle.keep_laws.specs.Over.{GoesOver}
+use Rattle.spoke_keep.proofs.Steps.{fault_of}
 use Rattle.spoke_keep.proofs.hub.over.Goals as goal
 
-pub convert-requires-clause-allowed : goal.convert-requires-clause-allowed
-convert-requires-clause-allowed c =
-    subst (λ (f : Fit). IsAllowed sides.spoke f.level (marks_of sides.spoke f.level (with_entries c.args.x.body c.in_ok-kept.kept))) (sym c.fitted.ensures) (allowed c.given.ensures c.args.all.now c.requires.place.0 c.args.s.now c.items.ensures.definition c.requires.place.1 sides.spoke c.args.x.body c.in_ok-kept.kept c.len.ensures.sound c.requires.body)
-
-pub convert-requires-clause-order : goal.convert-requires-clause-order
-convert-requires-clause-order c = spells_order _ c.in_ok-kept.kept c.in_ok-kept.ensures.ok
-
-pub carried_over-requires-clause-body : goal.carried_over-requires-clause-body
-carried_over-requires-clause-body c =
-    let made : with_entries c.in_ok-made.made.fields c.in_ok-made.made.kept ≡ converted sides.spoke c.args.s.now.fit.level (with_entries c.args.x.body c.in_ok-kept.kept) = c.in_ok-made.ensures ∙ ap (λ (f : Fit). converted sides.spoke f.level (with_entries c.args.x.body c.in_ok-kept.kept)) c.fitted.ensures in
-    hub_made_body c.given.ensures c.args.all.now c.requires.place.0 c.args.s.now c.items.ensures.definition c.requires.place.1 c.args.x.body c.in_ok-made.made.fields c.in_ok-kept.kept c.in_ok-made.made.kept c.len.ensures.sound c.requires.body made
-
-pub carried_over-requires-clause-hub : goal.carried_over-requires-clause-hub
-carried_over-requires-clause-hub c =
-    subst (λ (ns : Texts). HubIsRead (Some c.args.s.now.name) ns) (sym c.replace-annotations.ensures.value) (hub_read (Some c.args.s.now.name) c.hub_key.result.now c.args.x.meta.annotations c.in_ok-kept.kept c.hub_key.ensures c.in_ok-kept.ensures.ok)
-
-pub write_note-requires-clause-order : goal.write_note-requires-clause-order
-write_note-requires-clause-order c =
-    let made : with_entries c.in_ok-made.made.fields c.in_ok-made.made.kept ≡ converted sides.spoke c.args.s.now.fit.level (with_entries c.args.x.body c.in_ok-kept.kept) = c.in_ok-made.ensures ∙ ap (λ (f : Fit). converted sides.spoke f.level (with_entries c.args.x.body c.in_ok-kept.kept)) c.fitted.ensures in
-    (hub_made_writable c.given.ensures c.args.all.now c.requires.place.0 c.args.s.now c.items.ensures.definition c.requires.place.1 c.args.x.body c.in_ok-made.made.fields c.in_ok-kept.kept c.in_ok-made.made.kept c.len.ensures.sound c.requires.body made).order
-
-pub write_note-requires-clause-levels : goal.write_note-requires-clause-levels
-write_note-requires-clause-levels c =
-    let made : with_entries c.in_ok-made.made.fields c.in_ok-made.made.kept ≡ converted sides.spoke c.args.s.now.fit.level (with_entries c.args.x.body c.in_ok-kept.kept) = c.in_ok-made.ensures ∙ ap (λ (f : Fit). converted sides.spoke f.level (with_entries c.args.x.body c.in_ok-kept.kept)) c.fitted.ensures in
-    (hub_made_writable c.given.ensures c.args.all.now c.requires.place.0 c.args.s.now c.items.ensures.definition c.requires.place.1 c.args.x.body c.in_ok-made.made.fields c.in_ok-kept.kept c.in_ok-made.made.kept c.len.ensures.sound c.requires.body made).levels
-
-pub returns-in_err-kept-clause-err : goal.returns-in_err-kept-clause-err
-returns-in_err-kept-clause-err c =
+pub returns-in_err-made-clause-err : goal.returns-in_err-made-clause-err
+returns-in_err-made-clause-err c =
     let p = err_from_is_err_and c.from_residual.result c.from_residual.ensures.1 in
-    rw (p.1, p.2) (hub_fault c.args.all.now c.args.s.now.name c.hub_key.result.now c.args.x.meta.annotations _ c.hub_key.ensures c.in_err-kept.ensures.err)
+    rw (p.1, p.2) (fault_of c.args.all.now (Some c.args.s.now.name) c.replace-annotations.result c.args.x.meta.annotations _ c.replace-annotations.ensures.value c.in_err-made.ensures.err)
 
 pub returns-clause-over : goal.returns-clause-over
 returns-clause-over c =
-    let x : ObjectView = object_of c.args.x in
-    let made : with_entries c.in_ok-made.made.fields c.in_ok-made.made.kept ≡ converted sides.spoke c.args.s.now.fit.level (with_entries c.args.x.body c.in_ok-kept.kept) = c.in_ok-made.ensures ∙ ap (λ (f : Fit). converted sides.spoke f.level (with_entries c.args.x.body c.in_ok-kept.kept)) c.fitted.ensures in
-    let own : Option Name = option_map bytes_of c.in_ok-own.own in
-    let put = c.in_ok-put_note.ensures ∙ ap (λ (k : Name). with_note k own c.in_ok-notes.notes) c.key.ensures in
-    let version = version_of c.group.result.now.bytes c.hub.result.now.bytes c.args.all.now.group c.args.all.now.hub c.in_ok-version.version.bytes c.in_ok-version.ensures c.group.ensures c.hub.ensures in
-    let carried : Carries c.args.all.now (Some c.args.s.now.name) c.in_ok-made.made.fields c.args.x.meta.annotations c.in_ok-notes.notes = subst (λ (ns : Texts). Carries c.args.all.now (Some c.args.s.now.name) c.in_ok-made.made.fields ns c.in_ok-notes.notes) c.replace-annotations.ensures.value c.in_ok-notes.ensures.ok in
-    made_of (GoesOver c.args.all.now c.args.s.now x) _ c.in_ok-version.version.bytes _ x.kind (record x.meta { annotations = c.put_note.new.notes }) c.in_ok-made.made.fields refl version (
-    goes_over c.given.ensures c.args.all.now c.requires.place.0 c.args.s.now c.items.ensures.definition c.requires.place.1 x c.in_ok-made.made.fields c.in_ok-notes.notes c.put_note.new.notes c.in_ok-kept.kept c.in_ok-made.made.kept own c.len-2.ensures.order c.len-3.ensures.sound (subst (λ (k : Name). Spells (field k c.args.x.meta.annotations) c.in_ok-kept.kept) c.hub_key.ensures c.in_ok-kept.ensures.ok) made carried c.in_ok-own.ensures put
-    )
+    subst (GoesOver c.args.all.now c.args.s.now (object_of c.args.x)) (sym c.reshaped.ensures) (c.in_ok-made.ensures.over (object_of c.args.x) refl (sym c.replace-annotations.ensures.value))
