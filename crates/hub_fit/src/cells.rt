@@ -1,9 +1,10 @@
 //! The cells that rules mean.
-ghost use Rattle.std.specs.Prelude.{◌≡◌, ◌++◌, [], ◌∷◌, map, IfOk, OnOk, option_map, option_to_list};
+ghost use Rattle.std.specs.Prelude.{◌≡◌, ◌++◌, [], ◌∷◌, map, IfOk, OnOk};
+ghost use Rattle.kj_value.specs.Seen.{json};
 ghost use Rattle.struct_schema.specs.Shape.{properties, shapes_of, shape_at, no_shapes};
 ghost use Rattle.struct_schema.specs.ShapeOf.{shape_of, named_shape};
 ghost use Rattle.hub_cells.specs.Side.{spoke};
-ghost use Rattle.hub_cells.specs.Cell.{same};
+ghost use Rattle.hub_cells.specs.Cell.{spoke_only, hub_only, split, table};
 ghost use Rattle.hub_cells.specs.Pairs.{values_of};
 ghost use Rattle.hub_cells.specs.Seen.{kind, place, place_list, cell};
 ghost use Rattle.hub_rules.specs.Rule.{rules_of, names_on};
@@ -12,7 +13,7 @@ ghost use Rattle.hub_fit.specs.Chosen.{place_at, places_at, cell_at, with_cell, 
 
 use hub_cells::{Cell, CellKind, Name, Names, Pair, PairItems, Side};
 use hub_rules::{AnyNode, Line, is_required, is_ruled, node_at};
-use kj_value::{NoMemory, Txt, copy};
+use kj_value::{JVal, NoMemory, Txt, copy};
 use std::alloc::Global;
 use struct_schema::{Schema, SchemaField, copy_schema};
 
@@ -20,36 +21,55 @@ fn name(alloc: Global, s: &Schema, text: &Txt, any: &AnyNode) -> Result<Name, No
     ensures { IfOk result (λ n. place n ≡ place_at (shape_of s.now) text.now.bytes) }
 {
     let required = is_required(text, s);
-    let schema = copy_schema(alloc, node_at(s, text, any))?;
-    let text = Txt::of(alloc, text.as_str())?;
-    Ok(Name {
-        text,
-        schema,
-        required,
-    })
+    let own = Txt::of(alloc, text.as_str())?;
+    match copy_schema(alloc, node_at(s, text, any)) {
+        Err(e) => Err(e),
+        Ok(schema) => Ok(Name {
+            text: own,
+            schema,
+            required,
+        }),
+    }
 }
 
 fn one(alloc: Global, s: &Schema, a: &Txt, any: &AnyNode) -> Result<Names, NoMemory>
     ensures { IfOk result (λ ns. place_list ns ≡ places_at (shape_of s.now) (a.now.bytes ∷ [])) }
 {
-    Ok(Names::One(name(alloc, s, a, any)?))
+    match name(alloc, s, a, any) {
+        Err(e) => Err(e),
+        Ok(n) => Ok(Names::One(n)),
+    }
 }
 
 fn two(alloc: Global, s: &Schema, a: &Txt, b: &Txt, any: &AnyNode) -> Result<Names, NoMemory>
     ensures { IfOk result (λ ns. place_list ns
         ≡ places_at (shape_of s.now) (a.now.bytes ∷ b.now.bytes ∷ [])) }
 {
-    let first = name(alloc, s, a, any)?;
-    let second = name(alloc, s, b, any)?;
-    Ok(Names::Two(first, second))
+    match name(alloc, s, a, any) {
+        Err(e) => Err(e),
+        Ok(first) => match name(alloc, s, b, any) {
+            Err(e) => {
+                drop(first);
+                Err(e)
+            }
+            Ok(second) => Ok(Names::Two(first, second)),
+        },
+    }
 }
 
-fn copy_pair(alloc: Global, pair: &Pair) -> Result<Pair, NoMemory>
-    ensures { IfOk result (λ p. values_of p ≡ values_of pair.now) }
+fn copy_values(alloc: Global, spoke: &JVal, hub: &JVal) -> Result<Pair, NoMemory>
+    ensures { IfOk result (λ p. values_of p ≡ (json spoke.now, json hub.now)) }
 {
-    let spoke = copy(alloc, &pair.spoke)?;
-    let hub = copy(alloc, &pair.hub)?;
-    Ok(Pair { spoke, hub })
+    match copy(alloc, spoke) {
+        Err(e) => Err(e),
+        Ok(spoke) => match copy(alloc, hub) {
+            Err(e) => {
+                drop(spoke);
+                Err(e)
+            }
+            Ok(hub) => Ok(Pair { spoke, hub }),
+        },
+    }
 }
 
 fn copy_pairs(alloc: Global, pairs: &PairItems) -> Result<PairItems, NoMemory>
@@ -57,13 +77,39 @@ fn copy_pairs(alloc: Global, pairs: &PairItems) -> Result<PairItems, NoMemory>
 {
     let mut copies = PairItems::new(alloc);
     for p in pairs.as_slice() {
-        copies.push(copy_pair(alloc, p)?)?;
+        copies.push(copy_values(alloc, &p.spoke, &p.hub)?)?;
     }
-    Ok(copies.indexed(alloc)?)
+    copies.indexed(alloc)
+}
+
+fn table_kind(alloc: Global, pairs: &PairItems, x: &JVal, y: &JVal) -> Result<CellKind, NoMemory>
+    ensures { IfOk result (λ k. kind k ≡ table pairs.now (json x.now) (json y.now)) }
+{
+    match copy_pairs(alloc, pairs) {
+        Err(e) => Err(e),
+        Ok(pairs) => match copy_values(alloc, x, y) {
+            Err(e) => {
+                drop(pairs);
+                Err(e)
+            }
+            Ok(Pair { spoke, hub }) => Ok(CellKind::Table {
+                pairs,
+                spoke_blank: spoke,
+                hub_blank: hub,
+            }),
+        },
+    }
+}
+
+fn push(c: Cell, cells: &mut Vec<Cell>) -> Result<(), NoMemory>
+    ensures { OnOk result (map cell cells.new.items ≡ map cell cells.old.items ++ cell c ∷ []) }
+{
+    cells.push(c)?;
+    Ok(())
 }
 
 // A cell of one name on each side.
-fn pair_cell(
+fn push_pair(
     alloc: Global,
     a: &Txt,
     b: &Txt,
@@ -72,95 +118,133 @@ fn pair_cell(
     h: &Schema,
     depth: u32,
     any: &AnyNode,
-) -> Result<Cell, NoMemory>
-    ensures { IfOk result (λ c. cell c ≡ cell_at depth (shape_of s.now) (shape_of h.now)
-        (a.now.bytes ∷ []) (b.now.bytes ∷ []) (kind of)) }
+    cells: &mut Vec<Cell>,
+) -> Result<(), NoMemory>
+    ensures { OnOk result (map cell cells.new.items ≡ map cell cells.old.items
+        ++ cell_at depth (shape_of s.now) (shape_of h.now)
+        (a.now.bytes ∷ []) (b.now.bytes ∷ []) (kind of) ∷ []) }
 {
-    let spoke = one(alloc, s, a, any)?;
-    let hub = one(alloc, h, b, any)?;
-    Ok(Cell {
-        spoke,
-        hub,
-        kind: of,
-        depth,
-    })
+    match one(alloc, s, a, any) {
+        Err(e) => {
+            drop(of);
+            Err(e)
+        }
+        Ok(spoke) => match one(alloc, h, b, any) {
+            Err(e) => {
+                drop(of);
+                drop(spoke);
+                Err(e)
+            }
+            Ok(hub) => {
+                let c = Cell {
+                    spoke,
+                    hub,
+                    kind: of,
+                    depth,
+                };
+                push(c, cells)
+            }
+        },
+    }
 }
 
-// The cell of a rule, where it has one.
-fn cell_of(
+// A cell of one name of the spoke's.
+fn push_spoke_only(
     alloc: Global,
-    line: &Line,
+    a: &Txt,
+    s: &Schema,
+    depth: u32,
+    any: &AnyNode,
+    cells: &mut Vec<Cell>,
+) -> Result<(), NoMemory>
+    ensures { OnOk result (map cell cells.new.items ≡ map cell cells.old.items ++ record {
+      spoke = places_at (shape_of s.now) (a.now.bytes ∷ []);
+      hub = [];
+      kind = spoke_only;
+      depth = depth;
+    } ∷ []) }
+{
+    match one(alloc, s, a, any) {
+        Err(e) => Err(e),
+        Ok(spoke) => {
+            let c = Cell {
+                spoke,
+                hub: Names::Empty,
+                kind: CellKind::SpokeOnly,
+                depth,
+            };
+            push(c, cells)
+        }
+    }
+}
+
+// A cell of one name of the hub's.
+fn push_hub_only(
+    alloc: Global,
+    b: &Txt,
+    h: &Schema,
+    depth: u32,
+    any: &AnyNode,
+    cells: &mut Vec<Cell>,
+) -> Result<(), NoMemory>
+    ensures { OnOk result (map cell cells.new.items ≡ map cell cells.old.items ++ record {
+      spoke = [];
+      hub = places_at (shape_of h.now) (b.now.bytes ∷ []);
+      kind = hub_only;
+      depth = depth;
+    } ∷ []) }
+{
+    match one(alloc, h, b, any) {
+        Err(e) => Err(e),
+        Ok(hub) => {
+            let c = Cell {
+                spoke: Names::Empty,
+                hub,
+                kind: CellKind::HubOnly,
+                depth,
+            };
+            push(c, cells)
+        }
+    }
+}
+
+// A cell of one name of the spoke's and two of the hub's.
+fn push_split(
+    alloc: Global,
+    a: &Txt,
+    b: &Txt,
+    c: &Txt,
     s: &Schema,
     h: &Schema,
     depth: u32,
     any: &AnyNode,
-) -> Result<Option<Cell>, NoMemory>
-    ensures { IfOk result (λ o. option_to_list (option_map cell o)
-        ≡ with_cell depth (shape_of s.now) (shape_of h.now) (rule line.now) []) }
+    cells: &mut Vec<Cell>,
+) -> Result<(), NoMemory>
+    ensures { OnOk result (map cell cells.new.items ≡ map cell cells.old.items
+        ++ cell_at depth (shape_of s.now) (shape_of h.now)
+        (a.now.bytes ∷ []) (b.now.bytes ∷ c.now.bytes ∷ []) split ∷ []) }
 {
-    match line {
-        Line::Same { spoke: a, hub: b } => Ok(Some(pair_cell(
-            alloc,
-            a,
-            b,
-            CellKind::Same,
-            s,
-            h,
-            depth,
-            any,
-        )?)),
-        Line::Object { .. } => Ok(None),
-        Line::SpokeOnly { name: a } => Ok(Some(Cell {
-            spoke: one(alloc, s, a, any)?,
-            hub: Names::Empty,
-            kind: CellKind::SpokeOnly,
-            depth,
-        })),
-        Line::HubOnly { name: b } => Ok(Some(Cell {
-            spoke: Names::Empty,
-            hub: one(alloc, h, b, any)?,
-            kind: CellKind::HubOnly,
-            depth,
-        })),
-        Line::Split {
-            spoke: a,
-            first: b,
-            second: c,
-        } => {
-            let spoke = one(alloc, s, a, any)?;
-            let hub = two(alloc, h, b, c, any)?;
-            Ok(Some(Cell {
-                spoke,
-                hub,
-                kind: CellKind::Split,
-                depth,
-            }))
-        }
-        Line::Table {
-            spoke: a,
-            hub: b,
-            pairs,
-            spoke_blank: x,
-            hub_blank: y,
-        } => {
-            let pairs = copy_pairs(alloc, pairs)?;
-            let spoke_blank = copy(alloc, x)?;
-            let hub_blank = copy(alloc, y)?;
-            let table = CellKind::Table {
-                pairs,
-                spoke_blank,
-                hub_blank,
-            };
-            Ok(Some(pair_cell(alloc, a, b, table, s, h, depth, any)?))
-        }
-        Line::Scale {
-            spoke: a,
-            hub: b,
-            by,
-        } => Ok(Some(pair_cell(alloc, a, b, CellKind::Scale { by: *by }, s, h, depth, any)?)),
+    match one(alloc, s, a, any) {
+        Err(e) => Err(e),
+        Ok(spoke) => match two(alloc, h, b, c, any) {
+            Err(e) => {
+                drop(spoke);
+                Err(e)
+            }
+            Ok(hub) => {
+                let c = Cell {
+                    spoke,
+                    hub,
+                    kind: CellKind::Split,
+                    depth,
+                };
+                push(c, cells)
+            }
+        },
     }
 }
 
+// The cell of a rule, where it has one.
 fn push_cell(
     alloc: Global,
     line: &Line,
@@ -173,12 +257,43 @@ fn push_cell(
     ensures { OnOk result (map cell cells.new.items ≡ map cell cells.old.items
         ++ with_cell depth (shape_of s.now) (shape_of h.now) (rule line.now) []) }
 {
-    match cell_of(alloc, line, s, h, depth, any)? {
-        None => Ok(()),
-        Some(c) => {
-            cells.push(c)?;
-            Ok(())
+    match line {
+        Line::Same { spoke: a, hub: b } => {
+            push_pair(alloc, a, b, CellKind::Same, s, h, depth, any, cells)
         }
+        Line::Object { .. } => Ok(()),
+        Line::SpokeOnly { name: a } => push_spoke_only(alloc, a, s, depth, any, cells),
+        Line::HubOnly { name: b } => push_hub_only(alloc, b, h, depth, any, cells),
+        Line::Split {
+            spoke: a,
+            first: b,
+            second: c,
+        } => push_split(alloc, a, b, c, s, h, depth, any, cells),
+        Line::Table {
+            spoke: a,
+            hub: b,
+            pairs,
+            spoke_blank: x,
+            hub_blank: y,
+        } => match table_kind(alloc, pairs, x, y) {
+            Err(e) => Err(e),
+            Ok(of) => push_pair(alloc, a, b, of, s, h, depth, any, cells),
+        },
+        Line::Scale {
+            spoke: a,
+            hub: b,
+            by,
+        } => push_pair(
+            alloc,
+            a,
+            b,
+            CellKind::Scale { by: *by },
+            s,
+            h,
+            depth,
+            any,
+            cells,
+        ),
     }
 }
 
@@ -217,11 +332,20 @@ fn push_free_cell(
         (shape_at f.now.name.bytes (shape_of f.now.schema) no_shapes)) }
 {
     if is_ruled(lines, Side::Spoke, f.name.as_str()) {
-        return Ok(());
+        Ok(())
+    } else {
+        push_pair(
+            alloc,
+            &f.name,
+            &f.name,
+            CellKind::Same,
+            s,
+            h,
+            depth,
+            any,
+            cells,
+        )
     }
-    let c = pair_cell(alloc, &f.name, &f.name, CellKind::Same, s, h, depth, any)?;
-    cells.push(c)?;
-    Ok(())
 }
 
 // The cells of the names that no rule has.
