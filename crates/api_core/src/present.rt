@@ -19,7 +19,6 @@ use std::marker::Model;
 use std::sync::Arc;
 
 /// The present of the server of a definition.
-#[derive(Drop)]
 pub struct Core<V: Versions> {
     pub(crate) versions: Arc<V>,
     pub(crate) limits: Limits,
@@ -29,6 +28,21 @@ pub struct Core<V: Versions> {
     pub(crate) revision: u64,
     pub(crate) store: Store,
     pub(crate) migrations: Migrations,
+}
+
+impl<V: Versions + Drop> Drop for Core<V> {
+    fn drop(self) {
+        let Core {
+            versions: _,
+            limits: _,
+            boot: _,
+            flags: _,
+            stored: _,
+            revision: _,
+            store: _,
+            migrations: _,
+        } = self;
+    }
 }
 
 impl<V: Versions> Model for Core<V> {

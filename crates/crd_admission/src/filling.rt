@@ -17,6 +17,7 @@ use kj_value::{JFields, JVal, Txt};
 use kube_meta::{Meta, Object};
 use prune_default::{fill, one_filling};
 use std::alloc::Global;
+use std::mem;
 use struct_schema::{CheckFault, Schema, check};
 
 /// The object with its body filled, which breaks no rule of the schema. `Invalid` names the first rule that the filled body
@@ -41,30 +42,18 @@ pub fn filled(alloc: Global, s: &Schema, o: Object) -> Result<Object, AdmitFault
             body,
         }),
         Err(CheckFault::Broken { path, rule }) => Err(AdmitFault::Invalid {
-            name: name_of(meta),
+            name: name_of(alloc, meta),
             cause: Cause { field: path, rule },
         }),
         Err(CheckFault::NoMemory) => Err(AdmitFault::NoMemory),
     }
 }
 
-fn name_of(m: Meta) -> Txt
+fn name_of(alloc: Global, m: Meta) -> Txt
     ensures { result.bytes ≡ (meta_of m).name }
 {
-    let Meta {
-        name,
-        namespace: _,
-        labels: _,
-        annotations: _,
-        finalizers: _,
-        owners: _,
-        created: _,
-        deleted: _,
-        generation: _,
-        resource_version: _,
-        uid: _,
-    } = m;
-    name
+    let mut meta = m;
+    mem::replace(&mut meta.name, Txt::of_string(String::new(alloc)))
 }
 
 fn filled_body(alloc: Global, s: &Schema, body: JFields) -> Result<JFields, CheckFault>

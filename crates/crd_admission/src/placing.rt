@@ -50,30 +50,8 @@ pub(crate) fn placed(alloc: Global, ns: &str, o: Object) -> Result<Taken, NoMemo
 fn placed_meta(namespace: Txt, m: Meta) -> Meta
     ensures { meta_of result ≡ record (meta_of m) { namespace = namespace.bytes; resource_version = None } }
 {
-    let Meta {
-        name,
-        namespace: _,
-        labels,
-        annotations,
-        finalizers,
-        owners,
-        created,
-        deleted,
-        generation,
-        resource_version: _,
-        uid,
-    } = m;
-    Meta {
-        name,
-        namespace,
-        labels,
-        annotations,
-        finalizers,
-        owners,
-        created,
-        deleted,
-        generation,
-        resource_version: None,
-        uid,
-    }
+    let mut meta = m;
+    meta.namespace = namespace;
+    meta.resource_version = None;
+    meta
 }

@@ -9,6 +9,7 @@ ghost use Rattle.crd_meaning.specs.Converted.{document_with, with_notes};
 use kj_value::{JFields, JVal, NoMemory, TextField, TextMap, Txt};
 use kube_meta::{Meta, Object};
 use std::alloc::Global;
+use std::mem;
 
 /// The document of an object, whose value of `metadata` is the given one but for the annotations, which are the object's. All
 /// parts are moved.
@@ -25,7 +26,7 @@ pub(crate) fn document(alloc: Global, metadata: JVal, form: Object) -> Result<JV
     let mut fields = body;
     fields.set(Txt::of(alloc, "apiVersion")?, JVal::Text(api_version))?;
     fields.set(Txt::of(alloc, "kind")?, JVal::Text(kind))?;
-    let metadata = with_notes(alloc, fields_of(alloc, metadata), notes_of(meta))?;
+    let metadata = with_notes(alloc, fields_of(alloc, metadata), notes_of(alloc, meta))?;
     fields.set(Txt::of(alloc, "metadata")?, JVal::Obj(metadata))?;
     Ok(JVal::Obj(fields))
 }
@@ -40,23 +41,11 @@ fn fields_of(alloc: Global, value: JVal) -> JFields
     }
 }
 
-fn notes_of(m: Meta) -> TextMap
+fn notes_of(alloc: Global, m: Meta) -> TextMap
     ensures { result ≡ (meta_of m).annotations }
 {
-    let Meta {
-        name: _,
-        namespace: _,
-        labels: _,
-        annotations,
-        finalizers: _,
-        owners: _,
-        created: _,
-        deleted: _,
-        generation: _,
-        resource_version: _,
-        uid: _,
-    } = m;
-    annotations
+    let mut meta = m;
+    mem::replace(&mut meta.annotations, TextMap::new(alloc))
 }
 
 fn with_notes(alloc: Global, metadata: JFields, notes: TextMap) -> Result<JFields, NoMemory>

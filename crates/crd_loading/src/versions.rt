@@ -9,11 +9,20 @@ use spoke_keep::Spokes;
 use std::marker::Model;
 
 /// A definition, the place of the hub among its versions, and the other versions, with their rules, in the definition's order.
-#[derive(Drop)]
 pub struct LoadedVersions {
     definition: Definition,
     hub: u8,
     spokes: Spokes,
+}
+
+impl Drop for LoadedVersions {
+    fn drop(self) {
+        let LoadedVersions {
+            definition: _,
+            hub: _,
+            spokes: _,
+        } = self;
+    }
 }
 
 impl Model for LoadedVersions {

@@ -19,7 +19,6 @@ pub struct Version {
 
 /// A definition that was accepted. It has 2 to 8 versions, whose names differ; one of them is the storage
 /// version, and one at least is served.
-#[derive(Drop)]
 pub struct Definition {
     group: Txt,
     plural: Txt,
@@ -27,6 +26,19 @@ pub struct Definition {
     list_kind: Txt,
     versions: Vec<Version>,
     spec: JVal,
+}
+
+impl Drop for Definition {
+    fn drop(self) {
+        let Definition {
+            group: _,
+            plural: _,
+            kind: _,
+            list_kind: _,
+            versions: _,
+            spec: _,
+        } = self;
+    }
 }
 
 impl Model for Definition {

@@ -27,7 +27,6 @@ use std::alloc::Global;
 
 /// A definition of several versions as it was loaded, with the pieces of its document. It asks nothing of the outside, so its tool
 /// has no faults.
-#[derive(Drop)]
 pub struct VersionSet {
     set: LoadedVersions,
     pieces: Pieces,
@@ -35,6 +34,12 @@ pub struct VersionSet {
     ghost loaded: { ∥ IsLoaded set ∥₁ },
     ghost offered: { AreOffered set.view.versions },
     ghost its_pieces: { AreItsPieces set.view pieces } by { AreItsPieces-prop set.view pieces },
+}
+
+impl Drop for VersionSet {
+    fn drop(self) {
+        let VersionSet { set: _, pieces: _ } = self;
+    }
 }
 
 impl VersionSet {

@@ -1,8 +1,7 @@
 //! An object and its metadata, and what it becomes at another version.
 use kj_value::{JFields, JItems, Stamp, TextList, TextMap, Txt};
 
-/// The metadata of an object, as far as it is kept: ObjectMeta of meta/v1.
-#[derive(Drop)]
+/// The metadata of an object, as far as it is kept: ObjectMeta of meta/v1. What holds them drops them by a call.
 pub struct Meta {
     pub name: Txt,
     pub namespace: Txt,
@@ -19,6 +18,24 @@ pub struct Meta {
     pub generation: i64,
     pub resource_version: Option<Txt>,
     pub uid: Option<Txt>,
+}
+
+impl Drop for Meta {
+    fn drop(self) {
+        let Meta {
+            name: _,
+            namespace: _,
+            labels: _,
+            annotations: _,
+            finalizers: _,
+            owners: _,
+            created: _,
+            deleted: _,
+            generation: _,
+            resource_version: _,
+            uid: _,
+        } = self;
+    }
 }
 
 /// An object: `body` has every top name but `apiVersion`, `kind` and `metadata`.

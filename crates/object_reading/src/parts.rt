@@ -11,6 +11,7 @@ ghost use Rattle.object_reading.specs.Written.{IsMoment, IsBody};
 use kj_value::{Field, JFields, JItems, JVal, NoMemory, Stamp, TextList, TextMap, Txt};
 use kube_meta::{Meta, Object};
 use std::alloc::Global;
+use std::mem;
 
 /// The object of these fields, stamps, generation and uid included.
 pub(crate) fn object_of(alloc: Global, mut fields: JFields) -> Result<Object, NoMemory>
@@ -63,32 +64,13 @@ pub(crate) fn submitted(o: Object) -> Object
 pub(crate) fn submitted_meta(m: Meta) -> Meta
     ensures { meta_of result ≡ submitted_meta (meta_of m) }
 {
-    let Meta {
-        name,
-        namespace,
-        labels,
-        annotations,
-        finalizers,
-        owners,
-        created: _,
-        deleted: _,
-        generation: _,
-        resource_version,
-        uid: _,
-    } = m;
-    Meta {
-        name,
-        namespace,
-        labels,
-        annotations,
-        finalizers,
-        owners,
-        created: None,
-        deleted: None,
-        generation: 0,
-        resource_version: not_empty(resource_version),
-        uid: None,
-    }
+    let mut meta = m;
+    meta.created = None;
+    meta.deleted = None;
+    meta.generation = 0;
+    meta.resource_version = not_empty(mem::replace(&mut meta.resource_version, None));
+    meta.uid = None;
+    meta
 }
 
 fn not_empty(text: Option<Txt>) -> Option<Txt>

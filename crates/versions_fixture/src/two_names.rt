@@ -10,7 +10,6 @@ use kube_meta::Object;
 use std::alloc::Global;
 
 /// Two versions that name their one property differently.
-#[derive(Drop)]
 pub struct TwoNames {
     v1: Txt,
     v1beta1: Txt,
@@ -24,6 +23,19 @@ pub struct TwoNames {
     ghost group_is: { group.bytes ≡ codes "example.com" },
     ghost kind_is: { kind.bytes ≡ codes "CronTab" },
     ghost list_kind_is: { list_kind.bytes ≡ codes "CronTabList" },
+}
+
+impl Drop for TwoNames {
+    fn drop(self) {
+        let TwoNames {
+            v1: _,
+            v1beta1: _,
+            plural: _,
+            group: _,
+            kind: _,
+            list_kind: _,
+        } = self;
+    }
 }
 
 impl TwoNames {
