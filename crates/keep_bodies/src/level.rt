@@ -48,7 +48,9 @@ pub(crate) fn level_over(
 {
     let cells = f.cells();
     let inner = f.inner();
-    let mut fields = JFields::with_room(alloc, cells.len().saturating_add(inner.len()))?;
+    // A cell may have two names here, and the document of an object adds three fields.
+    let names = cells.len().saturating_add(inner.len());
+    let mut fields = JFields::with_room(alloc, names.saturating_add(4))?;
     let mut entries = Vec::new(alloc);
     cross_cells(alloc, cells, from, x, kept, &mut fields, &mut entries)?;
     inners_over(alloc, inner, from, x, kept, &mut fields, &mut entries)?;
