@@ -49,14 +49,28 @@ pub fn badly_kept(alloc: Global, name: Txt, fault: KeepFault) -> Result<AdmitFau
     }
 }
 
-/// What is told of a measure that is too large, in an object of that name.
-pub(crate) fn too_large(alloc: Global, name: Txt) -> Result<AdmitFault, NoMemory>
-    ensures { IfOk result (Refused (λ f. f ≡ breaks name.bytes object_path rule.Size) ⊥) }
+/// The same as a fault of the request, where memory may be wanted too.
+pub(crate) fn unread(alloc: Global, name: Txt, fault: KeepFault) -> AdmitFault
+    ensures { Refused (IsTold name.bytes fault) ⊥ result }
 {
-    let field = Txt::of(alloc, object_path())?;
-    let cause = Cause {
-        field,
-        rule: Rule::Size,
-    };
-    Ok(AdmitFault::Invalid { name, cause })
+    match badly_kept(alloc, name, fault) {
+        Ok(told) => told,
+        Err(NoMemory) => AdmitFault::NoMemory,
+    }
+}
+
+/// What is told of a measure that is too large, in an object of that name.
+pub(crate) fn too_large(alloc: Global, name: Txt) -> AdmitFault
+    ensures { Refused (λ f. f ≡ breaks name.bytes object_path rule.Size) ⊥ result }
+{
+    match Txt::of(alloc, object_path()) {
+        Ok(field) => AdmitFault::Invalid {
+            name,
+            cause: Cause {
+                field,
+                rule: Rule::Size,
+            },
+        },
+        Err(NoMemory) => AdmitFault::NoMemory,
+    }
 }

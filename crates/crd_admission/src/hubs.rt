@@ -14,13 +14,13 @@ ghost use Rattle.crd_meaning.specs.Meant.{meant};
 ghost use Rattle.crd_loading.specs.Passed.{IsPassed};
 ghost use Rattle.crd_admission.specs.NoHub.{HasNoHub};
 
-use crate::faults::{badly_kept, too_large};
+use crate::faults::{too_large, unread};
 use crate::weighing::weigh;
 use api_calls::AdmitFault;
 use crd_loading::LoadedVersions;
 use crd_meaning::{going_over, one_hub};
 use keep_laws::object_laws::settling;
-use kj_value::Txt;
+use kj_value::{NoMemory, Txt};
 use kube_meta::{Object, Shape};
 use spoke_keep::{KeepFault, settle, to_hub};
 use std::alloc::Global;
@@ -58,14 +58,31 @@ pub fn hub_value(
 {
     one_hub();
     let _ = set.hub();
-    let name = Txt::of(alloc, x.meta.name.as_str())?;
+    let name = match Txt::of(alloc, x.meta.name.as_str()) {
+        Ok(name) => name,
+        Err(NoMemory) => {
+            drop(x);
+            return Err(AdmitFault::NoMemory);
+        }
+    };
     let hub = match hub_of(alloc, set, v, x) {
         Ok(hub) => hub,
-        Err(fault) => return Err(badly_kept(alloc, name, fault)?),
+        Err(fault) => return Err(unread(alloc, name, fault)),
     };
-    match weigh(alloc, set, &hub, storage)? {
-        Some((weight, shape)) => Ok(Weighed { hub, weight, shape }),
-        None => Err(too_large(alloc, name)?),
+    match weigh(alloc, set, &hub, storage) {
+        Ok(Some((weight, shape))) => {
+            drop(name);
+            Ok(Weighed { hub, weight, shape })
+        }
+        Ok(None) => {
+            drop(hub);
+            Err(too_large(alloc, name))
+        }
+        Err(NoMemory) => {
+            drop(hub);
+            drop(name);
+            Err(AdmitFault::NoMemory)
+        }
     }
 }
 

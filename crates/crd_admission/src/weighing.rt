@@ -74,7 +74,13 @@ fn measured(h: &Object, form: &Option<Shape>) -> Option<u64>
 fn kept(v: u8, storage: u8, form: Option<Shape>, before: Option<Shape>) -> Option<Shape>
     ensures { (d : Definition) (h : ObjectView) → IsFormAt d v h (form_of form h) → IsKept d storage h before → IsKept d storage h result }
 {
-    if v == storage { form } else { before }
+    if v == storage {
+        drop(before);
+        form
+    } else {
+        drop(form);
+        before
+    }
 }
 
 /// The weight of a hub value in chunks of 256 bytes, and what it becomes at the version of the place `storage`, where that is
@@ -93,8 +99,16 @@ pub(crate) fn weigh(
     let mut most = 0u64;
     let mut stored: Option<Shape> = None;
     for v in 0..versions {
-        let form = form_at(alloc, set, h, v)?;
+        let form = match form_at(alloc, set, h, v) {
+            Ok(form) => form,
+            Err(NoMemory) => {
+                drop(stored);
+                return Err(NoMemory);
+            }
+        };
         let Some(bytes) = measured(h, &form) else {
+            drop(form);
+            drop(stored);
             return Ok(None);
         };
         most = heavier(most, bytes);

@@ -9,22 +9,22 @@ use Rattle.crd_admission.specs.NoHub.{HasNoHub, IsTold}
 use Rattle.crd_admission.proofs.Results.{refused_so, told_unread, told_heavy}
 use Rattle.crd_admission.proofs.hubs.hub_value.Goals as goal
 
-pub returns-in-Err-clause-refused : goal.returns-in-Err-clause-refused
-returns-in-Err-clause-refused c =
+pub returns-in-Err-hub_of-clause-refused : goal.returns-in-Err-hub_of-clause-refused
+returns-in-Err-hub_of-clause-refused c =
     let d = c.args.set.now in
     let x : ObjectView = object_of c.args.x in
-    let name : Name = c.in_ok-name.name.bytes in
-    let same : name ≡ x.meta.name = c.in_ok-name.ensures ∙ c.as_str.ensures in
-    refused_so (IsTold name c.in-Err.fault) (HasNoHub d c.args.v x) c.in_ok-badly_kept-in-Err.field-0 (told_unread d c.args.v x name c.in-Err.fault same c.in-Err.ensures.bad) c.in_ok-badly_kept-in-Err.ensures
+    let name : Name = c.in-Ok.name.bytes in
+    let same : name ≡ x.meta.name = c.in-Ok.ensures ∙ c.as_str.ensures in
+    refused_so (IsTold name c.in-Err-hub_of.fault) (HasNoHub d c.args.v x) c.unread.result (told_unread d c.args.v x name c.in-Err-hub_of.fault same c.in-Err-hub_of.ensures.bad) c.unread.ensures
 
-pub returns-in_ok-too_large-in-None-clause-refused : goal.returns-in_ok-too_large-in-None-clause-refused
-returns-in_ok-too_large-in-None-clause-refused c =
+pub returns-in-Ok-None-clause-refused : goal.returns-in-Ok-None-clause-refused
+returns-in-Ok-None-clause-refused c =
     let d = c.args.set.now in
     let x : ObjectView = object_of c.args.x in
-    let h : ObjectView = object_of c.in-Ok.hub in
-    let name : Name = c.in_ok-name.name.bytes in
-    let same : name ≡ x.meta.name = c.in_ok-name.ensures ∙ c.as_str.ensures in
-    let hub = c.in-Ok.ensures.hub in
-    refused_so (λ (f : Fault). f ≡ breaks name object_path rule.Size) (HasNoHub d c.args.v x) c.in_ok-too_large-in-None.field-0 (
-    told_heavy d c.args.v c.args.storage x h name c.in_ok-weight.field-0 same (c.one_hub.ensures.read d c.args.v x h hub) (λ g a. c.one_hub.ensures.one d c.hub.ensures.loaded c.args.v x g h a hub) c.in-None.is c.in_ok-weight.ensures
-    ) c.in_ok-too_large-in-None.ensures
+    let h : ObjectView = object_of c.in-Ok-hub_of.hub in
+    let name : Name = c.in-Ok.name.bytes in
+    let same : name ≡ x.meta.name = c.in-Ok.ensures ∙ c.as_str.ensures in
+    let hub = c.in-Ok-hub_of.ensures.hub in
+    refused_so (λ (f : Fault). f ≡ breaks name object_path rule.Size) (HasNoHub d c.args.v x) c.too_large.result (
+    told_heavy d c.args.v c.args.storage x h name c.in-Ok-None.field-0 same (c.one_hub.ensures.read d c.args.v x h hub) (λ g a. c.one_hub.ensures.one d c.hub.ensures.loaded c.args.v x g h a hub) c.in-Ok-None.field-0-is c.in-Ok-None.ensures
+    ) c.too_large.ensures

@@ -10,11 +10,11 @@ loop-v-preserved c =
     let d = c.args.set.now in
     let h : ObjectView = object_of c.args.h.now in
     let v = c.loop-v.v in
-    let x : ObjectView = form_of c.in_ok-form.form h in
+    let x : ObjectView = form_of c.in-Ok.form h in
     let known : v < count_of d = omega (arith, c.loop-v-test.true, c.count-versions.ensures.count) in
     let m : IsMeasure x (Some c.in-Some.bytes) = subst (λ (o : Option ℕ). IsMeasure x o) c.in-Some.is c.measured.ensures in (
-      subst (λ (n : ℕ). AreWeighed d h (v + 1) n) (sym c.heavier-most.ensures) (weighed_next d h (c.one_to_one.ensures d c.count-versions.ensures.loaded) c.requires v c.loop-v.most c.in-Some.bytes x known c.in_ok-form.ensures m.0 m.1 c.loop-v.invariant.0),
-      c.kept-stored.ensures d h c.in_ok-form.ensures c.loop-v.invariant.1,
+      subst (λ (n : ℕ). AreWeighed d h (v + 1) n) (sym c.heavier-most.ensures) (weighed_next d h (c.one_to_one.ensures d c.count-versions.ensures.loaded) c.requires v c.loop-v.most c.in-Some.bytes x known c.in-Ok.ensures m.0 m.1 c.loop-v.invariant.0),
+      c.kept-stored.ensures d h c.in-Ok.ensures c.loop-v.invariant.1,
     )
 
 pub returns : goal.returns
