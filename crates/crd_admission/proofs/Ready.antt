@@ -31,10 +31,10 @@ use Rattle.keep_laws.specs.Notes.{IsObject}
 use Rattle.crd_meaning.specs.Definition.{Definition, version_at}
 use Rattle.crd_meaning.specs.Request.{first_there, rows, placed, expected_of, IsTaken}
 use Rattle.crd_meaning.specs.Admission.{IsFilling, Passes}
-use Rattle.crd_meaning.specs.Refusal.{cause_at, RefusesRequest, is_early, is_broken}
+use Rattle.crd_meaning.specs.Refusal.{cause_at, broken_at, RefusesRequest, is_early, is_broken}
 use Rattle.crd_loading.specs.Passed.{IsPassed}
 use Rattle.crd_admission.specs.Low.{HasLowDefaults}
-use Rattle.crd_admission.specs.Steps.{IsFirst, BreaksRule, TellsCause}
+use Rattle.crd_admission.specs.Steps.{IsFirst, BreaksRule, IsToldOf, TellsCause}
 use Rattle.struct_schema.proofs.Agrees.{agrees}
 use Rattle.crd_admission.proofs.Lists.{body_depth, owners_depth}
 use Rattle.crd_admission.proofs.Depths.{filled_within}
@@ -61,6 +61,12 @@ pub names_told : (o : Option CheckFault) (e : check.CheckFault) → NamesCheckFa
 names_told None e h = absurd h
 names_told (Some f) (answer.Broken path rule) h = ap₂ cause_in (sym h.0) (sym h.1)
 names_told (Some f) answer.NoMemory h = tt
+
+pub told_broken : (s : Shape) (x : ObjectView) (e : check.CheckFault) → ((k : Pairs) → IsFilling s x.body k → TellsCause e (broken_at s k))
+    → (f : Fault) → IsToldOf x.meta.name e f → BreaksRule s x f
+told_broken s x (answer.Broken path rule) broken f told =
+    record { cause = record { field = path.bytes; rule = rule }; told = told; broken = broken }
+told_broken s x answer.NoMemory broken f told = absurd told
 
 -- the object that is submitted, in the namespace, before its body is filled
 abbrev before_filling : Request → Pairs → ObjectView

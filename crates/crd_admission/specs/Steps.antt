@@ -56,3 +56,8 @@ pub record BreaksRule (s : Shape) (x : ObjectView) (f : Fault) : Type 0 where
 abbrev pub TellsCause : CheckFault → Option CauseView → Type 0
 TellsCause (Broken path rule) o = o ≡ Some (record { field = path.bytes; rule = rule })
 TellsCause NoMemory o = Unit {0}
+
+-- what is told of the answer of a check, in an object of that name
+abbrev pub IsToldOf : List ℕ → CheckFault → Fault → Type 0
+IsToldOf name (Broken path rule) f = f ≡ invalid name (record { field = path.bytes; rule = rule })
+IsToldOf name NoMemory f = ⊥

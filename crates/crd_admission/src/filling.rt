@@ -10,7 +10,7 @@ ghost use Rattle.struct_schema.specs.Valid.{valid};
 ghost use Rattle.api_calls.specs.Versions.{Refused};
 ghost use Rattle.crd_meaning.specs.Admission.{IsFilling};
 ghost use Rattle.crd_meaning.specs.Refusal.{broken_at};
-ghost use Rattle.crd_admission.specs.Steps.{BreaksRule, TellsCause};
+ghost use Rattle.crd_admission.specs.Steps.{BreaksRule, IsToldOf, TellsCause};
 
 use api_calls::{AdmitFault, Cause};
 use kj_value::{JFields, JVal, Txt};
@@ -41,19 +41,37 @@ pub fn filled(alloc: Global, s: &Schema, o: Object) -> Result<Object, AdmitFault
             meta,
             body,
         }),
-        Err(CheckFault::Broken { path, rule }) => Err(AdmitFault::Invalid {
+        Err(fault) => {
+            drop(api_version);
+            drop(kind);
+            Err(broken(alloc, meta, fault))
+        }
+    }
+}
+
+// The fault of an object with these metadata.
+fn broken(alloc: Global, meta: Meta, fault: CheckFault) -> AdmitFault
+    ensures { Refused (IsToldOf (meta_of meta).name fault) ⊥ result }
+{
+    match fault {
+        CheckFault::Broken { path, rule } => AdmitFault::Invalid {
             name: name_of(alloc, meta),
             cause: Cause { field: path, rule },
-        }),
-        Err(CheckFault::NoMemory) => Err(AdmitFault::NoMemory),
+        },
+        CheckFault::NoMemory => {
+            drop(meta);
+            AdmitFault::NoMemory
+        }
     }
 }
 
 fn name_of(alloc: Global, m: Meta) -> Txt
     ensures { result.bytes ≡ (meta_of m).name }
 {
-    let mut meta = m;
-    mem::replace(&mut meta.name, Txt::of_string(String::new(alloc)))
+    let mut rest = m;
+    let name = mem::replace(&mut rest.name, Txt::of_string(String::new(alloc)));
+    drop(rest);
+    name
 }
 
 fn filled_body(alloc: Global, s: &Schema, body: JFields) -> Result<JFields, CheckFault>
@@ -63,12 +81,16 @@ fn filled_body(alloc: Global, s: &Schema, body: JFields) -> Result<JFields, Chec
         → IfErr result (λ e. TellsCause e (broken_at (shape_of s.now) k)) }
 {
     one_filling();
-    let v = match fill(alloc, s, JVal::Obj(body)) {
-        Ok(v) => v,
-        Err(_) => return Err(CheckFault::NoMemory),
-    };
-    check(alloc, s, &v)?;
-    Ok(fields_of(v))
+    match fill(alloc, s, JVal::Obj(body)) {
+        Ok(v) => match check(alloc, s, &v) {
+            Ok(()) => Ok(fields_of(v)),
+            Err(fault) => {
+                drop(v);
+                Err(fault)
+            }
+        },
+        Err(_) => Err(CheckFault::NoMemory),
+    }
 }
 
 // The fields of a value that is an object.
