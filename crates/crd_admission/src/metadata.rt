@@ -29,10 +29,15 @@ pub(crate) fn submitted(alloc: Global, kind: &str, fields: JFields) -> Result<Ob
     ensures rules { IfOk result (λ o. KeepsRules (meta_of o.meta)) }
     ensures refused { IfErr result (Refused (IsFirst (metadata_rows fields)) ⊥) }
 {
-    let name = given_name(alloc, &fields)?;
-    match read_object(alloc, JVal::Obj(fields), kind) {
-        Ok(o) => Ok(o),
-        Err(fault) => Err(metadata_fault(alloc, name, fault)),
+    match given_name(alloc, &fields) {
+        Ok(name) => match read_object(alloc, JVal::Obj(fields), kind) {
+            Ok(o) => Ok(o),
+            Err(fault) => Err(metadata_fault(alloc, name, fault)),
+        },
+        Err(NoMemory) => {
+            drop(fields);
+            Err(AdmitFault::NoMemory)
+        }
     }
 }
 

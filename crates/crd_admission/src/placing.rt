@@ -8,7 +8,7 @@ ghost use Rattle.crd_meaning.specs.Request.{placed, expected_of};
 
 use crate::numbers::number_of;
 use kj_value::{NoMemory, Txt};
-use kube_meta::{Meta, Object};
+use kube_meta::Object;
 use std::alloc::Global;
 
 /// An object before its body is filled, and the number that was taken out of it.
@@ -27,31 +27,16 @@ pub(crate) fn placed(alloc: Global, ns: &str, o: Object) -> Result<Taken, NoMemo
     ensures number { IfOk result (λ p. p.expected ≡ expected_of (object_of o)) }
     ensures rules { IfOk result (λ p. KeepsRules (meta_of p.object.meta)) }
 {
-    let namespace = Txt::of(alloc, ns)?;
+    let namespace = match Txt::of(alloc, ns) {
+        Ok(namespace) => namespace,
+        Err(NoMemory) => {
+            drop(o);
+            return Err(NoMemory);
+        }
+    };
     let expected = number_of(&o.meta.resource_version);
-    let Object {
-        api_version,
-        kind,
-        meta,
-        body,
-    } = o;
-    let meta = placed_meta(namespace, meta);
-    Ok(Taken {
-        object: Object {
-            api_version,
-            kind,
-            meta,
-            body,
-        },
-        expected,
-    })
-}
-
-fn placed_meta(namespace: Txt, m: Meta) -> Meta
-    ensures { meta_of result ≡ record (meta_of m) { namespace = namespace.bytes; resource_version = None } }
-{
-    let mut meta = m;
-    meta.namespace = namespace;
-    meta.resource_version = None;
-    meta
+    let mut object = o;
+    object.meta.namespace = namespace;
+    object.meta.resource_version = None;
+    Ok(Taken { object, expected })
 }

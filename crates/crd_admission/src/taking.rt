@@ -52,8 +52,19 @@ fn judged(
     ensures rules { IfOk result (λ o. KeepsRules (meta_of o.meta)) }
     ensures refused { IfErr result (Refused (IsFirst (rows set.now (request_of input.now) fields)) ⊥) }
 {
-    judge_path(set, input, &fields)?;
+    match judge_path(set, input, &fields) {
+        Ok(()) => {}
+        Err(fault) => {
+            drop(fields);
+            return Err(fault);
+        }
+    }
     let o = submitted(alloc, set.definition().kind().as_str(), fields)?;
-    judge_number(alloc, input.name.is_some(), &o)?;
-    Ok(o)
+    match judge_number(alloc, input.name.is_some(), &o) {
+        Ok(()) => Ok(o),
+        Err(fault) => {
+            drop(o);
+            Err(fault)
+        }
+    }
 }

@@ -16,17 +16,16 @@ returns-in_err-o-clause-refused c =
     let d = c.args.set.now in
     let r = request_of c.args.input.now in
     let es : Pairs = c.args.fields in
-    let p = err_from_is_err_and c.from_residual-in_err-o.result c.from_residual-in_err-o.ensures.1 in
-    rw (p.1, p.2) (refused_more (IsFirst (metadata_rows es)) (IsFirst (rows d r es)) c.in_err-o.field-0.0 (λ f h. at_metadata d r es f c.in_ok-judge_path.ensures.asked h) c.in_err-o.ensures.refused)
+    let p = err_from_is_err_and c.from_residual.result c.from_residual.ensures.1 in
+    rw (p.1, p.2) (refused_more (IsFirst (metadata_rows es)) (IsFirst (rows d r es)) c.in_err-o.field-0.0 (λ f h. at_metadata d r es f c.in-Ok.ensures.asked h) c.in_err-o.ensures.refused)
 
-pub returns-in_err-judge_number-clause-refused : goal.returns-in_err-judge_number-clause-refused
-returns-in_err-judge_number-clause-refused c =
+pub returns-in-Err-judge_number-clause-refused : goal.returns-in-Err-judge_number-clause-refused
+returns-in-Err-judge_number-clause-refused c =
     let d = c.args.set.now in
     let r = request_of c.args.input.now in
     let es : Pairs = c.args.fields in
     let x : ObjectView = object_of c.in_ok-o.o in
     let replaces : is_some r.name ≡ c.is_some.result = some_mapped (λ s. s.now) c.args.input.now.name ∙ sym c.is_some.ensures in
-    let p = err_from_is_err_and c.from_residual-in_err-judge_number.result c.from_residual-in_err-judge_number.ensures.1 in
-    rw (p.1, p.2) (refused_more (IsFirst (number_rows x.meta.name c.is_some.result (is_some x.meta.resource_version))) (IsFirst (rows d r es)) c.in_err-judge_number.field-0.0
-    (λ f h. past_metadata d r es x c.in_ok-judge_path.ensures.asked c.in_ok-o.ensures.nothing c.in_ok-o.ensures.object ∙ ap (λ (b : Bool). first_there (number_rows x.meta.name b (is_some x.meta.resource_version))) replaces ∙ h)
-    c.in_err-judge_number.ensures.refused)
+    refused_more (IsFirst (number_rows x.meta.name c.is_some.result (is_some x.meta.resource_version))) (IsFirst (rows d r es)) c.in-Err-judge_number.fault
+    (λ f h. past_metadata d r es x c.in-Ok.ensures.asked c.in_ok-o.ensures.nothing c.in_ok-o.ensures.object ∙ ap (λ (b : Bool). first_there (number_rows x.meta.name b (is_some x.meta.resource_version))) replaces ∙ h)
+    c.in-Err-judge_number.ensures.refused
