@@ -7,6 +7,7 @@ ghost use Rattle.kj_value.specs.Fields.{Pairs};
 ghost use Rattle.kj_value.specs.Json.{members_of, object};
 ghost use Rattle.kj_value.specs.Seen.{json};
 ghost use Rattle.kj_value.specs.Texts.{bytes_of};
+ghost use Rattle.kube_meta.specs.Document.{document};
 ghost use Rattle.kube_meta.specs.View.{object_of};
 ghost use Rattle.api_calls.specs.Meaning.{stamped};
 ghost use Rattle.api_calls.specs.Values.{IsUpdate, is_forbidden, is_marked, is_release};
@@ -77,15 +78,37 @@ fn same_bodies(a: JFields, b: JFields) -> (bool, JFields, JFields)
     (one, first, second)
 }
 
+// The document of an object, which stays.
+fn document_of(alloc: Global, o: &Object) -> Result<JVal, NoMemory>
+    ensures { IfOk result (λ j. json j ≡ document (object_of o.now)) }
+{
+    let again = copy_object(alloc, o)?;
+    write_object(alloc, again)
+}
+
 // Whether two objects are one, where neither's body has a field that stands beside it. The second one is let go.
 fn same_objects(alloc: Global, a: &Object, b: Object) -> Result<bool, NoMemory>
     requires { IsBody (object_of a.now).body × IsBody (object_of b).body }
     ensures { IfOk result (λ one. IsTrue one ↔ (object_of a.now ≡ object_of b)) }
 {
-    let again = copy_object(alloc, a)?;
-    let first = write_object(alloc, again)?;
-    let second = write_object(alloc, b)?;
-    Ok(same(&first, &second))
+    let first = match document_of(alloc, a) {
+        Ok(first) => first,
+        Err(fault) => {
+            drop(b);
+            return Err(fault);
+        }
+    };
+    let second = match write_object(alloc, b) {
+        Ok(second) => second,
+        Err(fault) => {
+            drop(first);
+            return Err(fault);
+        }
+    };
+    let one = same(&first, &second);
+    drop(first);
+    drop(second);
+    Ok(one)
 }
 
 // Whether two objects are one, whose bodies are one or aren't.
@@ -95,6 +118,7 @@ fn same_if(alloc: Global, bodies: bool, a: &Object, b: Object) -> Result<bool, N
     ensures { IfOk result (λ one. IsTrue one ↔ (object_of a.now ≡ object_of b)) }
 {
     if !bodies {
+        drop(b);
         return Ok(false);
     }
     same_objects(alloc, a, b)
@@ -182,12 +206,20 @@ pub fn update_of(alloc: Global, new: Object, old: Object) -> Result<Update, NoMe
 {
     let (bodies, new, old) = compared(new, old);
     let Some(generation) = next_generation(old.meta.generation, bodies) else {
+        drop(new);
+        drop(old);
         return Err(NoMemory);
     };
     let hub = updated(new, &old, generation);
     let forbidden = adds(&old, &hub);
     let release = ends(&old, &hub);
-    let equal = same_if(alloc, bodies, &hub, old)?;
+    let equal = match same_if(alloc, bodies, &hub, old) {
+        Ok(equal) => equal,
+        Err(fault) => {
+            drop(hub);
+            return Err(fault);
+        }
+    };
     Ok(Update {
         hub,
         equal,

@@ -39,7 +39,7 @@ returns-clause-fits c = subst (FitsSigned w64) (sym (ap (λ (o : ObjectView). o.
 
 pub returns-clause-equal : goal.returns-clause-equal
 returns-clause-equal c =
-    subst (λ (o : ObjectView). IsTrue c.in_ok-equal.equal ↔ (object_of c.updated-hub.result ≡ o)) c.compared-bodies.ensures.second c.in_ok-equal.ensures
+    subst (λ (o : ObjectView). IsTrue c.in-Ok.equal ↔ (object_of c.updated-hub.result ≡ o)) c.compared-bodies.ensures.second c.in-Ok.ensures
 
 pub returns-clause-forbidden : goal.returns-clause-forbidden
 returns-clause-forbidden c = c.adds-forbidden.ensures ∙ ap (λ (o : ObjectView). is_forbidden o (object_of c.updated-hub.result)) c.compared-bodies.ensures.second
