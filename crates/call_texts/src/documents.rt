@@ -55,7 +55,21 @@ pub fn reply_text(
     requires levels { depth (document (object_of object)) ≤ OBJECT_LEVELS }
     ensures { IfOk result (λ t. t.bytes ≡ reply_text_of boot number born (object_of object)) }
 {
-    object.meta.resource_version = Some(number_text(alloc, number)?);
-    object.meta.uid = Some(uid_of(alloc, boot, born)?);
+    let number = match number_text(alloc, number) {
+        Ok(number) => number,
+        Err(fault) => {
+            drop(object);
+            return Err(fault);
+        }
+    };
+    object.meta.resource_version = Some(number);
+    let uid = match uid_of(alloc, boot, born) {
+        Ok(uid) => uid,
+        Err(fault) => {
+            drop(object);
+            return Err(fault);
+        }
+    };
+    object.meta.uid = Some(uid);
     object_text(alloc, object)
 }
