@@ -14,7 +14,7 @@ use crate::fault::ReviewFault;
 use crate::fields::{filled_text_at, take_list, text_at};
 use crate::indices::{first_other, not_object};
 use crate::reviews::{not_review, take_part};
-use kj_value::{JFields, JItems, JVal, Txt};
+use kj_value::{JFields, JItems, JVal, NoMemory, Txt};
 use std::alloc::Global;
 
 /// The uid of a review, the version that is wanted, and the objects to be converted, in order.
@@ -47,17 +47,38 @@ fn take_fields(alloc: Global, fields: JFields) -> Result<Request, ReviewFault>
     ensures refused { IfErr result (OnNotReview (λ p. first_told (field_faults fields) ≡ Some p)) }
 {
     let Some(uid) = filled_text_at(&fields, "uid") else {
+        drop(fields);
         return Err(not_review(alloc, "request.uid"));
     };
-    let uid = Txt::of(alloc, uid)?;
+    let uid = match Txt::of(alloc, uid) {
+        Ok(uid) => uid,
+        Err(NoMemory) => {
+            drop(fields);
+            return Err(ReviewFault::NoMemory);
+        }
+    };
     let Some(desired) = text_at(&fields, "desiredAPIVersion") else {
+        drop(fields);
+        drop(uid);
         return Err(not_review(alloc, "request.desiredAPIVersion"));
     };
-    let desired = Txt::of(alloc, desired)?;
+    let desired = match Txt::of(alloc, desired) {
+        Ok(desired) => desired,
+        Err(NoMemory) => {
+            drop(fields);
+            drop(uid);
+            return Err(ReviewFault::NoMemory);
+        }
+    };
     let Some(objects) = take_list(fields, "objects") else {
+        drop(uid);
+        drop(desired);
         return Err(not_review(alloc, "request.objects"));
     };
     if let Some(i) = first_other(&objects) {
+        drop(uid);
+        drop(desired);
+        drop(objects);
         return Err(not_object(alloc, "request.objects", i));
     }
     Ok(Request {

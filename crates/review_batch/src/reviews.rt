@@ -56,9 +56,11 @@ pub(crate) fn take_part(alloc: Global, review: JVal, name: &str) -> Result<JFiel
         return Err(not_review(alloc, ""));
     };
     if !has_text(&fields, "apiVersion", REVIEW_VERSION) {
+        drop(fields);
         return Err(not_review(alloc, "apiVersion"));
     }
     if !has_text(&fields, "kind", REVIEW_KIND) {
+        drop(fields);
         return Err(not_review(alloc, "kind"));
     }
     let Some(part) = take_object(fields, name) else {
