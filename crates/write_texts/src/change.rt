@@ -45,12 +45,11 @@ fn seen_at(alloc: Global, key: &Key, found: Option<Seen>, over: u64) -> Result<S
     if seen.rv == over {
         return Ok(seen);
     }
+    let newer = seen.rv;
+    drop(seen);
     let name = Txt::of(alloc, key.name())?;
     Err(Refused {
-        refusal: Refusal::Conflict {
-            name,
-            newer: seen.rv,
-        },
+        refusal: Refusal::Conflict { name, newer },
     })
 }
 
@@ -68,7 +67,13 @@ fn updated<V: Versions>(
     ensures rises { V.Tool.faults tool.old ≤ V.Tool.faults tool.new }
 {
     let bytes = seen.bytes.as_str().as_bytes();
-    let old = lent.versions.hub_of(lent.alloc, tool, seen.at, bytes)?;
+    let old = match lent.versions.hub_of(lent.alloc, tool, seen.at, bytes) {
+        Ok(old) => old,
+        Err(fault) => {
+            drop(new);
+            return Err(fault);
+        }
+    };
     let update = update_of(lent.alloc, new, old)?;
     Ok(update)
 }
@@ -95,17 +100,27 @@ pub fn changing<V: Versions>(
         hub: new,
         weight,
         expected,
-        shape: _,
+        shape,
     } = admitted;
+    drop(shape);
     let Some(over) = expected else { unreachable!() };
     let seen = match seen_at(lent.alloc, key, found, over) {
         Ok(seen) => seen,
-        Err(refused) => return Err(refused),
+        Err(refused) => {
+            drop(new);
+            return Err(refused);
+        }
     };
     let update = match updated(lent, tool, &seen, new) {
         Ok(update) => update,
-        Err(fault) => return Err(Refused::from(fault)),
+        Err(fault) => {
+            drop(seen);
+            return Err(Refused::from(fault));
+        }
     };
+    let born = seen.born;
+    let at = seen.at;
+    drop(seen);
     let Update {
         hub,
         equal,
@@ -113,6 +128,7 @@ pub fn changing<V: Versions>(
         release,
     } = update;
     if forbidden {
+        drop(hub);
         return Err(no_finalizer(lent.alloc, lent.versions, key.name()));
     }
     Ok(Change {
@@ -120,8 +136,8 @@ pub fn changing<V: Versions>(
         hub,
         weight,
         over,
-        born: seen.born,
-        at: seen.at,
+        born,
+        at,
         equal,
         release,
     })

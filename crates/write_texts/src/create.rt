@@ -119,10 +119,17 @@ pub fn fresh_of<V: Versions>(
         hub,
         weight,
         expected: _,
-        shape: _,
+        shape,
     } = admitted;
+    drop(shape);
     let hub = new_value(hub, stamp);
-    let key = Key::of(lent.alloc, input.ns, hub.meta.name.as_str())?;
+    let key = match Key::of(lent.alloc, input.ns, hub.meta.name.as_str()) {
+        Ok(key) => key,
+        Err(fault) => {
+            drop(hub);
+            return Err(fault);
+        }
+    };
     Ok(Fresh {
         v: input.version,
         hub,

@@ -54,7 +54,9 @@ pub(crate) fn holding_of<V: Versions>(
         → IfOk result (λ r. HoldsAs (V.meaning lent.now.versions.now) h r.held r.marked) }
 {
     let form = read_form(lent.alloc, bytes)?;
-    Ok(told_by(&form))
+    let told = told_by(&form);
+    drop(form);
+    Ok(told)
 }
 
 /// The value of an object with a deletion stamp, ready to be stored at a version and to be shown at another, and the
@@ -84,6 +86,12 @@ pub fn prepare_mark<V: Versions>(
     // Asked for what its clause says: the weight is that of the value with its stamp.
     one_weight::<V>();
     let hub = stamped(old, stamp);
-    let (prepared, sealed) = prepare_write(lent, tool, v, storage, &hub, key, weight, None)?;
+    let (prepared, sealed) = match prepare_write(lent, tool, v, storage, &hub, key, weight, None) {
+        Ok(made) => made,
+        Err(fault) => {
+            drop(hub);
+            return Err(fault);
+        }
+    };
     Ok((prepared, sealed, hub))
 }

@@ -16,19 +16,19 @@ update_of-requires-clause-new_body g c =
 pub update_of-requires-clause-old_body : goal.update_of-requires-clause-old_body
 update_of-requires-clause-old_body g c =
     let it = c.args.lent.now.versions.now in
-    ((g.met.V.Versions.stand it).whole (object_of c.in_ok-old.old) c.in_ok-old.ensures.ok.whole).body
+    ((g.met.V.Versions.stand it).whole (object_of c.in-Ok.old) c.in-Ok.ensures.ok.whole).body
 
 pub update_of-requires-clause-old_fits : goal.update_of-requires-clause-old_fits
 update_of-requires-clause-old_fits g c =
     let it = c.args.lent.now.versions.now in
-    ((g.met.V.Versions.stand it).whole (object_of c.in_ok-old.old) c.in_ok-old.ensures.ok.whole).stamps.generation
+    ((g.met.V.Versions.stand it).whole (object_of c.in-Ok.old) c.in-Ok.ensures.ok.whole).stamps.generation
 
 pub returns-clause-updates : goal.returns-clause-updates
 returns-clause-updates g c =
     let m = g.V.Versions.meaning c.args.lent.now.versions.now in
     record {
-      old = object_of c.in_ok-old.old;
-      stored = subst (λ (bs : List ℕ). IsStored m c.args.seen.now.at (object_of c.in_ok-old.old) bs) (c.as_bytes-bytes.ensures.value ∙ c.as_str.ensures) c.in_ok-old.ensures.ok;
+      old = object_of c.in-Ok.old;
+      stored = subst (λ (bs : List ℕ). IsStored m c.args.seen.now.at (object_of c.in-Ok.old) bs) (c.as_bytes-bytes.ensures.value ∙ c.as_str.ensures) c.in-Ok.ensures.ok;
       update = c.in_ok-update.ensures.update;
       fits = c.in_ok-update.ensures.fits;
       equals = c.in_ok-update.ensures.equal;

@@ -24,8 +24,8 @@ returns-clause-value g c =
     let m = g.V.Versions.meaning it in
     let old = object_of c.args.admitted.hub in
     let weight = c.args.admitted.weight in
-    subst (λ (o : ObjectView). IsFresh m c.in_ok-key.key o weight) (sym c.new_value-hub.ensures)
-    (fresh m (g.met.V.Versions.stand it) (g.met.V.Versions.unstamped it) (g.met.V.Versions.admitted it) (request_of c.args.input.now) c.in_ok-key.key old c.args.admitted.expected weight
+    subst (λ (o : ObjectView). IsFresh m c.in-Ok.key o weight) (sym c.new_value-hub.ensures)
+    (fresh m (g.met.V.Versions.stand it) (g.met.V.Versions.unstamped it) (g.met.V.Versions.admitted it) (request_of c.args.input.now) c.in-Ok.key old c.args.admitted.expected weight
     c.args.stamp.text c.requires.stamp c.requires.admits
     (λ honest. c.one_weight.ensures.unstamped it old weight (Some c.args.stamp.text) None (pos 1) (c.requires.weighs honest)) c.requires.some
-    c.in_ok-key.ensures.ns (c.in_ok-key.ensures.name ∙ c.as_str.ensures ∙ ap (λ (o : ObjectView). o.meta.name) c.new_value-hub.ensures))
+    c.in-Ok.ensures.ns (c.in-Ok.ensures.name ∙ c.as_str.ensures ∙ ap (λ (o : ObjectView). o.meta.name) c.new_value-hub.ensures))

@@ -20,7 +20,7 @@ returns g c = λ h s.
     let m = g.V.Versions.meaning it in
     let read = c.read_form.ensures s.form (stored-text m c.args.at h c.args.bytes.now (g.met.V.Versions.stand it) s) in
     let same : object_of c.in_ok-form.form ≡ s.form = subst (λ (r : Result Object NoMemory). IfOk r (λ y. object_of y ≡ s.form)) c.in_ok-form.was read in
-    holds-as m c.args.at h c.args.bytes.now c.told_by.result.held c.told_by.result.marked s
+    holds-as m c.args.at h c.args.bytes.now c.told_by-told.result.held c.told_by-told.result.marked s
     (λ honest. g.met.V.Versions.one_to_one it (sym (g.met.V.Versions.told it) ∙ honest)) (g.met.V.Versions.unstamped it)
     (λ honest. g.met.V.Versions.finalizers it (sym (g.met.V.Versions.told it) ∙ honest))
-    (c.told_by.ensures.held ∙ ap has_finalizer same) (c.told_by.ensures.marked ∙ ap is_marked same)
+    (c.told_by-told.ensures.held ∙ ap has_finalizer same) (c.told_by-told.ensures.marked ∙ ap is_marked same)
