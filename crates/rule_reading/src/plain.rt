@@ -77,21 +77,55 @@ fn read_table_of(alloc: Global, fields: &JFields) -> Tried<Line>
         Err(spot) => return Ok(Err(spot)),
         Ok(x) => x,
     };
-    let (spoke, hub) = match names_at(alloc, fields, 1, Word::Names)? {
-        Err(spot) => return Ok(Err(spot)),
-        Ok(names) => names,
+    let (spoke, hub) = match names_at(alloc, fields, 1, Word::Names) {
+        Err(e) => {
+            drop(hub_blank);
+            return Err(e);
+        }
+        Ok(Err(spot)) => {
+            drop(hub_blank);
+            return Ok(Err(spot));
+        }
+        Ok(Ok(names)) => names,
     };
-    let pairs = match pairs_at(alloc, fields, 2, Word::Pairs)? {
-        Err(spot) => return Ok(Err(spot)),
-        Ok(pairs) => pairs,
+    let pairs = match pairs_at(alloc, fields, 2, Word::Pairs) {
+        Err(e) => {
+            drop(hub_blank);
+            return Err(e);
+        }
+        Ok(Err(spot)) => {
+            drop(hub_blank);
+            return Ok(Err(spot));
+        }
+        Ok(Ok(pairs)) => pairs,
     };
-    let spoke_blank = match scalar_at(alloc, fields, 3, Word::SpokeBlank)? {
-        Err(spot) => return Ok(Err(spot)),
-        Ok(x) => x,
+    let spoke_blank = match scalar_at(alloc, fields, 3, Word::SpokeBlank) {
+        Err(e) => {
+            drop(hub_blank);
+            drop(pairs);
+            return Err(e);
+        }
+        Ok(Err(spot)) => {
+            drop(hub_blank);
+            drop(pairs);
+            return Ok(Err(spot));
+        }
+        Ok(Ok(x)) => x,
     };
-    match beyond(alloc, fields, 4)? {
-        Some(spot) => Ok(Err(spot)),
-        None => Ok(Ok(Line::Table {
+    match beyond(alloc, fields, 4) {
+        Err(e) => {
+            drop(hub_blank);
+            drop(pairs);
+            drop(spoke_blank);
+            Err(e)
+        }
+        Ok(Some(spot)) => {
+            drop(hub_blank);
+            drop(pairs);
+            drop(spoke_blank);
+            Ok(Err(spot))
+        }
+        Ok(None) => Ok(Ok(Line::Table {
             spoke,
             hub,
             pairs,
