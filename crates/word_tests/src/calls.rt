@@ -11,9 +11,9 @@ use std::alloc::Global;
 /// The answer to a case of a section.
 pub fn answer(alloc: Global, section: &str, case: &str) -> Option<Txt> {
     match section {
-        "# refusals" => told(alloc, &plain(case)?),
-        "# refusals of a name" => of_a_name(alloc, &list(alloc, case)?),
-        "# the fixed text" => Txt::of(alloc, no_memory_text()).ok(),
+        "# refusals" => of_a_word(alloc, case),
+        "# refusals of a name" => of_a_name(alloc, case),
+        "# the fixed text" => fixed(alloc),
         "# numbers in tokens" => token(alloc, case),
         _ => other(alloc, section, case),
     }
@@ -22,11 +22,15 @@ pub fn answer(alloc: Global, section: &str, case: &str) -> Option<Txt> {
 fn other(alloc: Global, section: &str, case: &str) -> Option<Txt> {
     match section {
         "# tokens" => of_token(alloc, case),
-        "# uids" => uid(alloc, &list(alloc, case)?),
+        "# uids" => uid(alloc, case),
         "# versions in any order" => preferred(alloc, case),
-        "# two versions" => ranked(alloc, &list(alloc, case)?),
+        "# two versions" => ranked(alloc, case),
         _ => None,
     }
+}
+
+fn fixed(alloc: Global) -> Option<Txt> {
+    Txt::of(alloc, no_memory_text()).ok()
 }
 
 // The code and the text of a refusal, of `crontabs` in `example.com`.
@@ -34,6 +38,13 @@ fn told(alloc: Global, refusal: &Refusal) -> Option<Txt> {
     let code = code_of(refusal);
     let text = status_text(alloc, refusal, "crontabs", "example.com").ok()?;
     line(format!(in alloc; "{code} {}", text.as_str()))
+}
+
+fn of_a_word(alloc: Global, word: &str) -> Option<Txt> {
+    let refusal = plain(word)?;
+    let text = told(alloc, &refusal);
+    drop(refusal);
+    text
 }
 
 fn plain(word: &str) -> Option<Refusal> {
@@ -60,10 +71,18 @@ fn of_the_server(word: &str) -> Option<Refusal> {
     }
 }
 
-fn of_a_name(alloc: Global, texts: &JItems) -> Option<Txt> {
+fn of_a_name(alloc: Global, case: &str) -> Option<Txt> {
+    let texts = list(alloc, case)?;
+    let refusal = of_texts(alloc, &texts)?;
+    let text = told(alloc, &refusal);
+    drop(refusal);
+    text
+}
+
+fn of_texts(alloc: Global, texts: &JItems) -> Option<Refusal> {
     let word = text_at(texts, 0)?;
     let name = Txt::of(alloc, text_at(texts, 1)?).ok()?;
-    told(alloc, &named(alloc, word, name)?)
+    named(alloc, word, name)
 }
 
 fn named(alloc: Global, word: &str, name: Txt) -> Option<Refusal> {
@@ -72,28 +91,32 @@ fn named(alloc: Global, word: &str, name: Txt) -> Option<Refusal> {
         "AlreadyExists" => Some(Refusal::AlreadyExists { name }),
         "Conflict" => Some(Refusal::Conflict { name, newer: 2 }),
         "Invalid" => invalid(alloc, name),
-        _ => of_a_word(alloc, word, name),
+        _ => named_otherwise(alloc, word, name),
     }
 }
 
-fn of_a_word(alloc: Global, word: &str, name: Txt) -> Option<Refusal> {
+fn named_otherwise(alloc: Global, word: &str, name: Txt) -> Option<Refusal> {
     match word {
         "BadQuery" => Some(Refusal::BadRequest {
             why: Why::BadQuery { parameter: name },
         }),
         "MigrationRunning" => Some(Refusal::MigrationRunning { name }),
-        "StillStored" => match Key::of(alloc, "default", "a") {
-            Ok(key) => Some(Refusal::StillStored {
-                version: name,
-                key: Some(key),
-            }),
-            Err(_) => None,
-        },
+        "StillStored" => still_stored(alloc, name),
         "StorageVersion" => Some(Refusal::StillStored {
             version: name,
             key: None,
         }),
         _ => None,
+    }
+}
+
+fn still_stored(alloc: Global, version: Txt) -> Option<Refusal> {
+    match Key::of(alloc, "default", "a") {
+        Ok(key) => Some(Refusal::StillStored {
+            version,
+            key: Some(key),
+        }),
+        Err(_) => None,
     }
 }
 
@@ -135,7 +158,12 @@ fn of_token(alloc: Global, text: &str) -> Option<Txt> {
 }
 
 // The uid of a boot number and the number of an entry.
-fn uid(alloc: Global, texts: &JItems) -> Option<Txt> {
+fn uid(alloc: Global, case: &str) -> Option<Txt> {
+    let texts = list(alloc, case)?;
+    uid_of_texts(alloc, &texts)
+}
+
+fn uid_of_texts(alloc: Global, texts: &JItems) -> Option<Txt> {
     let boot = text_at(texts, 0)?.parse::<u64>().ok()?;
     let born = text_at(texts, 1)?.parse::<u64>().ok()?;
     if born >= BORN_END {
@@ -144,9 +172,14 @@ fn uid(alloc: Global, texts: &JItems) -> Option<Txt> {
     uid_of(alloc, boot, born).ok()
 }
 
-fn ranked(alloc: Global, texts: &JItems) -> Option<Txt> {
+fn ranked(alloc: Global, case: &str) -> Option<Txt> {
+    let texts = list(alloc, case)?;
+    Txt::of(alloc, rank(&texts)?).ok()
+}
+
+fn rank(texts: &JItems) -> Option<&'static str> {
     let order = priority(text_at(texts, 0)?, text_at(texts, 1)?);
-    Txt::of(alloc, order_word(order)).ok()
+    Some(order_word(order))
 }
 
 // Names with spaces between, sorted by priority.

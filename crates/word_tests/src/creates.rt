@@ -6,7 +6,7 @@ ghost use Rattle.api_calls.specs.Meaning.{stored_text};
 
 use crate::objects::same_as;
 use crate::words::{line, list, text_at};
-use api_calls::{AdmitFault, Incoming, NoTool, Versions};
+use api_calls::{AdmitFault, Admitted, Incoming, NoTool, Versions};
 use kj_value::{JItems, Txt, write};
 use kube_meta::{Object, namespace_ok, write_object};
 use std::alloc::Global;
@@ -15,14 +15,16 @@ use versions_fixture::TwoNames;
 /// The answer to a case of a section.
 pub fn answer(alloc: Global, section: &str, case: &str) -> Option<Txt> {
     let versions = TwoNames::new(alloc).ok()?;
-    of_two(alloc, &versions, section, case)
+    let told = of_two(alloc, &versions, section, case);
+    drop(versions);
+    told
 }
 
 fn of_two(alloc: Global, versions: &TwoNames, section: &str, case: &str) -> Option<Txt> {
     match section {
         "# requests at v1" => created(alloc, versions, &mut NoTool, 0, case.as_bytes()),
         "# requests at v1beta1" => created(alloc, versions, &mut NoTool, 1, case.as_bytes()),
-        "# requests of settings" => shown(alloc, versions, &list(alloc, case)?),
+        "# requests of settings" => shown(alloc, versions, case),
         "# requests of a version" => found(alloc, versions, case),
         _ => None,
     }
@@ -38,9 +40,23 @@ fn created<V: Versions>(
 ) -> Option<Txt>
     requires honest { IsTrue V.HONEST }
 {
-    match admitted(alloc, versions, tool, version, "default", bytes)? {
-        Ok((hub, weight)) => entered(alloc, versions, tool, &hub, weight),
-        Err(fault) => Txt::of(alloc, word(&fault)).ok(),
+    let came = admitted(alloc, versions, tool, version, "default", bytes)?;
+    let told = entered_or_word(alloc, versions, tool, &came);
+    drop(came);
+    told
+}
+
+fn entered_or_word<V: Versions>(
+    alloc: Global,
+    versions: &V,
+    tool: &mut V::Tool,
+    came: &Result<Admitted, AdmitFault>,
+) -> Option<Txt>
+    requires whole { IfOk came.now (λ a. (V.meaning versions.now).whole (object_of a.hub)) }
+{
+    match came {
+        Ok(admitted) => entered(alloc, versions, tool, &admitted.hub, admitted.weight),
+        Err(fault) => Txt::of(alloc, word(fault)).ok(),
     }
 }
 
@@ -59,9 +75,9 @@ fn admitted<'a, V: Versions>(
     version: u8,
     ns: &'a str,
     bytes: &'a [u8],
-) -> Option<Result<(Object, u64), AdmitFault>>
+) -> Option<Result<Admitted, AdmitFault>>
     requires honest { IsTrue V.HONEST }
-    ensures whole { IfSome result (λ r. IfOk r (λ a. (V.meaning versions.now).whole (object_of a.0))) }
+    ensures whole { IfSome result (λ r. IfOk r (λ a. (V.meaning versions.now).whole (object_of a.hub))) }
 {
     if version >= versions.count() || !namespace_ok(ns) {
         return None;
@@ -73,10 +89,7 @@ fn admitted<'a, V: Versions>(
         name: None,
         bytes,
     };
-    match versions.admit(alloc, tool, &input, version) {
-        Ok(admitted) => Some(Ok((admitted.hub, admitted.weight))),
-        Err(fault) => Some(Err(fault)),
-    }
+    Some(versions.admit(alloc, tool, &input, version))
 }
 
 // The weight of a hub value, and its forms at the first two versions.
@@ -165,13 +178,22 @@ fn round<V: Versions>(
 {
     let text = form_text(alloc, versions, tool, v, hub)?;
     match versions.hub_of(alloc, tool, v, text.as_str().as_bytes()) {
-        Ok(back) => same_as(text, &form_text(alloc, versions, tool, v, &back)?),
+        Ok(back) => {
+            let again = form_text(alloc, versions, tool, v, &back);
+            drop(back);
+            same_as(text, again)
+        }
         Err(_) => None,
     }
 }
 
 // The flags and the stored versions that two bodies give, as the definition's text shows them.
-fn shown<V: Versions>(alloc: Global, versions: &V, texts: &JItems) -> Option<Txt> {
+fn shown<V: Versions>(alloc: Global, versions: &V, case: &str) -> Option<Txt> {
+    let texts = list(alloc, case)?;
+    shown_so(alloc, versions, &texts)
+}
+
+fn shown_so<V: Versions>(alloc: Global, versions: &V, texts: &JItems) -> Option<Txt> {
     let flags = text_at(texts, 0)?;
     let stored = text_at(texts, 1)?;
     let flags = versions.read_flags(alloc, flags.as_bytes()).ok()?;

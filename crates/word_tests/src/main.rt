@@ -55,18 +55,37 @@ fn tell(rt: &HostRuntime, alloc: Global, part: &str, section: &str, line: &str) 
     }
 }
 
-fn main(rt: HostRuntime) -> io::Result<()> {
-    let alloc = rt.alloc();
-    let mut part = String::new(alloc);
-    let mut section = String::new(alloc);
+// What earlier lines say: of which part and of what the lines behind them are cases.
+#[derive(Drop)]
+struct Earlier {
+    part: String,
+    section: String,
+}
+
+// Takes in a title.
+fn take(earlier: &mut Earlier, line: String) {
+    if line.as_str().starts_with("= ") {
+        earlier.part = line;
+    } else if line.as_str().starts_with("# ") {
+        earlier.section = line;
+    }
+}
+
+fn tell_all(rt: &HostRuntime, alloc: Global, earlier: &mut Earlier) -> io::Result<()> {
     for line in rt.lines(alloc) {
         let line = line?;
-        tell(&rt, alloc, part.as_str(), section.as_str(), line.as_str())?;
-        if line.as_str().starts_with("= ") {
-            part = line;
-        } else if line.as_str().starts_with("# ") {
-            section = line;
-        }
+        let part = earlier.part.as_str();
+        tell(rt, alloc, part, earlier.section.as_str(), line.as_str())?;
+        take(earlier, line);
     }
     Ok(())
+}
+
+fn main(rt: HostRuntime) -> io::Result<()> {
+    let alloc = rt.alloc();
+    let mut earlier = Earlier {
+        part: String::new(alloc),
+        section: String::new(alloc),
+    };
+    tell_all(&rt, alloc, &mut earlier)
 }

@@ -13,9 +13,9 @@ use std::alloc::Global;
 /// The answer to a case of a section.
 pub fn answer(alloc: Global, section: &str, case: &str) -> Option<Txt> {
     match section {
-        "# documents that are read" => told(alloc, document(alloc, case)?),
-        "# documents without their name" => without_name(alloc, &mut submitted(alloc, case)?),
-        "# documents with a number" => numbered(alloc, &list(alloc, case)?),
+        "# documents that are read" => told(alloc, case),
+        "# documents without their name" => unnamed(alloc, case),
+        "# documents with a number" => numbered(alloc, case),
         "# documents that are measured" => measured(alloc, case),
         _ => None,
     }
@@ -26,10 +26,17 @@ fn document(alloc: Global, text: &str) -> Option<JVal> {
 }
 
 // The text of the object that a document submits, or why it is refused.
-fn told(alloc: Global, doc: JVal) -> Option<Txt> {
-    match read_object(alloc, doc, "CronTab") {
-        Ok(o) => text(alloc, &o),
-        Err(fault) => why(alloc, &fault),
+fn told(alloc: Global, case: &str) -> Option<Txt> {
+    let came = read_object(alloc, document(alloc, case)?, "CronTab");
+    let told = text_or_why(alloc, &came);
+    drop(came);
+    told
+}
+
+fn text_or_why(alloc: Global, came: &Result<Object, ObjectFault>) -> Option<Txt> {
+    match came {
+        Ok(o) => text(alloc, o),
+        Err(fault) => why(alloc, fault),
     }
 }
 
@@ -102,7 +109,11 @@ fn text_again(alloc: Global, o: &Object) -> Option<Txt>
     requires { IsWritable (object_of o.now) }
 {
     match again(alloc, o) {
-        Ok(p) => text(alloc, &p),
+        Ok(p) => {
+            let told = text(alloc, &p);
+            drop(p);
+            told
+        }
         Err(_) => None,
     }
 }
@@ -112,11 +123,12 @@ fn same_text(alloc: Global, o: &Object) -> Option<Txt>
     requires { IsWritable (object_of o.now) }
 {
     let first = text(alloc, o)?;
-    same_as(first, &text_again(alloc, o)?)
+    same_as(first, text_again(alloc, o))
 }
 
 /// The first of two texts, where they are the same.
-pub fn same_as(first: Txt, second: &Txt) -> Option<Txt> {
+pub fn same_as(first: Txt, second: Option<Txt>) -> Option<Txt> {
+    let second = second?;
     if first.as_str() == second.as_str() {
         Some(first)
     } else {
@@ -125,10 +137,20 @@ pub fn same_as(first: Txt, second: &Txt) -> Option<Txt> {
 }
 
 // The text of an object with stamps, this number and a uid, where it is also that of what is read back from it.
-fn numbered(alloc: Global, texts: &JItems) -> Option<Txt> {
-    let case = text_at(texts, 1)?;
-    let number = text_at(texts, 0)?;
-    with_number(alloc, &mut submitted(alloc, case)?, number)
+fn numbered(alloc: Global, case: &str) -> Option<Txt> {
+    let texts = list(alloc, case)?;
+    numbered_so(alloc, &texts)
+}
+
+fn numbered_so(alloc: Global, texts: &JItems) -> Option<Txt> {
+    of_number(alloc, text_at(texts, 0)?, text_at(texts, 1)?)
+}
+
+fn of_number(alloc: Global, number: &str, document: &str) -> Option<Txt> {
+    let mut o = submitted(alloc, document)?;
+    let told = with_number(alloc, &mut o, number);
+    drop(o);
+    told
 }
 
 fn with_number(alloc: Global, o: &mut Object, number: &str) -> Option<Txt>
@@ -161,6 +183,13 @@ fn measure(o: &Object) -> Option<u64> {
 }
 
 // The measure and the text of an object whose name is emptied, and whose body gets a kind.
+fn unnamed(alloc: Global, case: &str) -> Option<Txt> {
+    let mut o = submitted(alloc, case)?;
+    let told = without_name(alloc, &mut o);
+    drop(o);
+    told
+}
+
 fn without_name(alloc: Global, o: &mut Object) -> Option<Txt> {
     o.meta.name = Txt::of(alloc, "").ok()?;
     set_kind(alloc, o)?;
@@ -181,11 +210,17 @@ fn measured(alloc: Global, case: &str) -> Option<Txt> {
 }
 
 fn numbered_measure(alloc: Global, case: &str) -> Option<u64> {
-    with_a_number(alloc, &mut submitted(alloc, case)?)
+    let mut o = submitted(alloc, case)?;
+    let bytes = with_a_number(alloc, &mut o);
+    drop(o);
+    bytes
 }
 
 fn stamped_measures(alloc: Global, case: &str) -> Option<(u64, u64, usize)> {
-    with_stamps(alloc, &mut submitted(alloc, case)?)
+    let mut o = submitted(alloc, case)?;
+    let measures = with_stamps(alloc, &mut o);
+    drop(o);
+    measures
 }
 
 fn with_a_number(alloc: Global, o: &mut Object) -> Option<u64>

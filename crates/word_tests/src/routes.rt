@@ -3,7 +3,7 @@
 use crate::words::line;
 use api_calls::{Token, Why};
 use http_routes::{Call, Route, find_call};
-use kj_value::Txt;
+use kj_value::{NoMemory, Txt};
 use kube_meta::Key;
 use std::alloc::Global;
 use versions_fixture::TwoNames;
@@ -11,10 +11,10 @@ use versions_fixture::TwoNames;
 /// A case, and what its request comes to.
 pub fn answer(alloc: Global, case: &str) -> Option<Txt> {
     let versions = TwoNames::new(alloc).ok()?;
-    match told(alloc, &versions, case) {
-        Some(text) => line(format!(in alloc; "{case}: {}", text.as_str())),
-        None => None,
-    }
+    let text = told(alloc, &versions, case);
+    drop(versions);
+    let text = text?;
+    line(format!(in alloc; "{case}: {}", text.as_str()))
 }
 
 fn told(alloc: Global, versions: &TwoNames, case: &str) -> Option<String> {
@@ -29,11 +29,17 @@ fn told(alloc: Global, versions: &TwoNames, case: &str) -> Option<String> {
         target.as_bytes(),
         b"(body)",
     );
+    let text = found_line(alloc, &found);
+    drop(found);
+    text
+}
+
+fn found_line(alloc: Global, found: &Result<Route<'_>, NoMemory>) -> Option<String> {
     match found {
-        Ok(Route::Calls(call)) => call_line(alloc, &call),
+        Ok(Route::Calls(call)) => call_line(alloc, call),
         Ok(Route::NoResource) => String::from_str(alloc, "404").ok(),
         Ok(Route::MethodNotAllowed) => String::from_str(alloc, "405").ok(),
-        Ok(Route::BadRequest(why)) => why_line(alloc, &why),
+        Ok(Route::BadRequest(why)) => why_line(alloc, why),
         Err(_) => None,
     }
 }

@@ -4,7 +4,7 @@ ghost use Rattle.std.specs.Prelude.{◌≤◌, IfSome};
 ghost use Rattle.kj_value.specs.Json.{depth};
 
 use crate::words::line;
-use api_calls::{AdmitFault, Flags};
+use api_calls::{AdmitFault, Flags, StoredList};
 use crd_reading::{Definition, read_definition};
 use crd_settings::{Pieces, opening, read_flags, read_keep};
 use kj_value::{MAX_JSON_LEVELS, Txt, read};
@@ -13,11 +13,19 @@ use std::alloc::Global;
 /// The answer to a case of a section.
 pub fn answer(alloc: Global, section: &str, body: &str) -> Option<Txt> {
     let definition = definition(alloc, document())?;
+    let told = of_definition(alloc, &definition, section, body);
+    drop(definition);
+    told
+}
+
+fn of_definition(alloc: Global, definition: &Definition, section: &str, body: &str) -> Option<Txt>
+    requires { depth definition.now.spec ≤ MAX_JSON_LEVELS }
+{
     match section {
-        "# flags" => flags_told(alloc, &definition, body),
-        "# flags as loaded" => flags_text(alloc, &opening(&definition)),
-        "# stored versions" => kept_told(alloc, &definition, body),
-        _ => shown_so(alloc, &definition, section, body),
+        "# flags" => flags_told(alloc, definition, body),
+        "# flags as loaded" => flags_text(alloc, &opening(definition)),
+        "# stored versions" => kept_told(alloc, definition, body),
+        _ => shown_so(alloc, definition, section, body),
     }
 }
 
@@ -81,23 +89,39 @@ fn flags_text(alloc: Global, flags: &Flags) -> Option<Txt> {
 
 // The flags of a body, or the refusal.
 fn flags_told(alloc: Global, definition: &Definition, body: &str) -> Option<Txt> {
-    match read_flags(alloc, definition, body.as_bytes()) {
-        Ok(flags) => flags_text(alloc, &flags),
-        Err(fault) => refusal(alloc, &fault),
+    let came = read_flags(alloc, definition, body.as_bytes());
+    let told = flags_or_refusal(alloc, &came);
+    drop(came);
+    told
+}
+
+fn flags_or_refusal(alloc: Global, came: &Result<Flags, AdmitFault>) -> Option<Txt> {
+    match came {
+        Ok(flags) => flags_text(alloc, flags),
+        Err(fault) => refusal(alloc, fault),
     }
 }
 
 // How many versions are kept, and the first two places, or the refusal.
 fn kept_told(alloc: Global, definition: &Definition, body: &str) -> Option<Txt> {
-    match read_keep(alloc, definition, body.as_bytes()) {
-        Ok(kept) => {
-            let count = kept.len;
-            let first = kept.items[0];
-            let second = kept.items[1];
-            line(format!(in alloc; "{count} of {first} {second}"))
-        }
-        Err(fault) => refusal(alloc, &fault),
+    let came = read_keep(alloc, definition, body.as_bytes());
+    let told = kept_or_refusal(alloc, &came);
+    drop(came);
+    told
+}
+
+fn kept_or_refusal(alloc: Global, came: &Result<StoredList, AdmitFault>) -> Option<Txt> {
+    match came {
+        Ok(kept) => kept_text(alloc, kept),
+        Err(fault) => refusal(alloc, fault),
     }
+}
+
+fn kept_text(alloc: Global, kept: &StoredList) -> Option<Txt> {
+    let count = kept.len;
+    let first = kept.items[0];
+    let second = kept.items[1];
+    line(format!(in alloc; "{count} of {first} {second}"))
 }
 
 // The definition with these flags and the stored versions that a body keeps.

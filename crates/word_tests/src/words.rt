@@ -8,13 +8,15 @@ use std::cmp::Ordering;
 /// The answer to a case of a section.
 pub fn answer(alloc: Global, section: &str, case: &str) -> Option<Txt> {
     match section {
-        "# texts that are keys" => keys(alloc, &list(alloc, case)?),
-        "# texts that are names of places" => places(alloc, &list(alloc, case)?),
-        _ => {
-            let word = if is_one(section, case)? { "yes" } else { "no" };
-            Txt::of(alloc, word).ok()
-        }
+        "# texts that are keys" => keys(alloc, case),
+        "# texts that are names of places" => places(alloc, case),
+        _ => one(alloc, section, case),
     }
+}
+
+fn one(alloc: Global, section: &str, case: &str) -> Option<Txt> {
+    let word = if is_one(section, case)? { "yes" } else { "no" };
+    Txt::of(alloc, word).ok()
 }
 
 fn is_one(section: &str, text: &str) -> Option<bool> {
@@ -62,13 +64,18 @@ fn key_of(alloc: Global, ns: &str, name: &str) -> Option<Key> {
 }
 
 // A key, and how it stands to another: as keys, as a key and two texts, and as places.
-fn keys(alloc: Global, texts: &JItems) -> Option<Txt> {
-    let second = key_of(alloc, text_at(texts, 2)?, text_at(texts, 3)?)?;
-    beside(alloc, texts, &second)
+fn keys(alloc: Global, case: &str) -> Option<Txt> {
+    let texts = list(alloc, case)?;
+    let second = key_at(alloc, &texts, 2, 3)?;
+    beside(alloc, &texts, &second)
+}
+
+fn key_at(alloc: Global, texts: &JItems, ns: usize, name: usize) -> Option<Key> {
+    key_of(alloc, text_at(texts, ns)?, text_at(texts, name)?)
 }
 
 fn beside(alloc: Global, texts: &JItems, second: &Key) -> Option<Txt> {
-    let first = key_of(alloc, text_at(texts, 0)?, text_at(texts, 1)?)?;
+    let first = key_at(alloc, texts, 0, 1)?;
     compared(alloc, &first, second)
 }
 
@@ -106,7 +113,12 @@ fn place(name: &str) -> Option<NameSpot> {
 }
 
 // A name out of its place, and how it stands to another.
-fn places(alloc: Global, texts: &JItems) -> Option<Txt> {
+fn places(alloc: Global, case: &str) -> Option<Txt> {
+    let texts = list(alloc, case)?;
+    places_of(alloc, &texts)
+}
+
+fn places_of(alloc: Global, texts: &JItems) -> Option<Txt> {
     let first = place(text_at(texts, 0)?)?;
     let second = place(text_at(texts, 1)?)?;
     let order = order_word(first.compare(&second));
