@@ -15,6 +15,6 @@ pub(crate) fn converted(alloc: Global, versions: &VersionSet, request: &str) -> 
     let document = read(alloc, text.as_bytes(), 64).ok()?;
     match versions.convert(alloc, document, to) {
         Ok(document) => write(alloc, &document).ok(),
-        Err(fault) => refused(alloc, &fault),
+        Err(fault) => refused(alloc, fault),
     }
 }

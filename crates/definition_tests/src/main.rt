@@ -123,20 +123,39 @@ fn tell_all(
 }
 
 fn with_spokes(rt: &HostRuntime, alloc: Global, spokes: &Spokes) -> io::Result<()> {
+    match definition_cases::shared(alloc) {
+        Some(versions) => {
+            let told = with_both(rt, alloc, spokes, &versions);
+            drop(versions);
+            told
+        }
+        None => println!(rt; "the definition isn't loaded"),
+    }
+}
+
+fn with_both(
+    rt: &HostRuntime,
+    alloc: Global,
+    spokes: &Spokes,
+    versions: &VersionSet,
+) -> io::Result<()> {
     let mut earlier = Earlier {
         part: None,
         question: Question::new(alloc),
     };
-    match definition_cases::shared(alloc) {
-        Some(versions) => tell_all(rt, alloc, spokes, &versions, &mut earlier),
-        None => println!(rt; "the definition isn't loaded"),
-    }
+    let told = tell_all(rt, alloc, spokes, versions, &mut earlier);
+    drop(earlier);
+    told
 }
 
 fn main(rt: HostRuntime) -> io::Result<()> {
     let alloc = rt.alloc();
     match spoke_versions::shared_versions(alloc) {
-        Some(spokes) => with_spokes(&rt, alloc, &spokes),
+        Some(spokes) => {
+            let told = with_spokes(&rt, alloc, &spokes);
+            drop(spokes);
+            told
+        }
         None => println!(rt; "the definition isn't read"),
     }
 }

@@ -45,8 +45,12 @@ fn admit<V: Versions>(
         bytes: body.as_bytes(),
     };
     match versions.admit(alloc, tool, &input, version) {
-        Ok(admitted) => told(alloc, is_weighed, &admitted),
-        Err(fault) => refused(alloc, &fault),
+        Ok(admitted) => {
+            let told = told(alloc, is_weighed, &admitted);
+            drop(admitted);
+            told
+        }
+        Err(fault) => refused(alloc, fault),
     }
 }
 

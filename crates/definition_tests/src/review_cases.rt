@@ -60,17 +60,22 @@ fn sent_text(made: &[MemExchange]) -> Option<&str> {
 }
 
 fn exchanged(alloc: Global, question: &Question, answers: Vec<Vec<u8>>) -> Option<String> {
+    let mut link = MemLink::new(alloc, answers, Vec::new(alloc));
+    let told = exchanged_over(alloc, question, &mut link);
+    drop(link);
+    told
+}
+
+fn exchanged_over(alloc: Global, question: &Question, link: &mut MemLink) -> Option<String> {
     let uid = question.uid.as_str();
     if uid.is_empty() {
         return None;
     }
-    let mut link = MemLink::new(alloc, answers, Vec::new(alloc));
     let none = JItems::new(alloc);
-    let came = ask(alloc, &mut link, uid, question.desired.as_str(), &none);
-    let mut all = String::from_str(alloc, sent_text(link.made())?).ok()?;
-    all.push_str("\n").ok()?;
-    all.push_str(asked(alloc, came)?.as_str()).ok()?;
-    Some(all)
+    let came = ask(alloc, link, uid, question.desired.as_str(), &none);
+    let answer = asked(alloc, came)?;
+    let sent = sent_text(link.made())?;
+    format!(in alloc; "{sent}\n{}", answer.as_str()).ok()
 }
 
 fn set_text(alloc: Global, into: &mut String, text: &str) -> Option<String> {

@@ -11,6 +11,12 @@ fn line_of(alloc: Global, text: &str) -> Option<String> {
 }
 
 pub(crate) fn answered(alloc: Global, answer: Result<Txt, ReviewFault>) -> Option<String> {
+    let told = text_or_fault(alloc, &answer);
+    drop(answer);
+    told
+}
+
+fn text_or_fault(alloc: Global, answer: &Result<Txt, ReviewFault>) -> Option<String> {
     match answer {
         Ok(text) => line_of(alloc, text.as_str()),
         Err(ReviewFault::NotReview { path }) => {
@@ -21,7 +27,13 @@ pub(crate) fn answered(alloc: Global, answer: Result<Txt, ReviewFault>) -> Optio
     }
 }
 
-fn refused(alloc: Global, fault: &ResponseFault) -> Option<String> {
+fn refused(alloc: Global, fault: ResponseFault) -> Option<String> {
+    let told = refusal(alloc, &fault);
+    drop(fault);
+    told
+}
+
+fn refusal(alloc: Global, fault: &ResponseFault) -> Option<String> {
     match fault {
         ResponseFault::NotReview { path } => {
             let path = path.as_str();
@@ -61,7 +73,7 @@ fn listed(alloc: Global, items: JItems) -> Option<String> {
 pub(crate) fn taken(alloc: Global, taken: Result<JItems, ResponseFault>) -> Option<String> {
     match taken {
         Ok(items) => listed(alloc, items),
-        Err(fault) => refused(alloc, &fault),
+        Err(fault) => refused(alloc, fault),
     }
 }
 
@@ -69,7 +81,7 @@ pub(crate) fn asked(alloc: Global, came: Result<JItems, AskFault>) -> Option<Str
     match came {
         Ok(items) => listed(alloc, items),
         Err(AskFault::LinkFault) => line_of(alloc, "LinkFault"),
-        Err(AskFault::Response(fault)) => refused(alloc, &fault),
+        Err(AskFault::Response(fault)) => refused(alloc, fault),
         Err(AskFault::NoMemory) => line_of(alloc, "NoMemory"),
     }
 }

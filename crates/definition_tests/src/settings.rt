@@ -56,11 +56,11 @@ pub(crate) fn shown<V: Versions>(alloc: Global, versions: &V, bodies: &str) -> O
     let (kept, flags) = cut(bodies, ' ')?;
     let flags = match versions.read_flags(alloc, flags.as_bytes()) {
         Ok(flags) => flags,
-        Err(fault) => return refused(alloc, &fault),
+        Err(fault) => return refused(alloc, fault),
     };
     let stored = match versions.read_keep(alloc, kept.as_bytes()) {
         Ok(stored) => stored,
-        Err(fault) => return refused(alloc, &fault),
+        Err(fault) => return refused(alloc, fault),
     };
     let mut out = Txt::with_room(alloc, versions.show_room()).ok()?;
     versions.show(&flags, &stored, &mut out);

@@ -76,7 +76,9 @@ fn back(alloc: Global, all: &Spokes, text: &str) -> Option<Txt> {
         return None;
     }
     let h = whole(alloc, all, text)?;
-    match from_hub(alloc, all, 0, &h) {
+    let came = from_hub(alloc, all, 0, &h);
+    drop(h);
+    match came {
         Ok(x) => written(alloc, x),
         Err(_) => None,
     }

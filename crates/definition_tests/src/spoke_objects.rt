@@ -20,6 +20,7 @@ use object_reading::read_object;
 use prune_default::fill;
 use spoke_keep::{Spoke, Spokes};
 use std::alloc::Global;
+use std::mem;
 use struct_schema::{Schema, is_filled, is_valid};
 
 /// The object of this kind that the text is at place `v`, or with no place at the hub, once it is pruned and
@@ -91,13 +92,15 @@ fn filled_at_hub(alloc: Global, s: &Spoke, x: Object) -> Option<Object>
 fn submitted(alloc: Global, group: &Txt, version: &Txt, kind: &str, text: &str) -> Option<Object>
     ensures { IfSome result (λ x. x.api_version.bytes ≡ api_version group.now.bytes version.now.bytes) }
 {
+    let wanted = version_text(alloc, group, version)?;
     let doc = read(alloc, text.as_bytes(), kj_value::MAX_JSON_LEVELS).ok()?;
     let x = read_object(alloc, doc, kind).ok()?;
-    let wanted = version_text(alloc, group, version)?;
-    if x.api_version.as_str() != wanted.as_str() {
-        return None;
+    if x.api_version.as_str() == wanted.as_str() {
+        Some(x)
+    } else {
+        drop(x);
+        None
     }
-    Some(x)
 }
 
 // GROUP/VERSION
@@ -111,23 +114,25 @@ fn version_text(alloc: Global, group: &Txt, version: &Txt) -> Option<Txt>
 }
 
 // The object with its body pruned and filled, where it is then a body to which so many names of objects lead.
-fn filled(alloc: Global, s: &Schema, names: u32, x: Object) -> Option<Object>
+fn filled(alloc: Global, s: &Schema, names: u32, mut x: Object) -> Option<Object>
     ensures body { IfSome result (λ y. IsBody names (shape_of s.now) y.body) }
     ensures version { IfSome result (λ y. y.api_version ≡ x.api_version) }
 {
-    let Object {
-        api_version,
-        kind,
-        meta,
-        body,
-    } = x;
-    let body = body_of(alloc, s, names, body)?;
-    Some(Object {
-        api_version,
-        kind,
-        meta,
-        body,
-    })
+    match fill_body(alloc, s, names, &mut x.body) {
+        Some(()) => Some(x),
+        None => {
+            drop(x);
+            None
+        }
+    }
+}
+
+fn fill_body(alloc: Global, s: &Schema, names: u32, body: &mut JFields) -> Option<()>
+    ensures { IfSome result (λ _. IsBody names (shape_of s.now) body.new) }
+{
+    let fields = mem::replace(body, JFields::new(alloc));
+    *body = body_of(alloc, s, names, fields)?;
+    Some(())
 }
 
 fn body_of(alloc: Global, s: &Schema, names: u32, fields: JFields) -> Option<JFields>

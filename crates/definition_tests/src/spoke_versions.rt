@@ -23,7 +23,9 @@ pub(crate) fn shared_versions(alloc: Global) -> Option<Spokes> {
 
 fn of_document(alloc: Global, doc: &JVal) -> Option<Spokes> {
     let set = rule_set(alloc)?;
-    of_rules(alloc, doc, &set)
+    let all = of_rules(alloc, doc, &set);
+    drop(set);
+    all
 }
 
 fn rule_set(alloc: Global) -> Option<RuleSet> {
@@ -33,8 +35,13 @@ fn rule_set(alloc: Global) -> Option<RuleSet> {
 
 fn of_rules(alloc: Global, doc: &JVal, set: &RuleSet) -> Option<Spokes> {
     let mut all = no_spokes(alloc, set.hub.as_str())?;
-    fill(alloc, &mut all, doc, set)?;
-    Some(all)
+    match fill(alloc, &mut all, doc, set) {
+        Some(()) => Some(all),
+        None => {
+            drop(all);
+            None
+        }
+    }
 }
 
 // The definition of a hub alone.
@@ -52,11 +59,9 @@ fn no_spokes(alloc: Global, hub: &str) -> Option<Spokes>
 fn fill(alloc: Global, all: &mut Spokes, doc: &JVal, set: &RuleSet) -> Option<()>
     requires { all.old.items ≡ [] }
 {
+    let name = Txt::of(alloc, "v1beta1").ok()?;
     let fitted = of_schemas(alloc, doc, set.spokes.get("v1beta1")?)?;
-    match Txt::of(alloc, "v1beta1") {
-        Ok(name) => add(alloc, all, name, fitted),
-        Err(_) => None,
-    }
+    add(alloc, all, name, fitted)
 }
 
 // The schema of a version of the definition, counted from 0.
@@ -96,7 +101,9 @@ fn of_schemas(alloc: Global, doc: &JVal, rules: &Rules) -> Option<Fitted>
     ensures room { IfSome result (λ f. HasRoom f) }
 {
     let hub = schema(alloc, doc, 0)?;
-    of_spoke(alloc, doc, rules, &hub)
+    let fitted = of_spoke(alloc, doc, rules, &hub);
+    drop(hub);
+    fitted
 }
 
 fn of_spoke(alloc: Global, doc: &JVal, rules: &Rules, hub: &Schema) -> Option<Fitted>
@@ -104,7 +111,9 @@ fn of_spoke(alloc: Global, doc: &JVal, rules: &Rules, hub: &Schema) -> Option<Fi
     ensures room { IfSome result (λ f. HasRoom f) }
 {
     let spoke = schema(alloc, doc, 1)?;
-    fitted(alloc, rules, &spoke, hub)
+    let fitted = fitted(alloc, rules, &spoke, hub);
+    drop(spoke);
+    fitted
 }
 
 fn fitted(alloc: Global, rules: &Rules, spoke: &Schema, hub: &Schema) -> Option<Fitted>
@@ -126,6 +135,7 @@ fn add(alloc: Global, all: &mut Spokes, name: Txt, fitted: Fitted) -> Option<()>
     requires room { HasRoom fitted }
 {
     if name.as_str() == all.hub().as_str() {
+        drop(fitted);
         return None;
     }
     match Spoke::new(alloc, name, fitted) {

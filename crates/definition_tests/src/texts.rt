@@ -53,7 +53,13 @@ pub(crate) fn line(made: Result<String, AllocError>) -> Option<Txt> {
 }
 
 /// The word of a bad request, or of an invalid one its name in quotes, the field and the rule.
-pub(crate) fn refused(alloc: Global, fault: &AdmitFault) -> Option<Txt> {
+pub(crate) fn refused(alloc: Global, fault: AdmitFault) -> Option<Txt> {
+    let text = refusal(alloc, &fault);
+    drop(fault);
+    text
+}
+
+fn refusal(alloc: Global, fault: &AdmitFault) -> Option<Txt> {
     match fault {
         AdmitFault::BadRequest(why) => Txt::of(alloc, why.word()).ok(),
         AdmitFault::Invalid { name, cause } => {
