@@ -10,6 +10,11 @@ pub fn told<T: Debug>(alloc: Global, end: &T) -> Option<String> {
     format!(in alloc; "{end:?}").ok()
 }
 
+/// What came prints itself, if it came.
+pub fn told_of<T: Debug + Drop>(alloc: Global, end: Option<T>) -> Option<String> {
+    told(alloc, &end?)
+}
+
 /// A word, and the versions of a list by their places.
 pub fn listed(alloc: Global, word: &str, stored: &StoredList) -> Option<String> {
     let mut text = String::from_str(alloc, word).ok()?;
@@ -27,17 +32,17 @@ fn done(alloc: Global, rv: u64, stored: &StoredList) -> Option<String> {
     listed(alloc, word.as_str(), stored)
 }
 
-/// How a change of the flags ended.
-pub fn set_text(alloc: Global, end: SetEnd) -> Option<String> {
-    match end {
+/// How a change of the flags ended, if it was made.
+pub fn set_text(alloc: Global, end: Option<SetEnd>) -> Option<String> {
+    match end? {
         SetEnd::Done { rv, stored } => done(alloc, rv, &stored),
         SetEnd::Unchanged { stored } => listed(alloc, "Unchanged", &stored),
     }
 }
 
-/// How a trim ended.
-pub fn trim_text(alloc: Global, end: TrimEnd) -> Option<String> {
-    match end {
+/// How a trim ended, if it was made.
+pub fn trim_text(alloc: Global, end: Option<TrimEnd>) -> Option<String> {
+    match end? {
         TrimEnd::Done {
             rv,
             flags: _,
@@ -53,9 +58,9 @@ pub fn trim_text(alloc: Global, end: TrimEnd) -> Option<String> {
     }
 }
 
-/// How the start of a migration ended.
-pub fn start_text(alloc: Global, end: StartEnd) -> Option<String> {
-    match end {
+/// How the start of a migration ended, if it was made.
+pub fn start_text(alloc: Global, end: Option<StartEnd>) -> Option<String> {
+    match end? {
         StartEnd::Done { target } => format!(in alloc; "Done @{target}").ok(),
         StartEnd::AlreadyExists => String::from_str(alloc, "AlreadyExists").ok(),
         StartEnd::Running { name } => {
@@ -66,9 +71,9 @@ pub fn start_text(alloc: Global, end: StartEnd) -> Option<String> {
     }
 }
 
-/// How a worker's turn ended.
-pub fn turn_text(alloc: Global, end: TurnEnd) -> Option<String> {
-    match end {
+/// How a worker's turn ended, if it was made.
+pub fn turn_text(alloc: Global, end: Option<TurnEnd>) -> Option<String> {
+    match end? {
         TurnEnd::Idle => String::from_str(alloc, "Idle").ok(),
         TurnEnd::Claimed => String::from_str(alloc, "Claimed").ok(),
         TurnEnd::Prepare { key, rv } => {

@@ -19,7 +19,9 @@ pub fn scripted(alloc: Global, head: &str, lines: &str) -> Option<String> {
 
 fn opened(alloc: Global, table: &Table, room: u64, lines: &str) -> Option<String> {
     let mut m = Migrations::open(alloc, room).ok()?;
-    run(alloc, &mut m, table, lines)
+    let told = run(alloc, &mut m, table, lines);
+    drop(m);
+    told
 }
 
 fn run(alloc: Global, m: &mut Migrations, table: &Table, lines: &str) -> Option<String> {
@@ -68,7 +70,8 @@ fn start(alloc: Global, m: &mut Migrations, name: &str) -> Option<String> {
     if !name_ok(name) {
         return None;
     }
-    start_text(alloc, m.start(Txt::of(alloc, name).ok()?, 1))
+    let name = Txt::of(alloc, name).ok()?;
+    start_text(alloc, Some(m.start(name, 1)))
 }
 
 fn found(alloc: Global, m: &Migrations, name: &str) -> Option<String> {

@@ -269,7 +269,9 @@ fn ended_well<V: Versions>(alloc: Global, core: &Core<V>) -> bool {
 /// That two thousand turns held what holds after each; and that they weren't all refused, and migrations ended in both ways.
 pub fn random_turns(alloc: Global) -> Option<String> {
     let mut core = opened(alloc, TwoNames::new(alloc).ok()?, TIGHT)?;
-    if two_thousand(alloc, &mut core) && ended_well(alloc, &core) {
+    let held = two_thousand(alloc, &mut core) && ended_well(alloc, &core);
+    drop(core);
+    if held {
         String::from_str(alloc, "all held\n").ok()
     } else {
         None

@@ -1,5 +1,5 @@
 //! Scripts over a core: each line is an order, and is told with its answer.
-use crate::answers::{set_text, start_text, told, trim_text, turn_text};
+use crate::answers::{set_text, start_text, told, told_of, trim_text, turn_text};
 use crate::looks::looked;
 use crate::order::{Order, bare, order_of};
 use crate::random::name_of;
@@ -54,11 +54,11 @@ pub fn answered<V: Versions>(
     order: &Order<'_>,
 ) -> Option<String> {
     match order.word {
-        "create" => told(alloc, &create(alloc, core, order)?),
-        "replace" => told(alloc, &replace(alloc, core, order)?),
-        "delete" => told(alloc, &delete(alloc, core, order)?),
-        "mark" => told(alloc, &mark(alloc, core, order)?),
-        "release" => told(alloc, &release(alloc, core, order)?),
+        "create" => told_of(alloc, create(alloc, core, order)),
+        "replace" => told_of(alloc, replace(alloc, core, order)),
+        "delete" => told_of(alloc, delete(alloc, core, order)),
+        "mark" => told_of(alloc, mark(alloc, core, order)),
+        "release" => told_of(alloc, release(alloc, core, order)),
         _ => changed(alloc, core, team, order),
     }
 }
@@ -71,9 +71,9 @@ fn changed<V: Versions>(
     order: &Order<'_>,
 ) -> Option<String> {
     match order.word {
-        "store" => set_text(alloc, store(core, order.at)?),
-        "keep" => trim_text(alloc, keep(core, order.at)?),
-        "start" => start_text(alloc, start(alloc, core, order.name)?),
+        "store" => set_text(alloc, store(core, order.at)),
+        "keep" => trim_text(alloc, keep(core, order.at)),
+        "start" => start_text(alloc, start(alloc, core, order.name)),
         "create_forty" => create_forty(alloc, core),
         "edit_often" => edit_often(alloc, core),
         _ => match order.name {
@@ -91,10 +91,10 @@ fn worked<V: Versions>(
     order: &Order<'_>,
 ) -> Option<String> {
     match order.word {
-        "work" => turn_text(alloc, work(alloc, core, w, order.at)?),
-        "ask" => turn_text(alloc, ask(core, w)?),
-        "miss_gone" => turn_text(alloc, miss_gone(alloc, core, w, order)?),
-        "miss_written" => turn_text(alloc, miss_written(alloc, core, w, order)?),
+        "work" => turn_text(alloc, work(alloc, core, w, order.at)),
+        "ask" => turn_text(alloc, ask(core, w)),
+        "miss_gone" => turn_text(alloc, miss_gone(alloc, core, w, order)),
+        "miss_written" => turn_text(alloc, miss_written(alloc, core, w, order)),
         "give_back" => told(alloc, &give_back(core, w)),
         "claim" => told(alloc, &w.claim),
         "finish" => finish(alloc, core, w, order.number),
@@ -188,14 +188,20 @@ pub fn run<V: Versions>(alloc: Global, core: &mut Core<V>, lines: &str) -> Optio
     Some(out)
 }
 
+// What the lines answer, over a core of this room.
+fn over(alloc: Global, limits: Limits, lines: &str) -> Option<String> {
+    let mut core = opened(alloc, TwoNames::new(alloc).ok()?, limits)?;
+    let told = run(alloc, &mut core, lines);
+    drop(core);
+    told
+}
+
 /// What a script over such a core answers.
 pub fn roomy(alloc: Global, lines: &str) -> Option<String> {
-    let mut core = opened(alloc, TwoNames::new(alloc).ok()?, ROOM)?;
-    run(alloc, &mut core, lines)
+    over(alloc, ROOM, lines)
 }
 
 /// What a script over a core of two objects in three chunks answers.
 pub fn small(alloc: Global, lines: &str) -> Option<String> {
-    let mut core = opened(alloc, TwoNames::new(alloc).ok()?, SMALL)?;
-    run(alloc, &mut core, lines)
+    over(alloc, SMALL, lines)
 }

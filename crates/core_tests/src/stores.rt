@@ -26,21 +26,29 @@ fn opened(alloc: Global, chunks: u64, window_chunks: u64) -> Option<Store>
 /// What a script over a store answers. Its n-th line may write at the number n.
 pub fn told(alloc: Global, head: &str, lines: &str) -> Option<String> {
     if head.starts_with("# store of 3 chunks and 3: ") {
-        return run(alloc, opened(alloc, 3, 3)?, lines);
+        return over(alloc, opened(alloc, 3, 3)?, lines);
     }
     if head.starts_with("# store of 2 chunks and 1: ") {
-        return run(alloc, opened(alloc, 2, 1)?, lines);
+        return over(alloc, opened(alloc, 2, 1)?, lines);
     }
     if head.starts_with("# store of 4 chunks and 2: ") {
-        return run(alloc, opened(alloc, 4, 2)?, lines);
+        return over(alloc, opened(alloc, 4, 2)?, lines);
     }
-    rounds(alloc, opened(alloc, 4, 2)?)
+    written_over(alloc, opened(alloc, 4, 2)?)
 }
 
-fn run(alloc: Global, store: Store, lines: &str) -> Option<String>
+fn over(alloc: Global, store: Store, lines: &str) -> Option<String>
     requires { store.last ≡ 0 }
 {
     let mut store = store;
+    let told = run(alloc, &mut store, lines);
+    drop(store);
+    told
+}
+
+fn run(alloc: Global, store: &mut Store, lines: &str) -> Option<String>
+    requires { store.old.last ≡ 0 }
+{
     let mut out = String::new(alloc);
     let mut now = 0u32;
     for line in lines.lines() {
@@ -48,7 +56,7 @@ fn run(alloc: Global, store: Store, lines: &str) -> Option<String>
             return None;
         }
         now += 1;
-        let told = step(alloc, &mut store, now as u64, line)?;
+        let told = step(alloc, store, now as u64, line)?;
         out.push_str(told.as_str()).ok()?;
     }
     Some(out)
@@ -191,14 +199,22 @@ fn removed(alloc: Global, store: &mut Store, now: u64, name: &str) -> Option<Str
 }
 
 // A thousand times a record is created, written over and removed.
-fn rounds(alloc: Global, store: Store) -> Option<String>
+fn written_over(alloc: Global, store: Store) -> Option<String>
     requires { store.last ≡ 0 }
 {
     let mut store = store;
+    let told = rounds(alloc, &mut store);
+    drop(store);
+    told
+}
+
+fn rounds(alloc: Global, store: &mut Store) -> Option<String>
+    requires { store.old.last ≡ 0 }
+{
     for step in 0..1_000u64 {
-        round(alloc, &mut store, 3 * step)?;
+        round(alloc, store, 3 * step)?;
     }
-    counts(alloc, &store)
+    counts(alloc, store)
 }
 
 fn round(alloc: Global, store: &mut Store, now: u64) -> Option<()>

@@ -76,8 +76,8 @@ pub fn create<V: Versions>(
     core: &mut Core<V>,
     order: &Order<'_>,
 ) -> Option<CreateEnd> {
-    let new = value(alloc, order)?;
     young(core)?;
+    let new = value(alloc, order)?;
     Some(core.commit_create(order.asked, new))
 }
 
@@ -87,8 +87,8 @@ pub fn replace<V: Versions>(
     core: &mut Core<V>,
     order: &Order<'_>,
 ) -> Option<ReplaceEnd> {
-    let new = value(alloc, order)?;
     young(core)?;
+    let new = value(alloc, order)?;
     Some(core.commit_replace(order.asked, order.number, new))
 }
 
@@ -98,8 +98,8 @@ pub fn delete<V: Versions>(
     core: &mut Core<V>,
     order: &Order<'_>,
 ) -> Option<DeleteEnd> {
-    let key = key_of(alloc, order.name)?;
     young(core)?;
+    let key = key_of(alloc, order.name)?;
     Some(core.commit_delete(order.asked, &key, order.number, None))
 }
 
@@ -174,8 +174,8 @@ pub fn release<V: Versions>(
     core: &mut Core<V>,
     order: &Order<'_>,
 ) -> Option<ReleaseEnd> {
-    let key = key_of(alloc, order.name)?;
     young(core)?;
+    let key = key_of(alloc, order.name)?;
     Some(core.commit_release(order.asked, &key, order.number))
 }
 

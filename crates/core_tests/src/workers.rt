@@ -59,8 +59,9 @@ fn moved_under<V: Versions>(alloc: Global, core: &Core<V>, key: &Key, at: u8) ->
     ensures key { IfSome result (λ p. p.key ≡ key.now) }
     ensures weight { IfSome result (λ p. Some p.weight ≡ option_map (λ x. x.weight) (find item_key key.now core.now.view.store.items)) }
 {
+    let own = again(key)?;
     match standing(alloc, core, key) {
-        Some(seen) => moved(again(key)?, at, seen),
+        Some(seen) => moved(own, at, seen),
         None => None,
     }
 }
@@ -132,6 +133,7 @@ pub fn miss_gone<V: Versions>(
     if is_gone(alloc, core, &old.key) {
         Some(core.migration_turn(w, Some((order.number, old))))
     } else {
+        drop(old);
         None
     }
 }
@@ -161,13 +163,20 @@ pub fn miss_written<V: Versions>(
     let old = value(alloc, order)?;
     match standing(alloc, core, &old.key) {
         Some(seen) => {
-            if seen.rv == rv || seen.at != target {
+            let stands = seen.rv;
+            let at = seen.at;
+            drop(seen);
+            if stands == rv || at != target {
+                drop(old);
                 None
             } else {
                 Some(core.migration_turn(w, Some((rv, old))))
             }
         }
-        None => None,
+        None => {
+            drop(old);
+            None
+        }
     }
 }
 
