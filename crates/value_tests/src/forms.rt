@@ -55,8 +55,14 @@ fn step(alloc: Global, cache: &mut FormCache, word: &str, out: &mut String) -> O
 /// What is found in a cache of two forms.
 pub(crate) fn of_two(alloc: Global, text: &str, out: &mut String) -> Option<()> {
     let mut cache = sent(FormCache::open(alloc, 2).ok()?);
+    let told = all_steps(alloc, &mut cache, text, out);
+    drop(cache);
+    told
+}
+
+fn all_steps(alloc: Global, cache: &mut FormCache, text: &str, out: &mut String) -> Option<()> {
     for word in text.split(' ') {
-        step(alloc, &mut cache, word, out)?;
+        step(alloc, cache, word, out)?;
     }
     Some(())
 }

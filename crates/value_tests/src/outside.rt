@@ -1,9 +1,11 @@
 //! Clocks, files, connections and links: each once where it works and once where it fails.
+ghost use Rattle.std.specs.Prelude.{◌≡◌};
+
 use crate::streams::{one_read, one_write};
 use crate::told::{add, add_bytes, add_is, add_number};
 use edge_io::{
     Clock, DiskFiles, Ears, Files, FixedClock, Link, MOST_FILE_BYTES, MemConnection, MemEars,
-    MemFile, MemFiles, MemLink, MemSink, MemSource, RealClock, SureFiles, stamp_of,
+    MemFile, MemFiles, MemLink, MemSink, MemSource, RealClock, Sink, Source, SureFiles, stamp_of,
 };
 use kj_value::Txt;
 use std::alloc::Global;
@@ -98,7 +100,10 @@ fn opened(alloc: Global) -> Option<MemFiles> {
 
 /// A look at each path of files in memory.
 pub(crate) fn files(alloc: Global, text: &str, out: &mut String) -> Option<()> {
-    looked_at(alloc, &mut opened(alloc)?, text, out)
+    let mut files = opened(alloc)?;
+    let told = looked_at(alloc, &mut files, text, out);
+    drop(files);
+    told
 }
 
 fn looked_at(alloc: Global, files: &mut MemFiles, text: &str, out: &mut String) -> Option<()> {
@@ -128,8 +133,8 @@ pub(crate) fn disk<R: rt::Files>(alloc: Global, system: &R, path: &str) -> Optio
 
 // A connection with this input.
 fn connection(alloc: Global, text: &str) -> Option<MemConnection> {
-    let sink = MemSink::new(alloc, 8, Vec::new(alloc)).ok()?;
     let bytes = text.as_bytes().to_vec(alloc).ok()?;
+    let sink = MemSink::new(alloc, 8, Vec::new(alloc)).ok()?;
     let source = MemSource::new(bytes, 8, Vec::new(alloc));
     MemConnection::new(alloc, source, sink).ok()
 }
@@ -146,12 +151,24 @@ fn one_connection(alloc: Global, ears: &mut MemEars, out: &mut String) -> Option
     let Ok((mut input, mut output)) = ears.next() else {
         return None;
     };
-    one_read(&mut input, out)?;
-    one_write(alloc, &mut output, b"xyz", out)?;
+    let is_told = one_exchange_of(alloc, &mut input, &mut output, out).is_some();
     let ended = MemEars::shut(input, output);
-    add_bytes(out, ended.written())?;
+    let is_added = add_bytes(out, ended.written()).is_some();
     ears.back(ended);
-    Some(())
+    if is_told && is_added { Some(()) } else { None }
+}
+
+fn one_exchange_of<S: Source, K: Sink>(
+    alloc: Global,
+    source: &mut S,
+    sink: &mut K,
+    out: &mut String,
+) -> Option<()>
+    ensures origin { S.origin source.new ≡ S.origin source.old }
+    ensures number { K.number sink.new ≡ K.number sink.old }
+{
+    one_read(source, out)?;
+    one_write(alloc, sink, b"xyz", out)
 }
 
 fn one_failure(ears: &mut MemEars, out: &mut String) -> Option<()> {
@@ -168,7 +185,10 @@ fn hear(alloc: Global, ears: &mut MemEars, out: &mut String) -> Option<()> {
 
 /// A connection with this input, where the second call fails.
 pub(crate) fn ears(alloc: Global, text: &str, out: &mut String) -> Option<()> {
-    heard(alloc, &mut ears_of(alloc, text)?, out)
+    let mut ears = ears_of(alloc, text)?;
+    let told = heard(alloc, &mut ears, out);
+    drop(ears);
+    told
 }
 
 fn heard(alloc: Global, ears: &mut MemEars, out: &mut String) -> Option<()> {
@@ -209,7 +229,10 @@ fn add_exchanges(link: &MemLink, out: &mut String) -> Option<()> {
 
 /// Four exchanges, and what they were.
 pub(crate) fn link(alloc: Global, out: &mut String) -> Option<()> {
-    exchanged(alloc, &mut link_of(alloc)?, out)
+    let mut link = link_of(alloc)?;
+    let told = exchanged(alloc, &mut link, out);
+    drop(link);
+    told
 }
 
 fn exchanged(alloc: Global, link: &mut MemLink, out: &mut String) -> Option<()> {

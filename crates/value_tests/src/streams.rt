@@ -131,7 +131,9 @@ fn std_writers(alloc: Global, text: &str, out: &mut String) -> Option<()> {
 fn source(alloc: Global, text: &str, out: &mut String) -> Option<()> {
     let failing = vec![in alloc; 1u64].ok()?;
     let mut source = MemSource::new(text.as_bytes().to_vec(alloc).ok()?, 3, failing);
-    read_all(alloc, &mut source, out)
+    let told = read_all(alloc, &mut source, out);
+    drop(source);
+    told
 }
 
 fn read_all(alloc: Global, source: &mut MemSource, out: &mut String) -> Option<()> {
@@ -154,7 +156,9 @@ fn sure_source(alloc: Global, text: &str, out: &mut String) -> Option<()> {
 // A write of each word to a sink of three bytes whose first write fails, and a flush.
 fn sink(alloc: Global, text: &str, out: &mut String) -> Option<()> {
     let mut sink = MemSink::new(alloc, 3, vec![in alloc; 0u64].ok()?).ok()?;
-    write_all(alloc, &mut sink, text, out)
+    let told = write_all(alloc, &mut sink, text, out);
+    drop(sink);
+    told
 }
 
 fn write_all(alloc: Global, sink: &mut MemSink, text: &str, out: &mut String) -> Option<()> {

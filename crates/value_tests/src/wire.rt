@@ -113,12 +113,10 @@ fn read_at(
     }
     let bytes = bytes.to_vec(alloc).ok()?;
     let failing = vec![in alloc; failing].ok()?;
-    read_of(
-        alloc,
-        is_request,
-        &mut MemSource::new(bytes, piece, failing),
-        out,
-    )
+    let mut source = MemSource::new(bytes, piece, failing);
+    let told = read_of(alloc, is_request, &mut source, out);
+    drop(source);
+    told
 }
 
 fn read_of<S: Source>(
@@ -128,11 +126,13 @@ fn read_of<S: Source>(
     out: &mut String,
 ) -> Option<()> {
     let mut inbox = Inbox::open(alloc).ok()?;
-    if is_request {
+    let told = if is_request {
         add_requests(alloc, &mut inbox, source, out)
     } else {
         add_response(alloc, &mut inbox, source, out)
-    }
+    };
+    drop(inbox);
+    told
 }
 
 // At most three requests, until there is none.
@@ -279,7 +279,9 @@ fn to_memory(alloc: Global, text: &str, out: &mut String) -> Option<()> {
     let room = room.parse::<usize>().ok()?;
     let body = bytes_of(alloc, body)?;
     let mut sink = MemSink::new(alloc, room, Vec::new(alloc)).ok()?;
-    add_written(alloc, &mut sink, head, &body, out)
+    let told = add_written(alloc, &mut sink, head, &body, out);
+    drop(sink);
+    told
 }
 
 fn add_written(
@@ -308,7 +310,9 @@ fn failing(alloc: Global, text: &str, out: &mut String) -> Option<()> {
 fn whole(alloc: Global, head: &str, body: &[u8]) -> Option<Vec<u8>> {
     let mut sink = MemSink::new(alloc, 200, Vec::new(alloc)).ok()?;
     write(&mut sink, head, body);
-    sink.bytes().to_vec(alloc).ok()
+    let all = sink.bytes().to_vec(alloc);
+    drop(sink);
+    all.ok()
 }
 
 fn fails_at(alloc: Global, call: u64, head: &str, body: &[u8], whole: &[u8]) -> Option<bool> {
@@ -316,5 +320,7 @@ fn fails_at(alloc: Global, call: u64, head: &str, body: &[u8], whole: &[u8]) -> 
     let mut sink = MemSink::new(alloc, 200, failing).ok()?;
     let is_written = write(&mut sink, head, body);
     let front = sink.bytes();
-    Some(!is_written && front.len() < whole.len() && whole.starts_with(front))
+    let is_front = front.len() < whole.len() && whole.starts_with(front);
+    drop(sink);
+    Some(!is_written && is_front)
 }
