@@ -21,9 +21,20 @@ pub(crate) fn answer(
     plural: &str,
     group: &str,
 ) -> Option<String> {
+    let told = told_so(alloc, &came, plural, group);
+    drop(came);
+    told
+}
+
+fn told_so(
+    alloc: Global,
+    came: &Result<Reply, Refusal>,
+    plural: &str,
+    group: &str,
+) -> Option<String> {
     match came {
         Ok(reply) => line(alloc, reply.code, &reply.text),
-        Err(refusal) => refused(alloc, &refusal, plural, group),
+        Err(refusal) => refused(alloc, refusal, plural, group),
     }
 }
 

@@ -42,7 +42,9 @@ fn ordered<V: Versions + Drop, R: Wait>(
     requires { IsOf V.meaning api.now pass }
 {
     let mut w = Worker { claim: None };
-    called(rt, alloc, api, &mut pass, &mut w, order)
+    let told = called(rt, alloc, api, &mut pass, &mut w, order);
+    drop(pass);
+    told
 }
 
 // The answer to an order that is given once a call waits at the post, which then goes on.
@@ -106,7 +108,10 @@ fn with_pass<V: Versions<Tool = Chosen> + Drop + Send + Sync, R: Threads + Wait 
     requires one { IsOf V.meaning api.now one }
     ensures { IsOf V.meaning api.now pass.new }
 {
-    let two = api.new_pass(rt, pass, Chosen::at(0)).ok()?;
+    let Ok(two) = api.new_pass(rt, pass, Chosen::at(0)) else {
+        drop(one);
+        return None;
+    };
     let (waits, meanwhile) = both(rt, alloc, api, one, two, post, first, second);
     Some(Answers {
         waits,
@@ -184,7 +189,9 @@ fn both_told<V: Versions<Tool = Chosen> + Drop + Send + Sync, R: Threads + Wait 
     let (_sign, second) = cut(trio.meanwhile.as_str());
     let place = place_of(place)?;
     let answers = answered(rt, alloc, api, pass, place, first, second)?;
-    tell_both(out, trio, &answers)
+    let told = tell_both(out, trio, &answers);
+    drop(answers);
+    told
 }
 
 // What the third answers.
@@ -230,5 +237,8 @@ pub(crate) fn told<V: Versions<Tool = Chosen> + Drop + Send + Sync, R: Threads +
     trio: &Trio,
 ) -> Option<String> {
     let (api, mut pass) = SharedApi::open(alloc, versions, Chosen::at(0), ROOM, 0).ok()?;
-    all_told(rt, alloc, &api, &mut pass, lines, trio)
+    let told = all_told(rt, alloc, &api, &mut pass, lines, trio);
+    drop(pass);
+    drop(api);
+    told
 }

@@ -137,6 +137,7 @@ fn page<V: Versions + Drop, R: Wait>(
     let token = token_of(alloc, token)?;
     let ns = if ns == "-" { None } else { Some(ns) };
     let came = api.list(rt, pass, version, ns, limit, token.as_ref());
+    drop(token);
     of_object(alloc, came)
 }
 
@@ -201,7 +202,8 @@ fn anew<V: Versions<Tool = Chosen> + Drop, R: Wait>(
     ensures other { IsOf V.meaning api.now other.new }
 {
     let number = given.parse::<u64>().ok()?;
-    *pass = api.new_pass(rt, other, Chosen::at(number)).ok()?;
+    let made = api.new_pass(rt, other, Chosen::at(number)).ok()?;
+    drop(mem::replace(pass, made));
     String::from_str(alloc, "a new pass").ok()
 }
 

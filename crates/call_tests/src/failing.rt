@@ -149,6 +149,7 @@ impl<V: Versions<Tool = NoTool> + Drop> Versions for Failing<V> {
     ) -> Result<Object, ConvFault> {
         tool.meet(Place::Form);
         if tool.fails() {
+            drop(hub);
             return Err(ConvFault::Tool);
         }
         match self.inner.into_form(alloc, &mut NoTool, v, hub) {

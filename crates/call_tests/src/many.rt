@@ -24,10 +24,8 @@ fn filled(alloc: Global, front: &str, metadata: &str, back: &str) -> Option<Stri
 
 // The number at which an object stands that a call showed.
 fn number_of(came: Result<Reply, Refusal>) -> Option<u64> {
-    match came {
-        Ok(reply) => number_in(reply.text.as_str()),
-        Err(_) => None,
-    }
+    let reply = came.ok()?;
+    number_in(reply.text.as_str())
 }
 
 // An object is created. The number at which it stands.
@@ -191,10 +189,10 @@ fn step<V: Versions + Drop, R: Wait>(
     ensures { IsOf V.meaning api.now pass.new }
 {
     let token = walk.next(alloc)?;
-    match api.list(rt, pass, version, None, limit, token.as_ref()) {
-        Ok(reply) => walk.add(alloc, reply.text.as_str()),
-        Err(_) => None,
-    }
+    let came = api.list(rt, pass, version, None, limit, token.as_ref());
+    drop(token);
+    let reply = came.ok()?;
+    walk.add(alloc, reply.text.as_str())
 }
 
 // All pages of at most so many items.

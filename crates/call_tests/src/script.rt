@@ -113,7 +113,9 @@ pub(crate) fn by_two<V: Versions<Tool = Chosen> + Drop, R: Wait>(
     ensures { IsOf V.meaning api.now pass.new }
 {
     let mut other = api.new_pass(rt, pass, Chosen::at(0)).ok()?;
-    run(rt, alloc, api, pass, &mut other, lines)
+    let told = run(rt, alloc, api, pass, &mut other, lines);
+    drop(other);
+    told
 }
 
 // The same, over a server with this room.
@@ -127,7 +129,10 @@ fn opened<V: Versions<Tool = Chosen> + Drop, R: Wait>(
     requires { limits.chunks + limits.window_chunks < 2 ^ 32 }
 {
     let (api, mut pass) = SharedApi::open(alloc, versions, Chosen::at(0), limits, 0).ok()?;
-    by_two(rt, alloc, &api, &mut pass, lines)
+    let told = by_two(rt, alloc, &api, &mut pass, lines);
+    drop(pass);
+    drop(api);
+    told
 }
 
 /// What a script answers.
