@@ -105,7 +105,9 @@ fn write_of<V: Versions + Drop, S: Source>(
 {
     let mut sink = sink_of(alloc, failing_write)?;
     let end = serve(rt, alloc, api, pass, source, &mut sink);
-    out.extend_from_slice(sink.bytes()).ok()?;
+    let added = out.extend_from_slice(sink.bytes());
+    drop(sink);
+    added.ok()?;
     Some(end)
 }
 
@@ -123,7 +125,9 @@ fn answered<V: Versions + Drop>(
     ensures of { IsOf V.meaning api.now pass.new }
 {
     let mut source = source_of(alloc, input)?;
-    write_of(rt, alloc, api, pass, &mut source, input.failing_write, out)
+    let end = write_of(rt, alloc, api, pass, &mut source, input.failing_write, out);
+    drop(source);
+    end
 }
 
 fn both<V: Versions + Drop>(
@@ -160,7 +164,10 @@ fn served<V: Versions<Tool = NoTool> + Drop>(
     requires room { room.chunks + room.window_chunks < 2 ^ 32 }
 {
     let (api, mut pass) = SharedApi::open(alloc, versions, NoTool, room, 0).ok()?;
-    both(rt, alloc, &api, &mut pass, input, written)
+    let end = both(rt, alloc, &api, &mut pass, input, written);
+    drop(pass);
+    drop(api);
+    end
 }
 
 // The versions of the shared definition.
@@ -213,7 +220,9 @@ fn step<V: Versions + Drop, S: Source, K: Sink>(
     requires { IsOf V.meaning api.now pass.old }
 {
     let mut inbox = Inbox::open(alloc).ok()?;
-    Some(serve_one(rt, alloc, api, pass, &mut inbox, source, sink, &clock()))
+    let end = serve_one(rt, alloc, api, pass, &mut inbox, source, sink, &clock());
+    drop(inbox);
+    Some(end)
 }
 
 fn stepped<V: Versions<Tool = NoTool> + Drop>(
@@ -224,13 +233,27 @@ fn stepped<V: Versions<Tool = NoTool> + Drop>(
     sink: &mut MemSink,
 ) -> Option<OneEnd> {
     let (api, mut pass) = SharedApi::open(alloc, versions, NoTool, ROOM, 0).ok()?;
-    step(rt, alloc, &api, &mut pass, source, sink)
+    let end = step(rt, alloc, &api, &mut pass, source, sink);
+    drop(pass);
+    drop(api);
+    end
+}
+
+fn step_to(
+    rt: &impl Wait,
+    alloc: Global,
+    source: &mut MemSource,
+    sink: &mut MemSink,
+) -> Option<OneEnd> {
+    let versions = TwoNames::new(alloc).ok()?;
+    stepped(rt, alloc, versions, source, sink)
 }
 
 fn step_of(rt: &impl Wait, alloc: Global, source: &mut MemSource) -> Option<OneEnd> {
     let mut sink = sink_of(alloc, u64::MAX)?;
-    let versions = TwoNames::new(alloc).ok()?;
-    stepped(rt, alloc, versions, source, &mut sink)
+    let end = step_to(rt, alloc, source, &mut sink);
+    drop(sink);
+    end
 }
 
 /// How one step of a connection to a server with room enough ends, with what is left of its input behind it.
@@ -243,7 +266,9 @@ pub(crate) fn one_step(
     requires { 0 < input.piece }
 {
     let mut source = source_of(alloc, input)?;
-    let end = step_of(rt, alloc, &mut source)?;
-    left.extend_from_slice(source.left()).ok()?;
-    Some(end)
+    let end = step_of(rt, alloc, &mut source);
+    let added = left.extend_from_slice(source.left());
+    drop(source);
+    added.ok()?;
+    end
 }

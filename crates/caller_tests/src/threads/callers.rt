@@ -69,7 +69,10 @@ fn beside<V: Versions<Tool = NoTool> + Drop + Send + Sync, R: Threads + Wait + S
     requires { IsOf V.meaning api.now first }
     ensures { IfSome result (λ r. IsOf V.meaning api.now r.0) }
 {
-    let second = api.new_pass(rt, &mut first, NoTool).ok()?;
+    let Ok(second) = api.new_pass(rt, &mut first, NoTool) else {
+        drop(first);
+        return None;
+    };
     Some(both(rt, alloc, api, first, second))
 }
 
@@ -83,7 +86,11 @@ fn at_server<V: Versions<Tool = NoTool> + Drop + Send + Sync, R: Threads + Wait 
     requires { IsOf V.meaning api.now pass }
 {
     let (mut pass, one, two) = beside(rt, alloc, api, pass)?;
-    verdict(rt, alloc, api, &mut pass, &one, &two)
+    let told = verdict(rt, alloc, api, &mut pass, &one, &two);
+    drop(pass);
+    drop(one);
+    drop(two);
+    told
 }
 
 // What two callers come to over a definition.
@@ -93,7 +100,9 @@ fn over<V: Versions<Tool = NoTool> + Drop + Send + Sync, R: Threads + Wait + Syn
     versions: V,
 ) -> Option<String> {
     let (api, pass) = SharedApi::open(alloc, versions, NoTool, ROOM, 0).ok()?;
-    at_server(rt, alloc, &api, pass)
+    let told = at_server(rt, alloc, &api, pass);
+    drop(api);
+    told
 }
 
 /// What two callers come to over the definition that is built in.

@@ -89,7 +89,9 @@ fn create_once<V: Versions + Drop, R: Wait>(
 {
     let told = task(caller, round, true);
     let came = create(rt, alloc, api, pass, told)?;
-    keep(tally, &came, told)
+    let kept = keep(tally, &came, told);
+    drop(came);
+    kept
 }
 
 fn replace_once<V: Versions + Drop, R: Wait>(
@@ -106,7 +108,9 @@ fn replace_once<V: Versions + Drop, R: Wait>(
 {
     let told = task(caller, round, false);
     let came = replace(rt, alloc, api, pass, told)?;
-    keep(tally, &came, told)
+    let kept = keep(tally, &came, told);
+    drop(came);
+    kept
 }
 
 fn delete_once<V: Versions + Drop, R: Wait>(
@@ -124,7 +128,9 @@ fn delete_once<V: Versions + Drop, R: Wait>(
     let shift = round.wrapping_add(caller.wrapping_mul(5));
     let place = shift.wrapping_mul(11).wrapping_add(6) % KEYS;
     let came = delete(rt, alloc, api, pass, place)?;
-    keep_deleted(tally, &came, place)
+    let kept = keep_deleted(tally, &came, place);
+    drop(came);
+    kept
 }
 
 // One create, one replace and one delete.
