@@ -21,10 +21,14 @@ fn three_connections_and_a_worker_of_serve(rt: HostRuntime) -> Result<(), Fail> 
     let alloc = rt.alloc();
     let mut ears = Peers::new(three_for_a_migration(alloc, MIGRATES, BEHIND)?, SHOWN);
     let mut source = MemSource::new(Vec::new(alloc), 1, Vec::new(alloc));
-    let ran = run_line(&rt, alloc, SERVE, &mut source, &mut ears)?;
+    let ran = run_line(&rt, alloc, SERVE, &mut source, &mut ears);
+    drop(source);
+    let counted = (ears.back, ears.whole);
+    drop(ears);
+    let ran = ran?;
     assert_eq!(&rt; ran.errors.as_slice(), b"".as_slice());
     assert_eq!(&rt; ran.output.as_slice(), b"listening on here\n".as_slice());
     assert_eq!(&rt; ran.status, DONE);
-    assert_eq!(&rt; (ears.back, ears.whole), (3, 2));
+    assert_eq!(&rt; counted, (3, 2));
     Ok(())
 }

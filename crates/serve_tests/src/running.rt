@@ -75,9 +75,18 @@ fn built_in_files(alloc: Global) -> Result<MemFiles, Fail> {
 
 // What a run writes to: its output, and its errors.
 fn sinks(alloc: Global) -> Result<(MemSink, MemSink), Fail> {
-    let output = MemSink::new(alloc, 1_000, Vec::new(alloc))?;
-    let errors = MemSink::new(alloc, 100, Vec::new(alloc))?;
-    Ok((output, errors))
+    let output = sink(alloc, 1_000)?;
+    match sink(alloc, 100) {
+        Ok(errors) => Ok((output, errors)),
+        Err(fail) => {
+            drop(output);
+            Err(fail)
+        }
+    }
+}
+
+fn sink(alloc: Global, room: usize) -> Result<MemSink, Fail> {
+    Ok(MemSink::new(alloc, room, Vec::new(alloc))?)
 }
 
 // What stands in the sinks behind a run.
@@ -100,7 +109,32 @@ pub(crate) fn run_line<R: Threads + Wait + time::Clock + Sync, S: Source, A: Ear
     ears: &mut A,
 ) -> Result<Ran, Fail> {
     let words = words_of(alloc, line)?;
+    let ran = run_words(rt, alloc, &words, source, ears);
+    drop(words);
+    ran
+}
+
+fn run_words<R: Threads + Wait + time::Clock + Sync, S: Source, A: Ears + Place + Send>(
+    rt: &R,
+    alloc: Global,
+    words: &Words,
+    source: &mut S,
+    ears: &mut A,
+) -> Result<Ran, Fail> {
     let mut files = built_in_files(alloc)?;
+    let ran = run_over(rt, alloc, words, &mut files, source, ears);
+    drop(files);
+    ran
+}
+
+fn run_over<R: Threads + Wait + time::Clock + Sync, S: Source, A: Ears + Place + Send>(
+    rt: &R,
+    alloc: Global,
+    words: &Words,
+    files: &mut MemFiles,
+    source: &mut S,
+    ears: &mut A,
+) -> Result<Ran, Fail> {
     let (mut output, mut errors) = sinks(alloc)?;
     let clock = FixedClock::new(Stamp {
         text: *b"2024-01-02T03:04:05Z",
@@ -108,15 +142,18 @@ pub(crate) fn run_line<R: Threads + Wait + time::Clock + Sync, S: Source, A: Ear
     let status = status_of(
         rt,
         alloc,
-        &words,
-        &mut files,
+        words,
+        files,
         source,
         &mut output,
         &mut errors,
         ears,
         &clock,
     );
-    ran_of(alloc, status, &output, &errors)
+    let ran = ran_of(alloc, status, &output, &errors);
+    drop(output);
+    drop(errors);
+    ran
 }
 
 // Runs `pipe` over a source, by the definition that is built in.
@@ -126,5 +163,7 @@ pub(crate) fn pipe_over<R: Threads + Wait + time::Clock + Sync, S: Source>(
     source: &mut S,
 ) -> Result<Ran, Fail> {
     let mut ears = MemEars::new(alloc, Vec::new(alloc), Vec::new(alloc))?;
-    run_line(rt, alloc, "pipe", source, &mut ears)
+    let ran = run_line(rt, alloc, "pipe", source, &mut ears);
+    drop(ears);
+    ran
 }

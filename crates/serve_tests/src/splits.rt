@@ -42,7 +42,9 @@ fn pipe<R: Threads + Wait + Clock + Sync + Abort>(
     line: &str,
 ) -> Result<(), Fail> {
     let mut source = MemSource::new(input.to_vec(alloc)?, 1_000, Vec::new(alloc));
-    let ran = pipe_over(rt, alloc, &mut source)?;
+    let ran = pipe_over(rt, alloc, &mut source);
+    drop(source);
+    let ran = ran?;
     assert_eq!(rt; ran.errors.as_slice(), line.as_bytes());
     assert_eq!(rt; ran.status, status);
     assert_eq!(rt; ran.output.as_slice(), output);
@@ -58,7 +60,9 @@ fn two_pieces(rt: HostRuntime) -> Result<(), Fail> {
     for place in 0..asked.len() {
         let (first, second) = asked.split_at(place);
         let mut source = StdSource::new(Cursor::new(first).chain(Cursor::new(second)));
-        let ran = pipe_over(&rt, alloc, &mut source)?;
+        let ran = pipe_over(&rt, alloc, &mut source);
+        drop(source);
+        let ran = ran?;
         assert_eq!(rt; ran.status, DONE);
         assert_eq!(rt; ran.output.as_slice(), answered.as_slice());
     }
