@@ -36,8 +36,9 @@ impl<V: Versions> Given<'_, V> {
         ensures rises { V.Tool.faults tool.old ≤ V.Tool.faults tool.new }
     {
         let form = self.versions.form(self.alloc, tool, v, hub)?;
-        let text = reply_text(self.alloc, self.boot, number, born, form)?;
-        Ok(text)
+        let text = reply_text(self.alloc, self.boot, number, born, &form);
+        drop(form);
+        Ok(text?)
     }
 
     /// The same text, where the hub value isn't wanted any more.
@@ -57,8 +58,9 @@ impl<V: Versions> Given<'_, V> {
         ensures rises { V.Tool.faults tool.old ≤ V.Tool.faults tool.new }
     {
         let form = self.versions.into_form(self.alloc, tool, v, hub)?;
-        let text = reply_text(self.alloc, self.boot, number, born, form)?;
-        Ok(text)
+        let text = reply_text(self.alloc, self.boot, number, born, &form);
+        drop(form);
+        Ok(text?)
     }
 
     /// The text in which a hub value is stored at a version.
@@ -70,8 +72,9 @@ impl<V: Versions> Given<'_, V> {
         ensures rises { V.Tool.faults tool.old ≤ V.Tool.faults tool.new }
     {
         let form = self.versions.form(self.alloc, tool, at, hub)?;
-        let text = stored_text(self.alloc, form)?;
-        Ok(text)
+        let text = stored_text(self.alloc, &form);
+        drop(form);
+        Ok(text?)
     }
 
     /// The same text, where the hub value isn't wanted any more.
@@ -83,7 +86,8 @@ impl<V: Versions> Given<'_, V> {
         ensures rises { V.Tool.faults tool.old ≤ V.Tool.faults tool.new }
     {
         let form = self.versions.into_form(self.alloc, tool, at, hub)?;
-        let text = stored_text(self.alloc, form)?;
-        Ok(text)
+        let text = stored_text(self.alloc, &form);
+        drop(form);
+        Ok(text?)
     }
 }

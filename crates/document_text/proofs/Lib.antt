@@ -2,3 +2,6 @@ pub mod Passing
 pub mod Scanning
 pub mod Places
 pub mod Putting
+pub mod Sending
+pub mod Parting
+pub mod Spelled

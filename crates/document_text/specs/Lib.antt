@@ -2,3 +2,5 @@ pub mod Ending
 pub mod Numbered
 pub mod FieldLaws
 pub mod Cut
+pub mod Shown
+pub mod Sent

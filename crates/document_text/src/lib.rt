@@ -7,5 +7,7 @@
 mod ends;
 mod numbers;
 mod place;
+mod writing;
 
 pub use numbers::{BETWEEN, NUMBER, numbered, parts};
+pub use writing::write_document;

@@ -66,7 +66,9 @@ fn texts<V: Versions>(
         let texts = both(lent.alloc, form)?;
         return Ok(texts);
     }
-    let bytes = stored_text(lent.alloc, form)?;
+    let bytes = stored_text(lent.alloc, &form);
+    drop(form);
+    let bytes = bytes?;
     let shown = lent.versions.form(lent.alloc, tool, v, hub)?;
     let sealed = seal(lent.alloc, shown)?;
     Ok((bytes, sealed))
