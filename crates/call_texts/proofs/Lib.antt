@@ -1,4 +1,3 @@
-pub mod Levels
 pub mod Born
 pub mod Showing
 pub mod IfOk

@@ -5,3 +5,4 @@ pub mod Putting
 pub mod Sending
 pub mod Parting
 pub mod Spelled
+pub mod Rising

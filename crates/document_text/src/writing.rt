@@ -1,7 +1,9 @@
 //! From an object to the compact text of its document, with no value made of it.
-ghost use Rattle.std.specs.Prelude.{◌≡◌, [], ◌∷◌, codes, map, option_map, IfOk, OnOk};
+ghost use Rattle.std.specs.Prelude.{◌≡◌, ℕ, List, Option, [], ◌∷◌, codes, map, option_map, FitsSigned, IfOk, OnOk};
+ghost use Rattle.std.specs.Int.{w64};
 ghost use Rattle.serde.specs.Event.{map_ends};
 ghost use Rattle.kj_value.specs.Json.{text, list, object, items_of, members_of};
+ghost use Rattle.kj_value.specs.Sound.{IsSoundJson};
 ghost use Rattle.kj_value.specs.Pair.{pair_of};
 ghost use Rattle.kj_value.specs.Data.{to_data};
 ghost use Rattle.kj_value.specs.Text.{text_of};
@@ -38,6 +40,24 @@ impl Serialize for Document<'_> {
     }
 }
 
+// The generation is known to be a number of 64 bits, once it is looked at.
+fn fits(m: &Meta)
+    ensures { FitsSigned w64 m.now.generation }
+{
+    let _n = m.generation;
+}
+
+// What is inside of an object is known to be in order, once it is looked at.
+fn in_order(object: &Object)
+    ensures { (number uid : Option (List ℕ)) → IsSoundJson (document (with_given number uid (object_of object.now))) }
+{
+    let _ = object.body.len();
+    let _ = object.meta.owners.len();
+    let _ = object.meta.labels.len();
+    let _ = object.meta.annotations.len();
+    fits(&object.meta);
+}
+
 /// The compact text of an object's document, with this resource version and this uid in place of its own, or with none.
 pub fn write_document(
     alloc: Global,
@@ -45,8 +65,10 @@ pub fn write_document(
     number: Option<&str>,
     uid: Option<&str>,
 ) -> Result<Txt, NoMemory>
-    ensures { IfOk result (λ t. t.bytes ≡ text_of (document (with_given (option_map (λ s. s.now) number.entry) (option_map (λ s. s.now) uid.entry) (object_of object.now)))) }
+    ensures text { IfOk result (λ t. t.bytes ≡ text_of (document (with_given (option_map (λ s. s.now) number.entry) (option_map (λ s. s.now) uid.entry) (object_of object.now)))) }
+    ensures sound { IsSoundJson (document (with_given (option_map (λ s. s.now) number.entry) (option_map (λ s. s.now) uid.entry) (object_of object.now))) }
 {
+    in_order(object);
     let shown = Document {
         object,
         number,

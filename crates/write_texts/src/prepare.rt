@@ -1,19 +1,16 @@
 //! What a write stores and shows, made before its turn.
 ghost use Rattle.std.specs.Prelude.{◌≡◌, ◌<◌, ◌≤◌, IfOk, IfSome, IsErrOf, IsTrue, pos, ℕ};
-ghost use Rattle.kj_value.specs.Json.{depth};
-ghost use Rattle.kube_meta.specs.Document.{document};
 ghost use Rattle.kube_meta.specs.Shapes.{shaped};
 ghost use Rattle.kube_meta.specs.View.{object_of};
 ghost use Rattle.api_calls.specs.Legal.{key_of};
 ghost use Rattle.api_calls.specs.Meaning.{Weighs};
 ghost use Rattle.api_calls.specs.Versions.{IsStored};
-ghost use Rattle.api_calls.specs.declared.versions.TheConstants.{OBJECT_LEVELS};
 ghost use Rattle.write_texts.specs.Readying.{IsReady};
 ghost use Rattle.write_texts.specs.Sealed.{Seals};
 
 use crate::moving::within;
 use crate::seal::{Sealed, both, seal};
-use api_calls::{ConvFault, OBJECT_LEVELS, Versions, one_weight, stored_fits};
+use api_calls::{ConvFault, Versions, one_weight, stored_fits};
 use api_core::Prepared;
 use call_texts::{Given, stored_text};
 use kj_value::Txt;
@@ -31,7 +28,6 @@ fn stored_form<V: Versions>(
     requires whole { (V.meaning lent.now.versions.now).whole (object_of hub.now) }
     requires shape { IfSome shape (λ p. (V.meaning lent.now.versions.now).pair storage (object_of hub.now) (shaped p (object_of hub.now))) }
     ensures form { IfOk result (λ x. (V.meaning lent.now.versions.now).pair storage (object_of hub.now) (object_of x)) }
-    ensures levels { IfOk result (λ x. depth (document (object_of x)) ≤ OBJECT_LEVELS) }
     ensures tool { IsErrOf result ConvFault.Tool → V.Tool.faults tool.old < V.Tool.faults tool.new }
     ensures rises { V.Tool.faults tool.old ≤ V.Tool.faults tool.new }
 {
@@ -63,15 +59,17 @@ fn texts<V: Versions>(
 {
     let form = stored_form(lent, tool, storage, hub, shape)?;
     if v == storage {
-        let texts = both(lent.alloc, form)?;
-        return Ok(texts);
+        let texts = both(lent.alloc, &form);
+        drop(form);
+        return Ok(texts?);
     }
     let bytes = stored_text(lent.alloc, &form);
     drop(form);
     let bytes = bytes?;
     let shown = lent.versions.form(lent.alloc, tool, v, hub)?;
-    let sealed = seal(lent.alloc, shown)?;
-    Ok((bytes, sealed))
+    let sealed = seal(lent.alloc, &shown);
+    drop(shown);
+    Ok((bytes, sealed?))
 }
 
 /// A hub value, ready to be stored at a version and to be shown at another. Where there is a shape, by which it becomes the

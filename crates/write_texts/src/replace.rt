@@ -74,7 +74,9 @@ pub fn ready_release<V: Versions>(
     ensures rises { V.Tool.faults tool.old ≤ V.Tool.faults tool.new }
 {
     let form = lent.versions.form(lent.alloc, tool, change.v, &change.hub)?;
-    let sealed = seal(lent.alloc, form)?;
+    let sealed = seal(lent.alloc, &form);
+    drop(form);
+    let sealed = sealed?;
     let name = Txt::of(lent.alloc, key.name())?;
     Ok((sealed, name))
 }

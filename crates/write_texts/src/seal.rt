@@ -1,17 +1,15 @@
 //! The text of a reply that is ready before a commit: but for the number and the uid, which the commit tells.
 ghost use Rattle.std.specs.Prelude.{◌≡◌, ◌+◌, ◌<◌, ◌≤◌, IfOk, IsUtf8, length};
-ghost use Rattle.kj_value.specs.Json.{depth};
-ghost use Rattle.kube_meta.specs.Document.{document};
 ghost use Rattle.kube_meta.specs.View.{ObjectView, object_of};
 ghost use Rattle.document_text.specs.Numbered.{IsBare};
 ghost use Rattle.api_calls.specs.Meaning.{stored_text};
 ghost use Rattle.write_texts.specs.Sealed.{IsSealed, opened};
 
-use api_calls::{BORN_END, OBJECT_LEVELS, uid_into};
-use document_text::{BETWEEN, NUMBER, parts};
+use api_calls::{BORN_END, uid_into};
+use document_text::{BETWEEN, NUMBER, parts, write_document};
 use itoa::Buffer;
-use kj_value::{NoMemory, Txt, sound, write};
-use kube_meta::{Object, write_object};
+use kj_value::{NoMemory, Txt};
+use kube_meta::Object;
 use std::alloc::Global;
 
 /// A text that shows an object, cut where the number and the uid go. The front has room for the whole.
@@ -60,26 +58,19 @@ fn seal_text(alloc: Global, text: &str) -> Result<Sealed, NoMemory>
 }
 
 /// The text in which an object is stored, which has neither number nor uid, and the text that shows it, but for these.
-pub fn both(alloc: Global, mut form: Object) -> Result<(Txt, Sealed), NoMemory>
-    requires { depth (document (object_of form)) ≤ OBJECT_LEVELS }
-    ensures stored { IfOk result (λ r. r.0.bytes ≡ stored_text (object_of form)) }
+pub fn both(alloc: Global, form: &Object) -> Result<(Txt, Sealed), NoMemory>
+    ensures stored { IfOk result (λ r. r.0.bytes ≡ stored_text (object_of form.now)) }
     ensures utf8 { IfOk result (λ r. IsUtf8 r.0.bytes) }
-    ensures seals { IfOk result (λ r. IsSealed (object_of form) r.1) }
+    ensures seals { IfOk result (λ r. IsSealed (object_of form.now) r.1) }
 {
-    form.meta.resource_version = None;
-    form.meta.uid = None;
-    let value = write_object(alloc, form)?;
-    // asked for what its clause says: the value that is written is sound
-    sound(&value);
-    let text = write(alloc, &value)?;
+    let text = write_document(alloc, form, None, None)?;
     let sealed = seal_text(alloc, text.as_str())?;
     Ok((text, sealed))
 }
 
 /// The text that shows an object, but for its number and its uid.
-pub fn seal(alloc: Global, form: Object) -> Result<Sealed, NoMemory>
-    requires { depth (document (object_of form)) ≤ OBJECT_LEVELS }
-    ensures { IfOk result (λ s. IsSealed (object_of form) s) }
+pub fn seal(alloc: Global, form: &Object) -> Result<Sealed, NoMemory>
+    ensures { IfOk result (λ s. IsSealed (object_of form.now) s) }
 {
     let (_, sealed) = both(alloc, form)?;
     Ok(sealed)

@@ -1,5 +1,4 @@
 use Rattle.std.proofs.Common.{Option, sym, subst, arith}
-
 use Rattle.std.proofs.lemmas.Result.{on_ok_weaker}
 use Rattle.kj_value.specs.Json.{Json, object, members_of}
 use Rattle.kube_meta.specs.Document.{optional, text_fields}

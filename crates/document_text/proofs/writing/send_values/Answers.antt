@@ -1,7 +1,6 @@
 use Rattle.std.proofs.Common.{◌+◌, ◌∷◌, [], List, Some, drop, map, sym, subst, ◌∙◌, arith}
 use Rattle.std.proofs.lemmas.List.{drop_all}
 use Rattle.std.proofs.lemmas.Result.{on_ok_weaker}
-
 use Rattle.serde.specs.Event as event
 use Rattle.serde.specs.Event.{Logs}
 use Rattle.serde_json.specs.Events.{items_len}

@@ -10,11 +10,3 @@ returns-clause-form g c =
     let m = g.V.Versions.meaning c.args.lent.now.versions.now in
     let h : ObjectView = object_of c.args.hub.now in
     subst (λ (x : ObjectView). m.pair c.args.storage h x) (sym c.in_ok-form.ensures) (subst (λ (o : Option Shape). IfSome o (λ p. m.pair c.args.storage h (shaped p h))) c.in-Some.is c.requires.shape)
-
-pub returns-clause-levels : goal.returns-clause-levels
-returns-clause-levels g c =
-    let it = c.args.lent.now.versions.now in
-    let m = g.V.Versions.meaning it in
-    let h : ObjectView = object_of c.args.hub.now in
-    let pairs = subst (λ (x : ObjectView). m.pair c.args.storage h x) (sym c.in_ok-form.ensures) (subst (λ (o : Option Shape). IfSome o (λ p. m.pair c.args.storage h (shaped p h))) c.in-Some.is c.requires.shape) in
-    ((g.met.V.Versions.stand it).pair c.args.storage h (object_of c.in_ok-form.form) c.requires.known c.requires.whole pairs).levels
