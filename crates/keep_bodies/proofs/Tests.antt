@@ -1,15 +1,20 @@
 -- What the tests of a cell tell.
-use Rattle.std.proofs.Common.{◌≡◌, Bool, true, false, ◌&&◌, ◌↔◌, IsTrue, Option, Some, None, refl, ap, sym, ◌∙◌}
+use Rattle.std.proofs.Common.{◌≡◌, List, [], ◌∷◌, ◌++◌, Bool, true, false, cond, ◌&&◌, ◌↔◌, IsTrue, Option, Some, None, Result, Ok, Err, OnOk, append-nil, refl, ap, ap₂, sym, subst, ◌∙◌}
 use Rattle.kj_value.specs.Json.{Json}
+use Rattle.kj_value.specs.Fields.{Pairs, field}
 use Rattle.kj_value.specs.Same.{json_same}
 use Rattle.kj_value.specs.SameLaws.{json_same-Decides}
 use Rattle.hub_cells.specs.Side.{Side, spoke, hub, other}
 use Rattle.hub_cells.specs.Cell.{Kind, same, Tuple}
 use Rattle.hub_cells.specs.Cross.{matched, shown}
-use Rattle.hub_cells.specs.Level.{Cell, allows}
+use Rattle.hub_cells.specs.Level.{Name, Cell, CellFits, allows, names, tuple_of}
 use Rattle.hub_cells.specs.Answer.{answer, answer_by}
-use Rattle.keep_laws.specs.Marked.{crossed_as, crossed_mark}
-use Rattle.keep_laws.specs.Settle.{is_unmatched, tuple_same, alive}
+use Rattle.kept_entries.specs.declared.entry.Entry.{Entry}
+use Rattle.keep_laws.specs.Entry.{put, kept_of}
+use Rattle.keep_laws.specs.Marked.{Mark, crossed_as, crossed_mark}
+use Rattle.keep_laws.specs.Body.{entry_of}
+use Rattle.keep_laws.specs.Settle.{is_unmatched, tuple_same, alive, living}
+use Rattle.keep_bodies.specs.Over.{tuple_here, mark_over}
 
 lies : false ≡ true → ⊥
 lies e = cc
@@ -49,23 +54,73 @@ alive_is d e c t u v m b s a q h r =
     let shows = was_shown (matched (other d) c.kind u) (shown (other d) c.kind u) v seen in
     is_alive (allows (other d) c u) (is_unmatched (matched (other d) c.kind u)) (tuple_same t (shown (other d) c.kind u)) b (ap (λ (f : Side). allows f c u) (sym s) ∙ a) shows.0 (ap (tuple_same t) (sym shows.1) ∙ sym r)
 
--- ---- the mark of a cell from what crossing answers
+-- ---- the mark of a cell
 
-matching_by : (d : Side) (k : Kind) (t u : Tuple) (o : Option Tuple) → (u, true) ≡ answer_by o (shown d k t) → (u, None) ≡ crossed_as d k o t
-matching_by d k t u None e = absurd (lies (sym (ap (λ (p : Tuple × Bool). p.1) e)))
-matching_by d k t u (Some v) e = ap (λ (p : Tuple × Bool). (p.0, None)) e
+-- from what crossing answers: what is put, and what is kept of it where it is no match
+marked_by : (d : Side) (k : Kind) (t u : Tuple) (b : Bool) (o : Option Tuple) → (u, b) ≡ answer_by o (shown d k t) → (u, cond b None (Some t)) ≡ crossed_as d k o t
+marked_by d k t u b None e = ap (λ (p : Tuple × Bool). (p.0, cond p.1 None (Some t))) e
+marked_by d k t u b (Some v) e = ap (λ (p : Tuple × Bool). (p.0, cond p.1 None (Some t))) e
 
-showing_by : (d : Side) (k : Kind) (t u : Tuple) (o : Option Tuple) → (u, false) ≡ answer_by o (shown d k t) → (u, Some t) ≡ crossed_as d k o t
-showing_by d k t u None e = ap (λ (p : Tuple × Bool). (p.0, Some t)) e
-showing_by d k t u (Some v) e = absurd (lies (ap (λ (p : Tuple × Bool). p.1) e))
+pub marked : (d : Side) (k : Kind) (t u : Tuple) (b : Bool) → (u, b) ≡ answer d k t → (u, cond b None (Some t)) ≡ crossed_mark d k t None
+marked d k t u b e = marked_by d k t u b (matched d k t) e
 
-pub marked_matching : (d : Side) (k : Kind) (t u : Tuple) (b : Bool) → b ≡ true → (u, b) ≡ answer d k t → (u, None) ≡ crossed_mark d k t None
-marked_matching d k t u b q e = matching_by d k t u (matched d k t) (ap (λ (m : Bool). (u, m)) (sym q) ∙ e)
+-- values that are equal on both sides go over as they are, and nothing that is kept of them is alive
+marked_same : (d : Side) (k : Kind) (t : Tuple) → k ≡ same → crossed_mark d k t None ≡ (t, None)
+marked_same spoke k t e = ap (λ (j : Kind). crossed_mark spoke j t None) e
+marked_same hub k t e = ap (λ (j : Kind). crossed_mark hub j t None) e
 
-pub marked_showing : (d : Side) (k : Kind) (t u : Tuple) (b : Bool) → b ≡ false → (u, b) ≡ answer d k t → (u, Some t) ≡ crossed_mark d k t None
-marked_showing d k t u b q e = showing_by d k t u (matched d k t) (ap (λ (m : Bool). (u, m)) (sym q) ∙ e)
+same_matched : (d : Side) (u : Tuple) → is_unmatched (matched d same u) ≡ false
+same_matched spoke u = refl
+same_matched hub u = refl
 
--- values that are equal on both sides go over as they are
-pub marked_same : (d : Side) (k : Kind) (t : Tuple) → k ≡ same → (t, None) ≡ crossed_mark d k t None
-marked_same spoke k t e = ap (λ (j : Kind). crossed_mark spoke j t None) (sym e)
-marked_same hub k t e = ap (λ (j : Kind). crossed_mark hub j t None) (sym e)
+never_alive : (d : Side) (c : Cell) (t u : Tuple) → c.kind ≡ same → false ≡ alive d c t u
+never_alive d c t u e =
+    not_alive (allows (other d) c u) (is_unmatched (matched (other d) c.kind u)) (tuple_same t (shown (other d) c.kind u)) (ap (λ (k : Kind). is_unmatched (matched (other d) k u)) e ∙ same_matched (other d) u)
+
+none_living : (d : Side) (c : Cell) (t : Tuple) (o : Option Tuple) → c.kind ≡ same → living d c t o ≡ None
+none_living d c t None e = refl
+none_living d c t (Some u) e = ap (λ (b : Bool). cond b (Some u) None) (sym (never_alive d c t u e))
+
+same_over : (d : Side) (c : Cell) (x : Pairs) (es : List Entry) → c.kind ≡ same → mark_over d c x es ≡ (tuple_here d c x, None)
+same_over d c x es e =
+    ap (crossed_mark d c.kind (tuple_here d c x)) (none_living d c (tuple_here d c x) (kept_of (names (other d) c) es) e) ∙ marked_same d c.kind (tuple_here d c x) e
+
+pub same_fields : {X E : Type 0} (r : Result X E) (d e : Side) (c : Cell) (x old new : Pairs) (es : List Entry) (own theirs : List Name) → c.kind ≡ same → own ≡ names d c → e ≡ other d → theirs ≡ names e c → OnOk r (new ≡ put theirs (tuple_of own x) old) → OnOk r (new ≡ put (names (other d) c) (mark_over d c x es).0 old)
+same_fields (Ok v) d e c x old new es own theirs k s q t h =
+    h ∙ ap₂ (λ (ns : List Name) (os : Tuple). put ns os old) (t ∙ ap (λ (f : Side). names f c) q) (ap (λ (ns : List Name). tuple_of ns x) s ∙ ap (λ (m : Mark). m.0) (sym (same_over d c x es k)))
+same_fields (Err w) d e c x old new es own theirs k s q t h = tt
+
+pub same_entries : {X E : Type 0} (r : Result X E) (d : Side) (c : Cell) (x : Pairs) (es old : List Entry) → c.kind ≡ same → OnOk r (old ≡ old ++ entry_of (names d c) (mark_over d c x es).1 [])
+same_entries (Ok v) d c x es old k =
+    sym (append-nil old) ∙ ap (λ (m : Mark). old ++ entry_of (names d c) m.1 []) (sym (same_over d c x es k))
+same_entries (Err w) d c x es old k = tt
+
+-- ---- what stands at a cell's names, of which there are none or one
+
+pub one_here : (d : Side) (c : Cell) (x : Pairs) (ns : List Name) (n k : Name) (i j : Json) → ns ≡ names d c → ns ≡ n ∷ [] → k ≡ n → Some j ≡ field k x → i ≡ j → Some i ∷ [] ≡ tuple_here d c x
+one_here d c x ns n k i j s e q h g =
+    ap (λ (o : Option Json). o ∷ []) (ap (λ (l : Json). Some l) g ∙ h ∙ ap (λ (m : Name). field m x) q) ∙ ap (λ (ms : List Name). tuple_of ms x) (sym e ∙ s)
+
+pub one_absent : (d : Side) (c : Cell) (x : Pairs) (ns : List Name) (n k : Name) → ns ≡ names d c → ns ≡ n ∷ [] → k ≡ n → None ≡ field k x → tuple_here d c x ≡ tuple_of (names d c) []
+one_absent d c x ns n k s e q h =
+    subst (λ (ms : List Name). tuple_of ms x ≡ tuple_of ms []) (sym e ∙ s) (ap (λ (o : Option Json). o ∷ []) (sym (h ∙ ap (λ (m : Name). field m x) q)))
+
+pub none_absent : (d : Side) (c : Cell) (x : Pairs) (ns : List Name) → ns ≡ names d c → ns ≡ [] → tuple_here d c x ≡ tuple_of (names d c) []
+none_absent d c x ns s e = subst (λ (ms : List Name). tuple_of ms x ≡ tuple_of ms []) (sym e ∙ s) refl
+
+-- where nothing stands at a cell's names, nothing goes over
+put_absent : (ns : List Name) (ps : Pairs) → ps ≡ put ns (tuple_of ns []) ps
+put_absent [] ps = refl
+put_absent (n ∷ ns) ps = put_absent ns ps
+
+absent_over : (d : Side) (c : Cell) (x : Pairs) → CellFits c → tuple_here d c x ≡ tuple_of (names d c) [] → mark_over d c x [] ≡ (tuple_of (names (other d) c) [], None)
+absent_over d c x f e =
+    ap (λ (t : Tuple). crossed_mark d c.kind t None) e ∙ ap (λ (o : Option Tuple). crossed_as d c.kind o (tuple_of (names d c) [])) (f.absent d)
+
+pub absent_fields : (d : Side) (c : Cell) (x ps : Pairs) → CellFits c → tuple_here d c x ≡ tuple_of (names d c) [] → ps ≡ put (names (other d) c) (mark_over d c x []).0 ps
+absent_fields d c x ps f e =
+    put_absent (names (other d) c) ps ∙ ap (λ (m : Mark). put (names (other d) c) m.0 ps) (sym (absent_over d c x f e))
+
+pub absent_entries : (d : Side) (c : Cell) (x : Pairs) (es : List Entry) → CellFits c → tuple_here d c x ≡ tuple_of (names d c) [] → es ≡ es ++ entry_of (names d c) (mark_over d c x []).1 []
+absent_entries d c x es f e =
+    sym (append-nil es) ∙ ap (λ (m : Mark). es ++ entry_of (names d c) m.1 []) (sym (absent_over d c x f e))

@@ -1,12 +1,12 @@
 //! A level's cells taken over.
-ghost use Rattle.std.specs.Prelude.{◌≡◌, [], ◌∷◌, ◌++◌, map, true, IfOk, IsTrue, OnOk, option_map};
+ghost use Rattle.std.specs.Prelude.{◌≡◌, [], ◌∷◌, ◌++◌, map, true, cond, Some, None, IfOk, IsTrue, OnOk, option_map};
 ghost use Rattle.hub_cells.specs.Side as sides;
 ghost use Rattle.hub_cells.specs.Answer.{CanCross};
 ghost use Rattle.hub_cells.specs.Cell.{same};
 ghost use Rattle.hub_cells.specs.Level.{CellFits, CellsFit, allows, names};
 ghost use Rattle.hub_cells.specs.Seen.{side, kind, tuple, cell};
 ghost use Rattle.kept_entries.specs.Entry.{are_in_order};
-ghost use Rattle.keep_laws.specs.Entry.{put};
+ghost use Rattle.keep_laws.specs.Entry.{put, kept_of};
 ghost use Rattle.keep_laws.specs.Marked.{crossed_mark};
 ghost use Rattle.keep_laws.specs.Body.{entry_of, read_cells};
 ghost use Rattle.keep_laws.specs.Settle.{alive, living, CellsAllowed};
@@ -17,17 +17,10 @@ ghost use Rattle.keep_bodies.specs.Over.{tuple_here, mark_over, cell_fields, cel
 use crate::entries::{keep, kept_of};
 use crate::left::Left;
 use crate::tuples::{copy_over, names_on, other, put_tuple, read_tuple, tuple_same};
-use hub_cells::{Cell, CellKind, Side, Tuple, allowed_crosses, cross};
+use hub_cells::{Cell, CellKind, Crossed, Names, Side, Tuple, allowed_crosses, cross};
 use kept_entries::Entry;
-use kj_value::{JFields, NoMemory};
+use kj_value::{JFields, NoMemory, copy};
 use std::alloc::Global;
-
-// A cell's values on the other side, and what is kept there of the first one.
-#[derive(Drop)]
-struct Marked {
-    tuple: Tuple,
-    kept: Option<Tuple>,
-}
 
 // Whether the values are kept beside what stands here: the other side allows them, they have no match
 // here, and they show what stands here.
@@ -55,18 +48,20 @@ fn alive(
     Ok(tuple_same(beside, &crossed.tuple))
 }
 
+// What is kept of the cell's other side, where it is alive.
 fn living(
     alloc: Global,
     c: &Cell,
     from: Side,
     beside: &Tuple,
-    kept: Option<Tuple>,
+    kept: &Left<'_>,
 ) -> Result<Option<Tuple>, NoMemory>
-    requires { CellFits (cell c.now) }
-    ensures { IfOk result (λ o. option_map tuple o
-        ≡ living (side from) (cell c.now) (tuple beside.now) (option_map tuple kept)) }
+    requires fits { CellFits (cell c.now) }
+    requires order { are_in_order (entries_left kept.now) ≡ true }
+    ensures { IfOk result (λ o. option_map tuple o ≡ living (side from) (cell c.now) (tuple beside.now)
+        (kept_of (names (sides.other (side from)) (cell c.now)) (entries_left kept.entry.now))) }
 {
-    match kept {
+    match kept_of(alloc, names_on(c, other(from)), kept)? {
         Some(values) => {
             let lives = alive(alloc, c, from, beside, &values)?;
             if lives { Ok(Some(values)) } else { Ok(None) }
@@ -89,48 +84,51 @@ fn is_same(c: &Cell) -> bool
     }
 }
 
-fn cross_mark(
+// Puts what the values cross to, and tells whether it matches them.
+fn put_crossed(
+    alloc: Global,
+    c: &Cell,
+    from: Side,
+    values: &Tuple,
+    fields: &mut JFields,
+) -> Result<bool, NoMemory>
+    requires { CanCross (side from) (kind c.now.kind) (tuple values.now) }
+    ensures fields { OnOk result (fields.new ≡ put (names (sides.other (side from)) (cell c.now))
+        (crossed_mark (side from) (kind c.now.kind) (tuple values.now) None).0 fields.old) }
+    ensures matched { IfOk result (λ b. cond b None (Some (tuple values.now))
+        ≡ (crossed_mark (side from) (kind c.now.kind) (tuple values.now) None).1) }
+{
+    let crossed = cross(alloc, c, from, values)?;
+    let Crossed { tuple, matched } = crossed;
+    put_tuple(alloc, names_on(c, other(from)), tuple, fields)?;
+    Ok(matched)
+}
+
+// A cell with these values, of whose other side nothing that is kept is alive.
+fn cross_values(
     alloc: Global,
     c: &Cell,
     from: Side,
     values: Tuple,
-    kept: Option<Tuple>,
-) -> Result<Marked, NoMemory>
+    fields: &mut JFields,
+    entries: &mut Vec<Entry>,
+) -> Result<(), NoMemory>
     requires { CanCross (side from) (kind c.now.kind) (tuple values) }
-    ensures { IfOk result (λ m. (tuple m.tuple, option_map tuple m.kept)
-        ≡ crossed_mark (side from) (kind c.now.kind) (tuple values) (option_map tuple kept)) }
+    ensures fields { OnOk result (fields.new ≡ put (names (sides.other (side from)) (cell c.now))
+        (crossed_mark (side from) (kind c.now.kind) (tuple values) None).0 fields.old) }
+    ensures entries { OnOk result (map turned entries.new.items ≡ map turned entries.old.items
+        ++ entry_of (names (side from) (cell c.now))
+        (crossed_mark (side from) (kind c.now.kind) (tuple values) None).1 []) }
 {
-    match kept {
-        Some(was) => Ok(Marked {
-            tuple: was,
-            kept: None,
-        }),
-        None => {
-            // Equal values are moved, not copied.
-            if is_same(c) {
-                return Ok(Marked {
-                    tuple: values,
-                    kept: None,
-                });
-            }
-            let crossed = cross(alloc, c, from, &values)?;
-            if crossed.matched {
-                Ok(Marked {
-                    tuple: crossed.tuple,
-                    kept: None,
-                })
-            } else {
-                Ok(Marked {
-                    tuple: crossed.tuple,
-                    kept: Some(values),
-                })
-            }
-        }
+    let matched = put_crossed(alloc, c, from, &values, fields)?;
+    if matched {
+        Ok(())
+    } else {
+        keep(alloc, names_on(c, from), values, entries)
     }
 }
 
-// A cell of whose other side nothing is kept.
-#[inline(never)]
+// A cell of whose other side nothing is kept. Where nothing stands at its names, nothing goes over.
 fn cross_bare(
     alloc: Global,
     c: &Cell,
@@ -148,15 +146,47 @@ fn cross_bare(
 {
     allowed_crosses();
     let own = names_on(c, from);
-    let theirs = names_on(c, other(from));
-    // Equal values are copied to where they go.
-    if is_same(c) {
-        return copy_over(alloc, own, theirs, x, fields);
+    match own {
+        Names::Empty => Ok(()),
+        Names::One(n) => match x.get(n.text.as_str()) {
+            None => Ok(()),
+            Some(v) => {
+                let values = Tuple::One(Some(copy(alloc, v)?));
+                cross_values(alloc, c, from, values, fields, entries)
+            }
+        },
+        Names::Two(_, _) => {
+            let values = read_tuple(alloc, own, x)?;
+            cross_values(alloc, c, from, values, fields, entries)
+        }
     }
-    let values = read_tuple(alloc, own, x)?;
-    let Marked { tuple, kept } = cross_mark(alloc, c, from, values, None)?;
-    put_tuple(alloc, theirs, tuple, fields)?;
-    keep(alloc, own, kept, entries)
+}
+
+// A cell with entries that may be kept of its other side.
+fn cross_kept(
+    alloc: Global,
+    c: &Cell,
+    from: Side,
+    x: &JFields,
+    kept: &Left<'_>,
+    fields: &mut JFields,
+    entries: &mut Vec<Entry>,
+) -> Result<(), NoMemory>
+    requires fits { CellFits (cell c.now) }
+    requires order { are_in_order (entries_left kept.now) ≡ true }
+    requires allowed { allows (side from) (cell c.now) (tuple_here (side from) (cell c.now) x.now) ≡ true }
+    ensures fields { OnOk result (fields.new ≡ put (names (sides.other (side from)) (cell c.now))
+        (mark_over (side from) (cell c.now) x.now (entries_left kept.entry.now)).0 fields.old) }
+    ensures entries { OnOk result (map turned entries.new.items ≡ map turned entries.old.items
+        ++ entry_of (names (side from) (cell c.now))
+        (mark_over (side from) (cell c.now) x.now (entries_left kept.entry.now)).1 []) }
+{
+    allowed_crosses();
+    let values = read_tuple(alloc, names_on(c, from), x)?;
+    match living(alloc, c, from, &values, kept)? {
+        Some(was) => put_tuple(alloc, names_on(c, other(from)), was, fields),
+        None => cross_values(alloc, c, from, values, fields, entries),
+    }
 }
 
 fn cross_cell(
@@ -177,18 +207,20 @@ fn cross_cell(
         ++ entry_of (names (side from) (cell c.now))
         (mark_over (side from) (cell c.now) x.now (entries_left kept.entry.now)).1 []) }
 {
+    // Equal values are copied to where they go: nothing that is kept of them is alive.
+    if is_same(c) {
+        return copy_over(
+            alloc,
+            names_on(c, from),
+            names_on(c, other(from)),
+            x,
+            fields,
+        );
+    }
     if kept.entries.is_empty() {
         return cross_bare(alloc, c, from, x, fields, entries);
     }
-    allowed_crosses();
-    let own = names_on(c, from);
-    let theirs = names_on(c, other(from));
-    let values = read_tuple(alloc, own, x)?;
-    let was = kept_of(alloc, theirs, kept)?;
-    let was = living(alloc, c, from, &values, was)?;
-    let Marked { tuple, kept } = cross_mark(alloc, c, from, values, was)?;
-    put_tuple(alloc, theirs, tuple, fields)?;
-    keep(alloc, own, kept, entries)
+    cross_kept(alloc, c, from, x, kept, fields, entries)
 }
 
 pub(crate) fn cross_cells(

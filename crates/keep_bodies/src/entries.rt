@@ -1,5 +1,5 @@
 //! The kept tuple of a cell.
-ghost use Rattle.std.specs.Prelude.{◌≡◌, ◌&&◌, [], ◌∷◌, ◌++◌, map, true, false, None, IfOk, OnOk, MatchOption, option_map, drop};
+ghost use Rattle.std.specs.Prelude.{◌≡◌, ◌&&◌, [], ◌∷◌, ◌++◌, map, true, false, None, Some, IfOk, OnOk, MatchOption, option_map, drop};
 ghost use Rattle.std.specs.Ordering.{is_eq, is_le, nat_cmp};
 ghost use Rattle.std.specs.Cmp.Lexicographic.{slice_cmp};
 ghost use Rattle.kj_value.specs.Pair.{pair_of};
@@ -146,25 +146,21 @@ pub(crate) fn kept_of(
     }
 }
 
+// Keeps values of a cell in an entry of this level.
 pub(crate) fn keep(
     alloc: Global,
     names: &Names,
-    kept: Option<Tuple>,
+    values: Tuple,
     entries: &mut Vec<Entry>,
 ) -> Result<(), NoMemory>
     ensures { OnOk result (map turned entries.new.items ≡ map turned entries.old.items
-        ++ entry_of (name_list names.now) (option_map tuple kept) []) }
+        ++ entry_of (name_list names.now) (Some (tuple values)) []) }
 {
-    match kept {
-        Some(values) => {
-            let mut was = JFields::new(alloc);
-            put_tuple(alloc, names, values, &mut was)?;
-            entries.push(Entry {
-                at: TextList::new(alloc),
-                was,
-            })?;
-            Ok(())
-        }
-        None => Ok(()),
-    }
+    let mut was = JFields::new(alloc);
+    put_tuple(alloc, names, values, &mut was)?;
+    entries.push(Entry {
+        at: TextList::new(alloc),
+        was,
+    })?;
+    Ok(())
 }

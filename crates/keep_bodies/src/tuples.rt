@@ -66,8 +66,8 @@ fn put_value(
 {
     match value {
         Some(v) => {
-            into.set(Txt::of(alloc, name.text.as_str())?, v)?;
-            Ok(())
+            let at = Txt::of(alloc, name.text.as_str())?;
+            into.set(at, v)
         }
         None => Ok(()),
     }
@@ -113,8 +113,7 @@ fn copy_value(
     match x.get(own.text.as_str()) {
         Some(v) => {
             let copied = copy(alloc, v)?;
-            into.set(Txt::of(alloc, theirs.text.as_str())?, copied)?;
-            Ok(())
+            into.set(Txt::of(alloc, theirs.text.as_str())?, copied)
         }
         None => Ok(()),
     }

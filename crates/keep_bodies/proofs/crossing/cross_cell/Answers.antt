@@ -1,8 +1,15 @@
-use Rattle.std.proofs.Common.{List, ap, ◌∙◌}
-use Rattle.hub_cells.specs.Seen.{side, cell, tuple}
-use Rattle.hub_cells.specs.Level.{Name, tuple_of, allows}
+use Rattle.std.proofs.Common.{map, refl}
+use Rattle.hub_cells.specs.Seen.{side, cell}
+use Rattle.keep_bodies.specs.Left.{entries_left}
+use Rattle.keep_bodies.specs.Names.{name_list}
+use Rattle.keep_bodies.specs.Turned.{turned}
+use Rattle.keep_bodies.proofs.Tests.{same_fields, same_entries}
 use Rattle.keep_bodies.proofs.crossing.cross_cell.Goals as goal
 
-pub cross_mark-requires : goal.cross_mark-requires
-cross_mark-requires c =
-    c.allowed_crosses.ensures (cell c.args.c.now) (side c.args.from) (tuple c.in_ok-values.values) c.requires.fits (ap (allows (side c.args.from) (cell c.args.c.now)) (c.in_ok-values.ensures ∙ ap (λ (ns : List Name). tuple_of ns c.args.x.now) c.names_on-own.ensures) ∙ c.requires.allowed)
+pub returns-then-is_same-clause-fields : goal.returns-then-is_same-clause-fields
+returns-then-is_same-clause-fields c =
+    same_fields c.copy_over.result (side c.args.from) (side c.other.result) (cell c.args.c.now) c.args.x.now c.args.fields.now c.copy_over.new.into (entries_left c.args.kept.now) (name_list c.names_on.result.now) (name_list c.names_on-then-is_same.result.now) (c.if-is_same.ensures refl) c.names_on.ensures c.other.ensures c.names_on-then-is_same.ensures c.copy_over.ensures
+
+pub returns-then-is_same-clause-entries : goal.returns-then-is_same-clause-entries
+returns-then-is_same-clause-entries c =
+    same_entries c.copy_over.result (side c.args.from) (cell c.args.c.now) c.args.x.now (entries_left c.args.kept.now) (map turned c.args.entries.now.items) (c.if-is_same.ensures refl)
