@@ -13,9 +13,11 @@ use Rattle.std.proofs.lemmas.Int.Digits.{digits_value_more}
 use Rattle.std.proofs.lemmas.Bool.{le-leb}
 use Rattle.std.proofs.lemmas.Bool.Decides.{nat_tests}
 use Rattle.form_urlencoded.specs.Form.{decode, DecodesTo}
+use Rattle.form_urlencoded.proofs.FormLemmas.{raw_pairs-nil}
 use Rattle.std.specs.Str.{bytes_eq}
 use Rattle.api_calls.specs.Cause.{bad_query}
-use Rattle.http_routes.specs.Queries.{Pairs, Rule, Verdict, bad, texts_of, value_of, is_limit, list_rules, first_refused, ListReads}
+use Rattle.http_routes.specs.Actions.{Action, get, list, create, replace, delete, group, crd, set_versions, trim, start, migration, migrations, raw, unpaged}
+use Rattle.http_routes.specs.Queries.{Pairs, Rule, Verdict, paged, bad, texts_of, pairs_of, value_of, is_limit, list_rules, first_refused, ListReads, ReadsQuery}
 use Rattle.http_routes.specs.Views.{pair_texts}
 
 -- ---- the first value of a key
@@ -152,3 +154,26 @@ pass_more v i inside digit = rw (drop_more v i 0 inside, digit) refl
 
 pub digit_small : (c : ℕ) → is_ascii_digit c ≡ true → c - 48 ≤ 9
 digit_small c digit = grind (arith, nat_tests)
+
+-- ---- no query
+
+no_pairs : (query : List ℕ) → query ≡ [] → pairs_of query ≡ []
+unfolding pairs_of
+no_pairs query is = rw (is, raw_pairs-nil) refl
+
+-- what an empty query says of every action
+pub reads_nothing : (a : Action) (query : List ℕ) → query ≡ [] → ReadsQuery a (pairs_of query) (paged unpaged)
+unfolding first_refused value_of
+reads_nothing (list v ns) query is = rw (no_pairs query is) (refl, refl, refl)
+reads_nothing (get v key) query is = rw (no_pairs query is) (refl, refl)
+reads_nothing (create v ns) query is = rw (no_pairs query is) (refl, refl)
+reads_nothing (replace v key) query is = rw (no_pairs query is) (refl, refl)
+reads_nothing (delete v key) query is = rw (no_pairs query is) (refl, refl)
+reads_nothing group query is = rw (no_pairs query is) (refl, refl)
+reads_nothing crd query is = rw (no_pairs query is) (refl, refl)
+reads_nothing set_versions query is = rw (no_pairs query is) (refl, refl)
+reads_nothing trim query is = rw (no_pairs query is) (refl, refl)
+reads_nothing start query is = rw (no_pairs query is) (refl, refl)
+reads_nothing (migration name) query is = rw (no_pairs query is) (refl, refl)
+reads_nothing migrations query is = rw (no_pairs query is) (refl, refl)
+reads_nothing (raw key) query is = rw (no_pairs query is) (refl, refl)

@@ -239,6 +239,12 @@ fn judge(
 pub fn read_query(alloc: Global, action: Action<'_>, query: &[u8]) -> Result<Queried, NoMemory>
     ensures { IfOk result (λ q. ReadsQuery (action_of action.entry) (pairs_of query.now) (verdict_of q)) }
 {
+    if query.is_empty() {
+        return Ok(Queried::Paged(Paging {
+            limit: 0,
+            from: None,
+        }));
+    }
     let pairs = pairs(alloc, query)?;
     judge(alloc, action, pairs.as_slice())
 }
