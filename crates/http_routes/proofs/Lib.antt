@@ -3,3 +3,5 @@ mod Pieces
 mod Nothing
 mod Named
 mod Values
+mod Plain
+mod Served

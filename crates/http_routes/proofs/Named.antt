@@ -1,9 +1,14 @@
 -- Segments that name a resource.
-use Rattle.std.proofs.Common.{◌≡◌, ◌∙◌, ◌<◌, ℕ, true, List, [], ◌∷◌, ap}
-use Rattle.std.specs.Prelude.{IsTrue}
+use Rattle.std.proofs.Common.{◌≡◌, ◌∙◌, ◌<◌, ℕ, true, List, [], ◌∷◌, Option, None, Some, ap, refl, sym, subst}
+use Rattle.std.specs.Prelude.{IsTrue, IfSome, MatchOption}
+use Rattle.std.specs.Borrow.{Bor}
 use Rattle.kube_meta.specs.Names.{is_name, is_namespace}
 use Rattle.api_calls.specs.Meaning.{Meaning}
-use Rattle.http_routes.specs.Paths.{group, everywhere, collection, object, crd, crd_status, migrations, migration, raw, Names, IsCrd, IsMigrations, IsNamespaced, path_of, crd_name, apis_word, namespaces_word, crd_group, crd_version, crds_word, migration_group, migration_version, migrations_word, raw_word, status_word}
+use Rattle.http_routes.specs.Paths.{group, everywhere, collection, object, crd, crd_status, migrations, migration, raw, Names, NamesNothing, IsCrd, IsMigrations, IsNamespaced, path_of, crd_name, apis_word, namespaces_word, crd_group, crd_version, crds_word, migration_group, migration_version, migrations_word, raw_word, status_word}
+use Rattle.http_routes.specs.Views.{resource_of, Finds, FitsResource}
+use Rattle.http_routes.specs.declared.resource.Resource as resources
+use Rattle.http_routes.specs.declared.finding.Found.{Found}
+use Rattle.http_routes.specs.declared.finding.Found.TheVariants as finds
 
 -- a text that was found for a part
 abbrev pub IsNamespaceOf : List ℕ → List ℕ → Type 0
@@ -88,3 +93,11 @@ names_object m v a b c d f g h ns name known i k l =
     let u : ns ≡ f = k.0 in
     let w : name ≡ h = l.0 in
     ((known, record { ns = good_namespace f ns k; name = good_name h name l }), cc)
+
+-- ---- what is found
+
+pub finds_option : (m : Meaning) (ss : List (List ℕ)) (query : Bor (List ℕ)) (found : Option resources.Resource) (f : Found)
+    → MatchOption found (f ≡ finds.Nothing) (λ r. f ≡ finds.Named r query)
+    → MatchOption found (NamesNothing m ss) (λ r. Names m ss (resource_of r)) → IfSome found FitsResource → Finds m ss query.now f
+finds_option m ss query None f is names fits = subst (Finds m ss query.now) (sym is) names
+finds_option m ss query (Some r) f is names fits = subst (Finds m ss query.now) (sym is) (names, fits, refl)

@@ -1,10 +1,12 @@
 -- The pieces of a path, read from its front.
-use Rattle.std.proofs.Common.{◌≡◌, ◌≢◌, ◌==◌, ℕ, ◌+◌, ◌<◌, ◌≤◌, Bool, true, false, cond, List, [], ◌∷◌, ◌++◌, length, take, drop, get_or, refl, ap, sym, ◌∙◌, append_assoc, add-one, arith, drop-cons, length-append}
-use Rattle.std.proofs.lemmas.List.{append-nil, take_more, drop_all, take_all, length-map}
+use Rattle.std.proofs.Common.{◌≡◌, ◌≢◌, ◌==◌, ℕ, ◌+◌, ◌<◌, ◌≤◌, Bool, true, false, cond, List, [], ◌∷◌, ◌++◌, length, map, take, drop, set, get_or, refl, ap, sym, ◌∙◌, append_assoc, add-one, arith, drop-cons, length-append}
+use Rattle.std.specs.Borrow.{Bor}
+use Rattle.std.proofs.lemmas.List.{append-nil, take_more, take_more_set, drop_all, take_all, length-map, map-append}
 use Rattle.std.proofs.lemmas.Bool.Decides.{nat_tests}
 use Rattle.std.specs.List.{onto_first}
 use Rattle.percent_encoding.specs.Percent.{percent_decode}
 use Rattle.http_routes.specs.Paths.{pieces, segments, slash}
+use Rattle.http_routes.specs.Views.{now_of}
 
 -- a text before the first of some pieces
 abbrev pub under_first : List ℕ → List (List ℕ) → List (List ℕ)
@@ -26,7 +28,7 @@ pub under_first-nil : (bs : List ℕ) → under_first [] (pieces bs) ≡ pieces 
 under_first-nil [] = refl
 under_first-nil (b ∷ bs) = onto_nothing (b == slash) b (pieces bs) (pieces bs)
 
-front_is : (path : List ℕ) (i d : ℕ) → i < length path → drop i path ≡ get_or path i d ∷ drop (i + 1) path
+pub front_is : (path : List ℕ) (i d : ℕ) → i < length path → drop i path ≡ get_or path i d ∷ drop (i + 1) path
 front_is path i d within =
     drop-cons path i d within ∙ ap (λ (n : ℕ). get_or path i d ∷ drop n path) (sym (add-one i))
 
@@ -102,3 +104,24 @@ too_many path rest done is many =
     let same : length (segments rest) ≡ length (pieces rest) = length-map (pieces rest) percent_decode in
     let some : 0 < length (pieces rest) = length_some (pieces rest) (piece_some rest) in
     omega arith
+
+-- ---- segments that are lent
+
+-- one more of them, written behind those so far
+pub one_more : (parts : List (Bor (List ℕ))) (count : ℕ) (segment : Bor (List ℕ)) (all left rest : List (List ℕ)) → count < length parts
+    → all ≡ map now_of (take count parts) ++ left → left ≡ segment.now ∷ rest
+    → all ≡ map now_of (take (count + 1) (set parts count segment)) ++ rest
+one_more parts count segment all left rest within so_far is =
+    let pushed : map now_of (take (count + 1) (set parts count segment)) ≡ map now_of (take count parts) ++ segment.now ∷ [] =
+    rw (take_more_set parts count segment within, map-append) refl in
+    so_far
+    ∙ ap (λ (ss : List (List ℕ)). map now_of (take count parts) ++ ss) is
+    ∙ sym (append_assoc (map now_of (take count parts)) (segment.now ∷ []) rest)
+    ∙ ap (λ (ss : List (List ℕ)). ss ++ rest) (sym pushed)
+
+-- the last one
+pub last_one : (parts : List (Bor (List ℕ))) (count : ℕ) (segment : Bor (List ℕ)) (all left : List (List ℕ)) → count < length parts
+    → all ≡ map now_of (take count parts) ++ left → left ≡ segment.now ∷ []
+    → all ≡ map now_of (take (count + 1) (set parts count segment))
+last_one parts count segment all left within so_far is =
+    one_more parts count segment all left [] within so_far is ∙ append-nil (map now_of (take (count + 1) (set parts count segment)))

@@ -1,10 +1,11 @@
 -- What a request asks for: a call, or why there is none. First the path, then the method, then the query.
-use Rattle.std.specs.Prelude.{◌≡◌, ◌==◌, ℕ, List, None, Some}
+use Rattle.std.specs.Prelude.{◌≡◌, ◌==◌, ℕ, Bool, false, ◌||◌, List, None, Some}
 use Rattle.std.specs.List.{before_first, after_first}
+use Rattle.percent_encoding.specs.Percent.{percent_sign}
 use Rattle.api_calls.specs.Meaning.{Meaning}
 use Rattle.api_calls.specs.Calls.{Call}
 use Rattle.api_calls.specs.Cause.{WhyView}
-use Rattle.http_routes.specs.Paths.{Resource, Names, NamesNothing, segments}
+use Rattle.http_routes.specs.Paths.{Resource, Names, NamesNothing, segments, slash}
 use Rattle.http_routes.specs.Actions.{Action, Paging, row_of, cell, call_of}
 use Rattle.http_routes.specs.Queries.{Pairs, ReadsQuery, pairs_of, paged, bad}
 
@@ -41,9 +42,23 @@ Routes m method target body (bad_request why) = (r : Resource) × (a : Action) �
 
 -- ---- for private clauses
 
+-- a byte behind a segment, or one that may begin an escape
+abbrev pub is_stop : ℕ → Bool
+is_stop b = b == percent_sign || (b == slash || b == question_mark)
+
+abbrev pub IsPlain : ℕ → Type 0
+IsPlain b = is_stop b ≡ false
+
 -- what a request comes to whose path and method are right
 abbrev pub IsAsked : Action → Pairs → List ℕ → Route → Type 0
 IsAsked a ps body (calls c) = (p : Paging) × ReadsQuery a ps (paged p) × (c ≡ call_of a body p)
 IsAsked a ps body no_resource = ⊥
 IsAsked a ps body method_not_allowed = ⊥
 IsAsked a ps body (bad_request why) = ReadsQuery a ps (bad why)
+
+-- what a request comes to whose path is right
+abbrev pub IsServed : Resource → List ℕ → Pairs → List ℕ → Route → Type 0
+IsServed r method ps body (calls c) = (a : Action) × (p : Paging) × (cell (row_of r) method ≡ Some a) × ReadsQuery a ps (paged p) × (c ≡ call_of a body p)
+IsServed r method ps body no_resource = ⊥
+IsServed r method ps body method_not_allowed = cell (row_of r) method ≡ None
+IsServed r method ps body (bad_request why) = (a : Action) × (cell (row_of r) method ≡ Some a) × ReadsQuery a ps (bad why)

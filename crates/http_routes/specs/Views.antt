@@ -1,5 +1,5 @@
 -- What the crate's values are seen as.
-use Rattle.std.specs.Prelude.{◌≤◌, ℕ, List, Option, None, Some, length}
+use Rattle.std.specs.Prelude.{◌≡◌, ◌≤◌, ℕ, List, Option, None, Some, length}
 use Rattle.std.specs.Borrow.{Bor}
 use Rattle.std.specs.Cow.{cow_str_bytes}
 use Rattle.std.specs.declared.borrow.CowStr.{CowStr}
@@ -8,12 +8,15 @@ use Rattle.kube_meta.specs.Key.{KeyView}
 use Rattle.kube_meta.specs.declared.key.TheConstants.{NAMESPACE_BYTES, NAME_BYTES}
 use Rattle.api_calls.specs.Calls as calls
 use Rattle.api_calls.specs.Cause.{why_of}
+use Rattle.api_calls.specs.Meaning.{Meaning}
 use Rattle.api_calls.specs.Pages.{Place}
 use Rattle.api_calls.specs.declared.token.Token.{Token}
 use Rattle.http_routes.specs.Paths as path
 use Rattle.http_routes.specs.Actions as action
 use Rattle.http_routes.specs.Queries as query
 use Rattle.http_routes.specs.Routes as route
+use Rattle.http_routes.specs.declared.finding.Found.{Found}
+use Rattle.http_routes.specs.declared.finding.Found.TheVariants as finds
 use Rattle.http_routes.specs.declared.resource.Resource.{Resource}
 use Rattle.http_routes.specs.declared.resource.Resource.TheVariants as resources
 use Rattle.http_routes.specs.declared.action.Action.{Action}
@@ -150,6 +153,16 @@ route_of routes.MethodNotAllowed = route.method_not_allowed
 route_of (routes.BadRequest why) = route.bad_request (why_of why)
 
 -- ---- for private clauses
+
+-- bytes lent
+abbrev pub now_of : Bor (List ℕ) → List ℕ
+now_of b = b.now
+
+-- what was found for these segments before this query
+abbrev pub Finds : Meaning → List (List ℕ) → List ℕ → Found → Type 0
+Finds m ss query (finds.Named r q) = path.Names m ss (resource_of r) × FitsResource r × (query ≡ q.now)
+Finds m ss query finds.Nothing = path.NamesNothing m ss
+Finds m ss query finds.Escaped = Unit {0}
 
 abbrev pub pair_texts : {Z : Type 0} → CowStr Z × CowStr Z → List ℕ × List ℕ
 pair_texts p = (cow_str_bytes p.0, cow_str_bytes p.1)

@@ -7,6 +7,7 @@
 
 mod action;
 mod calls;
+mod finding;
 mod names;
 mod parts;
 mod query;

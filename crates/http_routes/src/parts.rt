@@ -3,7 +3,8 @@ ghost use Rattle.std.specs.Prelude.{◌≡◌, ◌<◌, [], ◌∷◌, length, g
 ghost use Rattle.std.specs.Cow.{cow_slice_items};
 ghost use Rattle.percent_encoding.specs.Percent.{percent_decode};
 ghost use Rattle.http_routes.specs.Paths.{pieces, segments as segments_of};
-ghost use Rattle.http_routes.specs.Routes.{path_in, query_in};
+ghost use Rattle.http_routes.specs.Routes.{path_in, query_in, is_stop as is_stop_of};
+ghost use Rattle.http_routes.specs.Views.{now_of};
 
 use kj_value::NoMemory;
 use percent_encoding::percent_decode;
@@ -12,6 +13,13 @@ use std::borrow::CowSlice;
 
 /// The most segments of a path that names something, with the empty one before its first slash.
 pub const MOST_SEGMENTS: usize = 8;
+
+/// Whether a segment ends at this byte, or may have an escape there. Letters are told by the first test.
+pub fn is_stop(byte: u8) -> bool
+    ensures { result ≡ is_stop_of byte }
+{
+    byte <= b'?' && (byte == b'%' || byte == b'/' || byte == b'?')
+}
 
 /// The path of a target, and its query.
 pub fn cut_target(target: &[u8]) -> (&[u8], &[u8])
@@ -64,10 +72,21 @@ pub fn segments(alloc: Global, path: &[u8]) -> Result<Option<Vec<CowSlice<'_, u8
     Ok(None)
 }
 
-/// The segment at this place.
-pub fn part<'b>(parts: &'b [CowSlice<'_, u8>], i: usize) -> &'b [u8]
-    requires { i < length parts.now }
-    ensures { result.now ≡ get_or (map cow_slice_items parts.now) i [] }
+/// The segments, lent.
+pub fn lent<'b>(alloc: Global, parts: &'b [CowSlice<'_, u8>]) -> Result<Vec<&'b [u8]>, NoMemory>
+    ensures { IfOk result (λ lent. map now_of lent.items ≡ map cow_slice_items parts.now) }
 {
-    parts[i].as_slice()
+    let mut lent = Vec::with_capacity(alloc, parts.len())?;
+    for part in parts {
+        lent.push(part.as_slice())?;
+    }
+    Ok(lent)
+}
+
+/// The segment at this place.
+pub fn part<'b>(parts: &[&'b [u8]], i: usize) -> &'b [u8]
+    requires { i < length parts.now }
+    ensures { result.now ≡ get_or (map now_of parts.now) i [] }
+{
+    parts[i]
 }

@@ -1,9 +1,8 @@
 //! What a path names.
 ghost use Rattle.std.specs.Prelude.{◌≡◌, ◌≢◌, ◌<◌, ◌≤◌, ◌++◌, ◌∷◌, [], ℕ, List, length, map, MatchOption, IfSome};
-ghost use Rattle.std.specs.Cow.{cow_slice_items};
 ghost use Rattle.kube_meta.specs.Names.{dot};
 ghost use Rattle.http_routes.specs.Paths.{crd_name, IsCrd, IsMigrations, IsNamespaced, Names, NamesNothing, path_of};
-ghost use Rattle.http_routes.specs.Views.{resource_of, FitsResource};
+ghost use Rattle.http_routes.specs.Views.{resource_of, now_of, FitsResource};
 
 use crate::names::{name_text, namespace_text};
 use crate::parts::part;
@@ -13,7 +12,6 @@ use crate::words::{
     expect_namespaces, expect_raw, expect_status,
 };
 use api_calls::Versions;
-use std::borrow::CowSlice;
 
 /// What a path names, lent.
 #[derive(Clone, Copy, Drop)]
@@ -266,10 +264,10 @@ fn object_at<'b, V: Versions>(
 }
 
 /// What the segments of a path name.
-pub fn named<'b, V: Versions>(versions: &V, parts: &'b [CowSlice<'_, u8>]) -> Option<Resource<'b>>
+pub fn named<'b, V: Versions>(versions: &V, parts: &[&'b [u8]]) -> Option<Resource<'b>>
     ensures names { MatchOption result
-        (NamesNothing (V.meaning versions.now) (map cow_slice_items parts.now))
-        (λ r. Names (V.meaning versions.now) (map cow_slice_items parts.now) (resource_of r)) }
+        (NamesNothing (V.meaning versions.now) (map now_of parts.now))
+        (λ r. Names (V.meaning versions.now) (map now_of parts.now) (resource_of r)) }
     ensures fits { IfSome result FitsResource }
 {
     if parts.len() < 3 {
