@@ -1,0 +1,394 @@
+#!/usr/bin/env python3
+"""Checks the webhook from outside, with the files beside this one:
+
+    python3 examples/webhook/check.py [--slow] PROGRAM
+
+PROGRAM is a built kubeconv, or the launcher ./kubeconv. A certificate is made by certificate.sh, serve.py serves HTTPS with it and HTTP
+without it, and openssl, curl and a client that asks as an API server does, 40 at once, judge what is answered. One line is printed for
+each thing that was looked at, `skipped` where a tool isn't there; the status is 1 where something is wrong. With --slow it is also
+waited for the 30 seconds after which a silent peer is let go.
+"""
+import concurrent.futures
+import http.client
+import json
+import os
+import pathlib
+import shutil
+import signal
+import socket
+import ssl
+import subprocess
+import sys
+import tempfile
+import time
+
+HERE = pathlib.Path(__file__).resolve().parent
+TOP = HERE.parent.parent
+NAME = "kubeconv-webhook.default.svc"
+FILES = ["--crd", str(TOP / "examples/crontabs.json"), "--rules", str(TOP / "examples/crontabs.rules.json")]
+REVIEW = (HERE / "review.json").read_bytes()
+ANSWER = (HERE / "answer.json").read_bytes()
+CALLERS, CALLS = 40, 5
+WRONG = []
+
+
+class Skipped(Exception):
+    """What isn't looked at here, and why."""
+
+
+def looked(what, look, *given):
+    """One thing looked at, and the line that tells it."""
+    try:
+        said = look(*given)
+        print(f"ok       {what}" + (f": {said}" if said else ""), flush=True)
+    except Skipped as why:
+        print(f"skipped  {what}: {why}", flush=True)
+    except Exception as wrong:  # whatever goes wrong is told, and the rest is looked at
+        WRONG.append(what)
+        print(f"wrong    {what}: {type(wrong).__name__}: {wrong}", flush=True)
+
+
+def wants(tool):
+    if shutil.which(tool) is None:
+        raise Skipped(f"there is no {tool}")
+
+
+def same(came, wanted):
+    if came != wanted:
+        raise AssertionError(f"{came!r} came, and {wanted!r} was wanted")
+
+
+class Serving:
+    """serve.py at a port that the system chose."""
+
+    def __init__(self, program, tls=None):
+        secure = ["--cert", tls / "tls.crt", "--key", tls / "tls.key"] if tls else []
+        command = [sys.executable, HERE / "serve.py", *secure, "0", program, "review", *FILES]
+        self.log = tempfile.TemporaryFile()
+        self.process = subprocess.Popen(list(map(str, command)), stdout=subprocess.PIPE, stderr=self.log, text=True)
+        line = self.process.stdout.readline()
+        if not line.startswith("listening on "):
+            self.log.seek(0)
+            raise AssertionError(f"serve.py didn't begin: {self.log.read().decode()}")
+        self.url = line.split()[-1]
+        self.port = int(self.url.rsplit(":", 1)[1])
+        self.trust = ssl.create_default_context(cafile=tls / "ca.pem") if tls else None
+
+    def socket(self):
+        plain = socket.create_connection(("127.0.0.1", self.port), timeout=60)
+        return self.trust.wrap_socket(plain, server_hostname=NAME) if self.trust else plain
+
+    def caller(self):
+        """A connection that checks the certificate by the Service's name, as an API server does."""
+        caller = http.client.HTTPConnection(NAME, self.port, timeout=60)
+        caller.sock = self.socket()
+        caller.auto_open = False  # so that a connection that ended is told
+        return caller
+
+
+def post(caller, body, **headers):
+    caller.request("POST", "/convert?timeout=30s", body, {"Content-Type": "application/json", "Accept": "application/json, */*", **headers})
+    answer = caller.getresponse()
+    return answer.status, answer.read()
+
+
+def crontab(number, version):
+    meta = {"name": f"c{number}", "namespace": "default", "uid": f"uid-{number}", "resourceVersion": str(number), "generation": 1}
+    fields = {"hostPort": f"h{number}:80", "timeoutSeconds": number % 1000} if version == "v1beta1" else {"host": f"h{number}", "port": "80"}
+    return {"apiVersion": f"example.com/{version}", "kind": "CronTab", "metadata": meta, **fields}
+
+
+def review(uid, wanted, objects):
+    request = {"uid": uid, "desiredAPIVersion": f"example.com/{wanted}", "objects": objects}
+    return json.dumps({"apiVersion": "apiextensions.k8s.io/v1", "kind": "ConversionReview", "request": request})
+
+
+def judged(text, uid, wanted, objects):
+    """What an API server looks at in a response that succeeded."""
+    told = json.loads(text)
+    same((told["apiVersion"], told["kind"]), ("apiextensions.k8s.io/v1", "ConversionReview"))
+    response = told["response"]
+    same((response["uid"], response["result"]["status"]), (uid, "Success"))
+    came = response["convertedObjects"]
+    same(len(came), len(objects))
+    for one, other in zip(came, objects):
+        same((one["apiVersion"], one["kind"]), (f"example.com/{wanted}", other["kind"]))
+        same(one["metadata"], other["metadata"])
+        same(one.get("host", other.get("host")) if wanted == "v1" else one["hostPort"], host_of(other, wanted))
+
+
+def host_of(other, wanted):
+    if wanted == "v1":
+        return other["hostPort"].partition(":")[0] if "hostPort" in other else other["host"]
+    return other.get("hostPort") or f"{other['host']}:{other['port']}"
+
+
+def calls(serving, number):
+    """One caller: CALLS reviews over one connection, of both versions by turns."""
+    caller = serving.caller()
+    for call in range(CALLS):
+        wanted, other = ("v1", "v1beta1") if (number + call) % 2 else ("v1beta1", "v1")
+        uid = f"{number}-{call}"
+        objects = [crontab(item, other) for item in range(1, 3 + 7 * number)]
+        status, text = post(caller, review(uid, wanted, objects))
+        same(status, 200)
+        judged(text, uid, wanted, objects)
+    caller.close()
+
+
+def many(serving):
+    silent = [socket.create_connection(("127.0.0.1", serving.port)) for _ in range(CALLERS)]
+    began = time.monotonic()
+    with concurrent.futures.ThreadPoolExecutor(CALLERS) as pool:
+        list(pool.map(lambda number: calls(serving, number), range(CALLERS)))
+    for one in silent:
+        one.close()
+    return f"{CALLERS} callers of {CALLS} reviews each, beside {CALLERS} silent peers, in {time.monotonic() - began:.1f} s"
+
+
+def failures(serving):
+    """Whatever can be read as a review is answered with its uid, and the object that is at fault."""
+    good, deep = crontab(1, "v1beta1"), 1
+    for _ in range(64):
+        deep = {"a": deep}
+    table = [
+        (review("u2", "v1", [good, {**good, "timeoutSeconds": 2000}]), "object 1: timeoutSeconds: Maximum"),
+        (review("u2", "v1", [good, {**good, "extra": {"a": [1, 2.5]}}]), "object 1: extra.a[1]: NotWhole"),
+        (review("u2", "v1", [good, good, {**good, "extra": deep}]), "object 2: TooDeep"),
+        (review("u2", "v9", [good]), "desiredAPIVersion: Unknown"),
+        (review("u2", "v1", [good, 7]), "NotReview request.objects[1]"),
+        (review("u2", "v1", [good]).replace("k8s.io/v1", "k8s.io/v1beta1"), "NotReview apiVersion"),
+    ]
+    caller = serving.caller()
+    for body, message in table:
+        status, text = post(caller, body)
+        same((status, json.loads(text)["response"]), (200, {"result": {"message": message, "status": "Failure"}, "uid": "u2"}))
+    return f"{len(table)} reviews over one connection"
+
+
+def refusals(serving):
+    """What is no review has a code, and a connection goes on where it can."""
+    caller = serving.caller()
+    for body in (b"", b"nonsense", b"[]", b'{"request":{"uid":7}}', review("", "v1", []).encode()):
+        same(post(caller, body)[0], 400)
+    caller.request("GET", "/healthz")
+    answer = caller.getresponse()
+    same((answer.status, answer.read()), (200, b"ok\n"))
+    same(post(caller, REVIEW), (200, ANSWER))
+    for head, code in (
+        ("POST / HTTP/1.1\r\nHost: a\r\n\r\n", 411),
+        ("POST / HTTP/1.1\r\nHost: a\r\nContent-Length: x\r\n\r\n", 400),
+        ("POST / HTTP/1.1\r\nHost: a\r\nContent-Length: 2\r\nTransfer-Encoding: chunked\r\n\r\n0\r\n\r\n", 400),
+        ("POST / HTTP/1.1\r\nHost: a\r\nTransfer-Encoding: chunked\r\n\r\nz\r\n", 400),
+        ("POST / HTTP/1.1\r\nHost: a\r\nContent-Length: 67108865\r\n\r\n", 413),
+    ):
+        with serving.socket() as peer:
+            peer.sendall(head.encode())
+            same(peer.makefile("rb").readline().split()[1], str(code).encode())
+    return "400, 411 and 413, and 200 behind them"
+
+
+def chunked(serving):
+    """A body in chunks, of one byte and of many, twice over one connection."""
+    caller = serving.caller()
+    for cut in (1, 100):
+        parts = [REVIEW[at : at + cut] for at in range(0, len(REVIEW), cut)]
+        caller.request("POST", "/convert", iter(parts), {"Transfer-Encoding": "chunked"}, encode_chunked=True)
+        answer = caller.getresponse()
+        same((answer.status, answer.read()), (200, ANSWER))
+
+
+def long(serving):
+    """A review of more bytes than one run of the program reads, and one of them at fault."""
+    objects = [crontab(item, "v1beta1") for item in range(24_000)]
+    caller = serving.caller()
+    body = review("long", "v1", objects)
+    status, text = post(caller, body)
+    same(status, 200)
+    judged(text, "long", "v1", objects)
+    objects[23_000]["timeoutSeconds"] = 1001
+    status, text = post(caller, review("long", "v1", objects))
+    same((status, json.loads(text)["response"]["result"]["message"]), (200, "object 23000: timeoutSeconds: Maximum"))
+    return f"{len(body):,} bytes"
+
+
+def by_openssl(serving, tls):
+    wants("openssl")
+    for words in (
+        ["verify", "-CAfile", tls / "ca.pem", "-purpose", "sslserver", "-verify_hostname", NAME, tls / "tls.crt"],
+        ["s_client", "-connect", f"127.0.0.1:{serving.port}", "-servername", NAME, "-CAfile", tls / "ca.pem", "-verify_return_error",
+         "-verify_hostname", NAME, "-brief"],
+    ):  # fmt: skip
+        done = subprocess.run(["openssl", *map(str, words)], input="", capture_output=True, text=True, timeout=60)
+        same((words[0], done.returncode), (words[0], 0))
+    done = subprocess.run(["openssl", "s_client", "-connect", f"127.0.0.1:{serving.port}", "-tls1_1"], input="", capture_output=True, text=True)
+    if done.returncode == 0:
+        raise AssertionError("TLS 1.1 was taken")
+
+
+def by_curl(serving, tls):
+    wants("curl")
+    at = ["--resolve", f"{NAME}:{serving.port}:127.0.0.1", f"https://{NAME}:{serving.port}/convert"]
+    words = ["curl", "-sS", "--data-binary", f"@{HERE / 'review.json'}"]
+    done = subprocess.run([*words, "--cacert", str(tls / "ca.pem"), *at], capture_output=True)
+    same((done.returncode, done.stdout), (0, ANSWER))
+    same(subprocess.run([*words, *at], capture_output=True).returncode, 60)  # without the authority it isn't trusted
+
+
+def plain(program):
+    """Without --cert it serves HTTP, and curl posts a file."""
+    wants("curl")
+    serving = Serving(program)
+    done = subprocess.run(["curl", "-sS", "--data-binary", f"@{HERE / 'review.json'}", serving.url], capture_output=True)
+    same(done.stdout, ANSWER)
+    serving.process.send_signal(signal.SIGINT)
+    same(serving.process.wait(60), 0)
+
+
+def faulty(program):
+    """Files that the program refuses end it before it listens."""
+    words = [sys.executable, HERE / "serve.py", "0", program, "review", "--crd", FILES[3], "--rules", FILES[1]]
+    done = subprocess.run(list(map(str, words)), capture_output=True, text=True)
+    same((done.returncode, done.stdout, done.stderr), (1, "", f"kubeconv: {FILES[3]}: apiVersion: Shape\n"))
+
+
+def renewed(serving, tls):
+    """A certificate that is put in the place of the old one is the one of the next connection."""
+    before = serving.socket().getpeercert()["serialNumber"]
+    certificate(tls / "new")
+    for file in ("tls.key", "tls.crt"):
+        os.replace(tls / "new" / file, tls / file)
+    serving.trust.load_verify_locations(tls / "new" / "ca.pem")
+    if serving.socket().getpeercert()["serialNumber"] == before:
+        raise AssertionError("the old certificate is still served")
+
+
+def silent_peers(serving):
+    """A peer that says nothing, and one that says a byte now and then, are let go after 30 seconds."""
+    began = time.monotonic()
+    peers = [serving.socket(), serving.socket(), socket.create_connection(("127.0.0.1", serving.port))]
+    peers[1].sendall(b"POST / HTTP/1.1\r\nContent-Length: 90\r\n\r\n")
+    ended = {}
+    while len(ended) < len(peers) and time.monotonic() - began < 45:
+        for place, peer in enumerate(peers):
+            peer.settimeout(0.2)
+            try:
+                if place == 1 and place not in ended:
+                    peer.sendall(b" ")
+                if place not in ended and not peer.recv(1):
+                    ended[place] = time.monotonic() - began
+            except TimeoutError:
+                pass
+            except OSError:
+                ended.setdefault(place, time.monotonic() - began)
+    same(sorted(ended), [0, 1, 2])
+    same([29 < seconds < 36 for seconds in ended.values()], [True] * 3)
+    return "after " + ", ".join(f"{ended[place]:.1f}" for place in range(3)) + " s"
+
+
+def stopped(serving):
+    """SIGTERM while a review is answered: its answer comes, and then the end."""
+    caller = serving.caller()
+    objects = [crontab(item, "v1beta1") for item in range(3_000)]
+    body = review("last", "v1", objects).encode()
+    caller.putrequest("POST", "/convert")
+    caller.putheader("Content-Length", str(len(body)))
+    caller.endheaders(body[:-1])
+    time.sleep(0.3)
+    serving.process.send_signal(signal.SIGTERM)
+    time.sleep(0.3)
+    caller.send(body[-1:])
+    answer = caller.getresponse()
+    judged(answer.read(), "last", "v1", objects)
+    same((answer.getheader("Connection"), serving.process.wait(60)), ("close", 0))
+
+
+def certificate(to):
+    done = subprocess.run(["sh", str(HERE / "certificate.sh"), str(to), NAME], capture_output=True, text=True)
+    same((done.returncode, done.stderr), (0, ""))
+
+
+def manifests(program):
+    """The manifests name each other rightly, and their definition is the one of examples/."""
+    try:
+        import yaml
+    except ImportError:
+        raise Skipped("there is no Python module yaml") from None
+    deployment, service = yaml.safe_load_all((HERE / "manifests/webhook.yaml").read_text())
+    crd = yaml.safe_load((HERE / "manifests/crd.yaml").read_text())
+    asked = crd["spec"]["conversion"]["webhook"]["clientConfig"]["service"]
+    same((asked["name"], asked["namespace"]), (service["metadata"]["name"], service["metadata"]["namespace"]))
+    same((f"{asked['name']}.{asked['namespace']}.svc", asked["port"]), (NAME, service["spec"]["ports"][0]["port"]))
+    pod = deployment["spec"]["template"]
+    same(service["spec"]["selector"], pod["metadata"]["labels"])
+    same(service["spec"]["ports"][0]["targetPort"], pod["spec"]["containers"][0]["ports"][0]["name"])
+    same(str(pod["spec"]["containers"][0]["ports"][0]["containerPort"]) in (HERE / "Dockerfile").read_text(), True)
+    same(crd["spec"]["versions"], json.loads((TOP / "examples/crontabs.json").read_text())["spec"]["versions"])
+    with tempfile.TemporaryDirectory() as to:
+        made = subprocess.run([sys.executable, TOP / "tools/prepare_crd.py", HERE / "manifests/crd.yaml"], capture_output=True)
+        (pathlib.Path(to) / "crd.json").write_bytes(made.stdout)
+        words = [program, "review", "--crd", f"{to}/crd.json", *FILES[2:]]
+        same(subprocess.run(words, input=REVIEW, capture_output=True).stdout, ANSWER)
+
+
+def image(program):
+    """The image is built where there is a Docker daemon, and answers a review."""
+    wants("docker")
+    if subprocess.run(["docker", "info"], capture_output=True).returncode != 0:
+        raise Skipped("there is no Docker daemon")
+    with tempfile.TemporaryDirectory() as to:
+        room = pathlib.Path(to)
+        (room / "examples/webhook").mkdir(parents=True)
+        shutil.copy(program, room / "program")
+        shutil.copy(HERE / "serve.py", room / "examples/webhook")
+        words = ["docker", "build", "-q", "-f", str(HERE / "Dockerfile"), "--build-arg", "PROGRAM=program", to]
+        built = subprocess.run(words, capture_output=True, text=True)
+        if built.returncode != 0:
+            raise Skipped(f"docker build: {built.stderr.strip().splitlines()[-1]}")
+    mounts = ["-v", f"{FILES[1]}:/definition/crd.json:ro", "-v", f"{FILES[3]}:/definition/rules.json:ro"]
+    words = ["docker", "run", "--rm", "-i", *mounts, "--entrypoint", "/kubeconv", built.stdout.strip(), "review",
+             "--crd", "/definition/crd.json", "--rules", "/definition/rules.json"]  # fmt: skip
+    same(subprocess.run(words, input=REVIEW, capture_output=True).stdout, ANSWER)
+
+
+def secure(program, slow):
+    """What is looked at over HTTPS."""
+    with tempfile.TemporaryDirectory() as to:
+        tls = pathlib.Path(to) / "tls"
+        certificate(tls)
+        serving = Serving(program, tls)
+        looked("openssl: the chain, the name, no TLS 1.1", by_openssl, serving, tls)
+        looked("curl --cacert, and none without it", by_curl, serving, tls)
+        looked("as an API server asks", many, serving)
+        for what, look in (("failures", failures), ("refusals", refusals), ("chunked bodies", chunked), ("long reviews", long)):
+            looked(what, look, serving)
+        looked("a silent peer and a slow one", silent_peers if slow else skip("--slow waits for them"), serving)
+        looked("a renewed certificate", renewed, serving, tls)
+        looked("SIGTERM while a review is answered", stopped, serving)
+
+
+def skip(why):
+    def look(*_):
+        raise Skipped(why)
+
+    return look
+
+
+def main(words):
+    slow = words[:1] == ["--slow"]
+    if len(words) != 1 + slow:
+        sys.exit(__doc__)
+    program = words[-1]
+    if shutil.which("openssl"):
+        secure(program, slow)
+    else:
+        looked("HTTPS", skip("there is no openssl to make a certificate"))
+    looked("HTTP, curl and SIGINT", plain, program)
+    looked("faulty files", faulty, program)
+    looked("manifests", manifests, program)
+    looked("the image", image, program)
+    return bool(WRONG)
+
+
+if __name__ == "__main__":
+    sys.exit(main(sys.argv[1:]))
