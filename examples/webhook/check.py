@@ -249,7 +249,24 @@ def faulty(program):
     """Files that the program refuses end it before it listens."""
     words = [sys.executable, HERE / "serve.py", "0", program, "review", "--crd", FILES[3], "--rules", FILES[1]]
     done = subprocess.run(list(map(str, words)), capture_output=True, text=True)
-    same((done.returncode, done.stdout, done.stderr), (1, "", f"kubeconv: {FILES[3]}: apiVersion: Shape\n"))
+    same((done.returncode, done.stdout, done.stderr.splitlines()[0]), (1, "", f"kubeconv: {FILES[3]}: apiVersion: Shape"))
+
+
+def launched(program):
+    """Of a launcher, the program that it builds is run, and the launcher itself once."""
+    with tempfile.TemporaryDirectory() as to:
+        out = pathlib.Path(to) / "crates/kubeconv/out"
+        out.mkdir(parents=True)
+        launcher = pathlib.Path(to) / "kubeconv"
+        built = out / "kubeconv"
+        build = f'echo building >&2\necho once >>"{to}/runs"\nln -sf "{pathlib.Path(program).resolve()}" "{built}"'
+        launcher.write_text(f'#!/bin/sh\n{build}\nexec "{built}" "$@"\n')
+        launcher.chmod(0o755)
+        serving = Serving(launcher)
+        for _ in range(3):
+            same(post(serving.caller(), REVIEW), (200, ANSWER))
+        serving.process.terminate()
+        same((serving.process.wait(60), (pathlib.Path(to) / "runs").read_text()), (0, "once\n"))
 
 
 def renewed(serving, tls):
@@ -336,6 +353,8 @@ def image(program):
     wants("docker")
     if subprocess.run(["docker", "info"], capture_output=True).returncode != 0:
         raise Skipped("there is no Docker daemon")
+    if pathlib.Path(program).read_bytes()[:2] == b"#!":
+        raise Skipped("it takes a built program, and this is the launcher")
     with tempfile.TemporaryDirectory() as to:
         room = pathlib.Path(to)
         (room / "examples/webhook").mkdir(parents=True)
@@ -385,6 +404,7 @@ def main(words):
         looked("HTTPS", skip("there is no openssl to make a certificate"))
     looked("HTTP, curl and SIGINT", plain, program)
     looked("faulty files", faulty, program)
+    looked("the launcher's program", launched, program)
     looked("manifests", manifests, program)
     looked("the image", image, program)
     return bool(WRONG)

@@ -432,11 +432,14 @@ class Counted:
 def program_of(command):
     """The command that answers a review, tried once: of the launcher, the program that it has built."""
     try:
-        tried = subprocess.run(command, stdin=subprocess.DEVNULL, stdout=subprocess.DEVNULL, stderr=subprocess.PIPE, text=True)
+        tried = subprocess.Popen(command, stdin=subprocess.DEVNULL, stdout=subprocess.DEVNULL, stderr=subprocess.PIPE, text=True)
     except OSError as error:
         sys.exit(f"serve.py: {error}")
-    if tried.returncode != 4:  # 4: the files are good, and nothing is no review
-        sys.exit(tried.stderr.strip() or f"serve.py: {command[0]} ended with {tried.returncode}")
+    for line in tried.stderr:  # what the launcher says while it builds, and what is wrong with a file
+        if line.strip() != "kubeconv: NotReview":
+            print(line, end="", file=sys.stderr, flush=True)
+    if tried.wait() != 4:  # 4: the files are good, and nothing is no review
+        sys.exit(f"serve.py: {command[0]} ended with {tried.returncode} at the start")
     path = pathlib.Path(command[0]).resolve()
     built = path.parent / "crates" / "kubeconv" / "out" / "kubeconv"
     with path.open("rb") if path.is_file() else io.BytesIO() as file:
