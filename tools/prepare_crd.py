@@ -1,14 +1,24 @@
 #!/usr/bin/env python3
 """Prints the definition that kubeconv takes, from a CustomResourceDefinition that is in use.
 
-    tools/prepare_crd.py FILE > DEFINITION
+    tools/prepare_crd.py [--name NAME] FILE > DEFINITION
+    kubectl get crd NAME -o json | tools/prepare_crd.py - > DEFINITION
 
-FILE is YAML, where Python's yaml module is there, or JSON. Definitions that are in use have keywords that kubeconv doesn't know, as
-`pattern`, `oneOf` or `subresources`. Each one is left out, and told on standard error with its path, so that an operator knows what
-isn't checked or served. Nothing is put in the place of what is left out. Where leaving something out would change which fields of
-objects are kept, or where kubeconv can't serve the definition at all, nothing is printed, and the status is 1.
+FILE is YAML, where Python's yaml module is there, or JSON; `-` is standard input. It holds one definition, or several, as documents or
+as a List, of which NAME (`crontabs.example.com`) says which one is meant.
+
+Definitions in use have keywords that kubeconv doesn't know, as `pattern`, `oneOf` or `subresources`. Each one is left out, and told on
+standard error with its path; `status`, and what `metadata` has beside the name, go too. Nothing is put in the place of what is left out.
+The last lines of standard error sum up: what isn't checked, filled in or served any more, what goes without any effect, and what is
+taken over but shown with the definition alone.
+
+Where leaving something out would change which fields of objects are kept, or where kubeconv can't serve the definition at all, each
+reason is told, nothing is printed, and the status is 1. It is 2 where the words are wrong.
 """
+import argparse
+import collections
 import json
+import os
 import sys
 
 ALLOWED_TYPES = {"object", "array", "string", "integer", "boolean"}
@@ -31,41 +41,70 @@ SPEC = {"group", "scope", "names", "versions", "conversion", "preserveUnknownFie
 NAMES = {"plural", "kind", "listKind", "singular", "shortNames", "categories"}
 VERSION = {"name", "served", "storage", "schema", "additionalPrinterColumns", "deprecated"}
 SCHEMA = "schema.openAPIV3Schema"
-
-
-class Impossible(Exception):
-    """The definition can't be said in kubeconv's terms."""
+# Limits of kubeconv: nodes of a version, how deep they nest, bytes of the file.
+NODES, NESTING, BYTES = 1_024, 32, 4_194_304
+# What is lost with a thing that is left out. What stands in none of these had no effect on objects.
+CHECKED = {
+    "pattern", "format", "multipleOf", "exclusiveMinimum", "exclusiveMaximum", "uniqueItems", "minProperties", "maxProperties", "oneOf",
+    "anyOf", "allOf", "not", "enum", "x-kubernetes-validations", "x-kubernetes-list-type", "x-kubernetes-list-map-keys",
+    "x-kubernetes-embedded-resource",
+} | WHOLE  # fmt: skip
+FILLED = {"default"}
+SERVED = {"subresources", "selectableFields", "deprecated", "deprecationWarning"}
+LOST = ("isn't checked any more", "isn't filled in any more", "isn't served", "goes without effect")
+# What is taken over, and no object is ever touched by.
+SHOWN = PASSED_OVER | {"conversion", "additionalPrinterColumns", "shortNames", "categories", "singular"}
+KINDS = {dict: "an object", list: "a list", str: "a text", int: "a whole number", bool: "a truth value"}
 
 
 class Prepared:
-    """What was left out so far."""
+    """What was left out so far, and what the definition can't be prepared for."""
 
     def __init__(self):
         self.left_out = []
+        self.impossible = []
+        self.counts = {what: collections.Counter() for what in LOST}
+        self.shown = collections.Counter()
 
     def leave(self, path, why=None):
+        """Leaves out what stands at a path."""
         self.left_out.append(path if why is None else f"{path} ({why})")
+        word = path.rsplit(".", 1)[-1]
+        if path.startswith("metadata."):
+            word = "fields of metadata"
+        place = 0 if word in CHECKED and why not in ("false", "atomic") else 1 if word in FILLED else 2 if word in SERVED else 3
+        self.counts[LOST[place]][word] += 1
+
+    def cannot(self, why):
+        self.impossible.append(why)
+
+    def expect(self, value, kind, path):
+        """The value where it is of that kind. Else this is told, and an empty one stands for it."""
+        if isinstance(value, kind) and not (kind is int and isinstance(value, bool)):
+            return value
+        self.cannot(f"{path or 'the document'} isn't {KINDS[kind]}")
+        return kind()
 
     def fields(self, value, allowed, path):
         """The fields of an object that may stand there."""
         kept = {}
-        for name, field in expect(value, dict, path).items():
+        for name, field in self.expect(value, dict, path).items():
             if name in allowed:
                 kept[name] = field
+                self.shown[name] += name in SHOWN
             else:
                 self.leave(join(path, name))
         return kept
 
+    def summary(self):
+        for what, counts in [*self.counts.items(), ("is shown with the definition, and has no effect", self.shown)]:
+            counted = ", ".join(f"{count} {word}" for word, count in sorted((+counts).items()))
+            if counted:
+                yield f"{what}: {counted}"
+
 
 def join(path, name):
     return f"{path}.{name}" if path else name
-
-
-def expect(value, kind, path):
-    if not isinstance(value, kind) or (kind is int and isinstance(value, bool)):
-        names = {dict: "an object", list: "a list", str: "a text", int: "a whole number", bool: "a truth value"}
-        raise Impossible(f"{path or 'the document'} isn't {names[kind]}")
-    return value
 
 
 def is_whole(number):
@@ -106,59 +145,68 @@ def keyword(prepared, name, value, path):
     if not is_readable(value):
         prepared.leave(path, "holds a number that isn't whole")
         return None
+    prepared.shown[name] += name in SHOWN
     return value
+
+
+def try_node(prepared, value, path):
+    """Tells what a node can't be prepared for."""
+    kind = value.get("type")
+    int_or_string = value.get("x-kubernetes-int-or-string") is True
+    preserves = value.get("x-kubernetes-preserve-unknown-fields") is True
+    if int_or_string and kind is not None:
+        prepared.cannot(f"{join(path, 'x-kubernetes-int-or-string')} stands beside a type")
+    if kind is None and not int_or_string and not preserves:
+        prepared.cannot(f"{join(path, 'type')} isn't there")
+    if kind is not None and kind not in ALLOWED_TYPES:
+        prepared.cannot(f"{join(path, 'type')} is {kind!r}, whose values kubeconv doesn't keep")
+    if value.get("x-kubernetes-embedded-resource") is True and not preserves:
+        prepared.cannot(f"{join(path, 'x-kubernetes-embedded-resource')} keeps fields that no other keyword names")
+    if kind == "array" and preserves:
+        prepared.cannot(f"{join(path, 'x-kubernetes-preserve-unknown-fields')} keeps fields of the list's items")
+    if kind == "array" and "items" not in value:
+        prepared.cannot(f"{join(path, 'items')} isn't there")
+    if value.get("additionalProperties") is True:
+        prepared.cannot(f"{join(path, 'additionalProperties')} is true, and keeps fields that no other keyword names")
+    elif "properties" in value and value.get("additionalProperties", False) is not False:
+        prepared.cannot(f"{join(path, 'additionalProperties')} stands beside properties")
+
+
+def why_left(name, field):
+    return "atomic" if name == "x-kubernetes-list-type" and field == "atomic" else "false" if field is False else None
 
 
 def node(prepared, value, path, root=False):
     """A node of a schema."""
-    value = expect(value, dict, path)
+    value = prepared.expect(value, dict, path)
     kind = value.get("type")
-    int_or_string = value.get("x-kubernetes-int-or-string") is True
-    if int_or_string and kind is not None:
-        raise Impossible(f"{join(path, 'x-kubernetes-int-or-string')} stands beside a type")
-    if kind is None and not int_or_string and value.get("x-kubernetes-preserve-unknown-fields") is not True:
-        raise Impossible(f"{join(path, 'type')} isn't there")
-    if kind is not None and kind not in ALLOWED_TYPES:
-        raise Impossible(f"{join(path, 'type')} is {kind!r}, whose values kubeconv doesn't keep")
-    if value.get("x-kubernetes-embedded-resource") is True and value.get("x-kubernetes-preserve-unknown-fields") is not True:
-        raise Impossible(f"{join(path, 'x-kubernetes-embedded-resource')} keeps fields that no other keyword names")
-    if kind == "array" and value.get("x-kubernetes-preserve-unknown-fields") is True:
-        raise Impossible(f"{join(path, 'x-kubernetes-preserve-unknown-fields')} keeps fields of the list's items")
-    if isinstance(value.get("additionalProperties"), bool) and value["additionalProperties"]:
-        raise Impossible(f"{join(path, 'additionalProperties')} is true, and keeps fields that no other keyword names")
-    allowed = ANYWHERE | OF_TYPE[kind]
+    try_node(prepared, value, path)
+    allowed = ANYWHERE | OF_TYPE.get(kind if isinstance(kind, str) else None, set())
     if root:
         allowed = allowed - {"default"}
     kept = {}
     for name, field in value.items():
         here = join(path, name)
-        if name == "anyOf" and int_or_string and field == INT_OR_STRING:
+        if name == "anyOf" and value.get("x-kubernetes-int-or-string") is True and field == INT_OR_STRING:
             kept[name] = field
         elif name not in allowed:
-            prepared.leave(here)
+            prepared.leave(here, why_left(name, field))
         elif name == "properties":
             kept[name] = properties(prepared, field, here, root)
-        elif name == "items":
+        elif name == "items" or (name == "additionalProperties" and not isinstance(field, bool)):
             kept[name] = node(prepared, field, here)
         elif name == "additionalProperties":
-            if field is False:
-                prepared.leave(here, "false")
-            elif "properties" in value:
-                raise Impossible(f"{here} stands beside properties")
-            else:
-                kept[name] = node(prepared, field, here)
+            prepared.leave(here, "false")
         else:
             said = keyword(prepared, name, field, here)
             if said is not None or field is None:
                 kept[name] = said
-    if kind == "array" and "items" not in kept:
-        raise Impossible(f"{join(path, 'items')} isn't there")
     return kept
 
 
 def properties(prepared, value, path, root):
     kept = {}
-    for name, field in expect(value, dict, path).items():
+    for name, field in prepared.expect(value, dict, path).items():
         here = join(path, name)
         if root and name in OWN_NAMES:
             kept[name] = own_name(prepared, OWN_NAMES[name], field, here)
@@ -169,9 +217,9 @@ def properties(prepared, value, path, root):
 
 def own_name(prepared, kind, value, path):
     """One of the root's three names, which every object has: its type alone, beside what is passed over."""
-    value = expect(value, dict, path)
+    value = prepared.expect(value, dict, path)
     if value.get("type") != kind:
-        raise Impossible(f"{join(path, 'type')} isn't {kind!r}")
+        prepared.cannot(f"{join(path, 'type')} isn't {kind!r}")
     kept = prepared.fields(value, {"type"} | PASSED_OVER, path)
     for name in [name for name, field in kept.items() if not is_readable(field)]:
         prepared.leave(join(path, name), "holds a number that isn't whole")
@@ -179,38 +227,68 @@ def own_name(prepared, kind, value, path):
     return kept
 
 
+def below(schema, root=False):
+    """The nodes right below a node, without the root's three names."""
+    inside = [field for name, field in schema.get("properties", {}).items() if not (root and name in OWN_NAMES)]
+    return inside + [schema[name] for name in ("items", "additionalProperties") if name in schema]
+
+
+def try_size(prepared, schema, path):
+    """Tells where a version has more nodes, or deeper ones, than kubeconv takes."""
+    count, deep, level = 1, 0, below(schema, root=True)
+    while level:
+        count, deep, level = count + len(level), deep + 1, [field for one in level for field in below(one)]
+    mend = "an object with x-kubernetes-preserve-unknown-fields may stand for a part"
+    if count > NODES:
+        prepared.cannot(f"{path} has {count} nodes, and kubeconv takes {NODES}: {mend}")
+    if deep > NESTING:
+        prepared.cannot(f"{path} is nested {deep} deep, and kubeconv takes {NESTING}: {mend}")
+
+
 def version(prepared, value, path):
     kept = prepared.fields(value, VERSION, path)
-    if kept.get("deprecated") is True:
+    if "deprecated" in kept and kept["deprecated"] is not False:
         prepared.leave(join(path, "deprecated"))
         del kept["deprecated"]
     if "schema" not in kept:
-        raise Impossible(f"{join(path, 'schema')} isn't there")
+        prepared.cannot(f"{join(path, 'schema')} isn't there")
+        return kept
     schema = prepared.fields(kept["schema"], {"openAPIV3Schema"}, join(path, "schema"))
     if "openAPIV3Schema" not in schema:
-        raise Impossible(f"{join(path, SCHEMA)} isn't there")
+        prepared.cannot(f"{join(path, SCHEMA)} isn't there")
+        return kept
     kept["schema"] = {"openAPIV3Schema": node(prepared, schema["openAPIV3Schema"], join(path, SCHEMA), root=True)}
+    try_size(prepared, kept["schema"]["openAPIV3Schema"], join(path, SCHEMA))
     return kept
+
+
+def names_of(prepared, kept):
+    """What a definition has beside its spec."""
+    if kept.get("apiVersion") != "apiextensions.k8s.io/v1" or kept.get("kind") != "CustomResourceDefinition":
+        prepared.cannot("the document isn't a CustomResourceDefinition of apiextensions.k8s.io/v1")
+    if kept.pop("status", None) is not None:
+        prepared.leave("status")
+    metadata = prepared.expect(kept.get("metadata"), dict, "metadata")
+    for name in metadata:
+        if name != "name":
+            prepared.leave(join("metadata", name))
+    kept["metadata"] = {"name": prepared.expect(metadata.get("name"), str, "metadata.name")}
 
 
 def definition(prepared, document):
     """The definition that kubeconv takes."""
     kept = prepared.fields(document, TOP, "")
-    if kept.get("apiVersion") != "apiextensions.k8s.io/v1" or kept.get("kind") != "CustomResourceDefinition":
-        raise Impossible("the document isn't a CustomResourceDefinition of apiextensions.k8s.io/v1")
-    kept.pop("status", None)
-    metadata = expect(kept.get("metadata"), dict, "metadata")
-    kept["metadata"] = {"name": expect(metadata.get("name"), str, "metadata.name")}
+    names_of(prepared, kept)
     spec = prepared.fields(kept.get("spec"), SPEC, "spec")
     kept["spec"] = spec
     if spec.get("scope") != "Namespaced":
-        raise Impossible("spec.scope isn't Namespaced")
+        prepared.cannot("spec.scope isn't Namespaced")
     if spec.get("preserveUnknownFields") is True:
-        raise Impossible("spec.preserveUnknownFields is true")
+        prepared.cannot("spec.preserveUnknownFields is true")
     spec["names"] = prepared.fields(spec.get("names"), NAMES, "spec.names")
-    versions = expect(spec.get("versions"), list, "spec.versions")
+    versions = prepared.expect(spec.get("versions"), list, "spec.versions")
     if not 2 <= len(versions) <= 8:
-        raise Impossible(f"spec.versions has {len(versions)} versions, and kubeconv takes 2 to 8")
+        prepared.cannot(f"spec.versions has {len(versions)} of them, and kubeconv takes 2 to 8")
     spec["versions"] = [version(prepared, item, f"spec.versions[{i}]") for i, item in enumerate(versions)]
     for path, holder, name in [("spec", spec, "conversion")] + [
         (f"spec.versions[{i}]", item, "additionalPrinterColumns") for i, item in enumerate(spec["versions"])
@@ -223,8 +301,11 @@ def definition(prepared, document):
 
 def documents(path):
     """The documents of a file: of YAML where the module is there, else the one of JSON."""
-    with open(path, encoding="utf-8") as file:
-        text = file.read()
+    if path == "-":
+        text = sys.stdin.read()
+    else:
+        with open(path, encoding="utf-8") as file:
+            text = file.read()
     try:
         import yaml
     except ImportError:
@@ -240,33 +321,84 @@ def documents(path):
     return [document for document in yaml.load_all(text, Loader) if document is not None]
 
 
-def main(words):
-    if len(words) != 1:
-        print("usage: prepare_crd.py FILE", file=sys.stderr)
-        return 2
+def definitions(found):
+    """The definitions among documents, and inside of Lists."""
+    for document in found:
+        if not isinstance(document, dict):
+            continue
+        if document.get("kind") == "CustomResourceDefinition":
+            yield document
+        elif str(document.get("kind", "")).endswith("List") and isinstance(document.get("items"), list):
+            yield from definitions(document["items"])
+
+
+def name_of(document):
+    metadata = document.get("metadata")
+    return str(metadata.get("name", "")) if isinstance(metadata, dict) else ""
+
+
+def chosen(found, name):
+    """The one definition that is meant, or why there is none."""
+    held = list(definitions(found))
+    wanted = [document for document in held if name in (None, name_of(document))]
+    if len(wanted) == 1:
+        return wanted[0], None
+    names = ", ".join(sorted(map(name_of, held)))
+    if not held:
+        return None, "it holds no CustomResourceDefinition"
+    if name is None:
+        return None, f"it holds {len(held)} CustomResourceDefinitions, of which --name chooses one: {names}"
+    return None, f"it holds {len(wanted)} CustomResourceDefinitions of the name {name}, and these: {names}"
+
+
+def prepare(path, name):
+    """Prints the definition of a file, and what is to be said of it."""
+
+    def fail(*reasons):
+        for reason in reasons:
+            print(f"prepare_crd.py: {path}: {reason}", file=sys.stderr)
+        return 1
+
     try:
-        found = documents(words[0])
-    except (OSError, ValueError) as error:
-        print(f"prepare_crd.py: {words[0]}: {error}", file=sys.stderr)
-        return 1
-    except Exception as error:  # what yaml raises, whose module may not be there
-        print(f"prepare_crd.py: {words[0]}: {' '.join(str(error).split())}", file=sys.stderr)
-        return 1
-    wanted = [d for d in found if isinstance(d, dict) and d.get("kind") == "CustomResourceDefinition"]
-    if len(wanted) != 1:
-        print(f"prepare_crd.py: {words[0]}: it holds {len(wanted)} CustomResourceDefinitions, and one is wanted", file=sys.stderr)
-        return 1
+        found = documents(path)
+    except BrokenPipeError:
+        raise
+    except Exception as error:  # a file that isn't read, or what yaml raises, whose module may not be there
+        return fail(" ".join(str(error).split()))
+    document, why = chosen(found, name)
+    if document is None:
+        return fail(why)
     prepared = Prepared()
-    try:
-        kept = definition(prepared, wanted[0])
-    except Impossible as error:
-        print(f"prepare_crd.py: {words[0]}: {error}", file=sys.stderr)
-        return 1
-    for path in prepared.left_out:
-        print(f"left out: {path}", file=sys.stderr)
-    print(json.dumps(kept, ensure_ascii=False, separators=(",", ":")))
+    kept = definition(prepared, document)
+    text = json.dumps(kept, ensure_ascii=False, separators=(",", ":")) if not prepared.impossible else ""
+    if len(text.encode()) > BYTES:
+        prepared.cannot(f"the definition has {len(text.encode())} bytes, and kubeconv takes {BYTES}")
+    if prepared.impossible:
+        return fail(*prepared.impossible)
+    for left in prepared.left_out:
+        print(f"left out: {left}", file=sys.stderr)
+    for line in prepared.summary():
+        print(line, file=sys.stderr)
+    print(text, flush=True)
     return 0
 
 
+def main():
+    parser = argparse.ArgumentParser(description=__doc__, formatter_class=argparse.RawDescriptionHelpFormatter)
+    parser.add_argument("--name", help="which of several definitions is meant, as crontabs.example.com")
+    parser.add_argument("file", metavar="FILE")
+    given = parser.parse_args()
+    try:
+        return prepare(given.file, given.name)
+    except BrokenPipeError:  # nobody reads on; what is still to be flushed goes nowhere
+        for stream in (sys.stdout, sys.stderr):
+            os.dup2(os.open(os.devnull, os.O_WRONLY), stream.fileno())
+        return 1
+    except OSError as error:
+        os.dup2(os.open(os.devnull, os.O_WRONLY), sys.stdout.fileno())
+        print(f"prepare_crd.py: the definition isn't written: {error.strerror}", file=sys.stderr)
+        return 1
+
+
 if __name__ == "__main__":
-    sys.exit(main(sys.argv[1:]))
+    sys.exit(main())
