@@ -357,10 +357,9 @@ def image(program):
         raise Skipped("it takes a built program, and this is the launcher")
     with tempfile.TemporaryDirectory() as to:
         room = pathlib.Path(to)
-        (room / "examples/webhook").mkdir(parents=True)
-        shutil.copy(program, room / "program")
-        shutil.copy(HERE / "serve.py", room / "examples/webhook")
-        words = ["docker", "build", "-q", "-f", str(HERE / "Dockerfile"), "--build-arg", "PROGRAM=program", to]
+        shutil.copy(program, room / "kubeconv")
+        shutil.copy(HERE / "serve.py", room)
+        words = ["docker", "build", "-q", "-f", str(HERE / "Dockerfile"), to]
         built = subprocess.run(words, capture_output=True, text=True)
         if built.returncode != 0:
             raise Skipped(f"docker build: {built.stderr.strip().splitlines()[-1]}")

@@ -12,8 +12,8 @@ what can't be read as a review at all is answered 400. A review of more than 4,1
 answers 200. A peer has 30 seconds for each request, for its answer and for the handshake, and may be silent for as long between them;
 a review has 30 seconds too. SIGTERM and SIGINT end it once the requests that are there are answered.
 
-PROGRAM is run once at the start, so that faulty files are told there. Where it is the launcher ./kubeconv, that run builds what
-isn't built, and from then on the program that it built is run, without a look at the sources.
+PROGRAM is run once at the start, so that faulty files are told there. Where it is the launcher ./kubeconv, that run builds what isn't
+built; from then on the program that it went over to is run by its own path, without a look at the sources.
 """
 import argparse
 import concurrent.futures
@@ -21,8 +21,8 @@ import http.server
 import io
 import json
 import os
-import pathlib
 import re
+import shutil
 import signal
 import socket
 import socketserver
@@ -429,22 +429,43 @@ class Counted:
 # The program and the words.
 
 
-def program_of(command):
-    """The command that answers a review, tried once: of the launcher, the program that it has built."""
-    try:
-        tried = subprocess.Popen(command, stdin=subprocess.DEVNULL, stdout=subprocess.DEVNULL, stderr=subprocess.PIPE, text=True)
-    except OSError as error:
-        sys.exit(f"serve.py: {error}")
-    for line in tried.stderr:  # what the launcher says while it builds, and what is wrong with a file
+def executed(process, path):
+    """The program that a process runs: of a script, the one that it goes over to by `exec`, as soon as it does."""
+    with open(path, "rb") as file:
+        first = file.readline(256)
+    if not first.startswith(b"#!"):
+        return path
+    shell = os.path.realpath(first[2:].split()[0].decode())
+    while process.poll() is None:
+        try:
+            now = os.readlink(f"/proc/{process.pid}/exe")
+        except OSError:
+            break
+        if now != shell:
+            return now
+        time.sleep(0.02)
+    return path
+
+
+def relay(lines):
+    """Hands on what a program says at the start, but that nothing is no review."""
+    for line in lines:
         if line.strip() != "kubeconv: NotReview":
             print(line, end="", file=sys.stderr, flush=True)
+
+
+def program_of(command):
+    """The command that answers a review, tried once: of the launcher, the program that it runs."""
+    path = shutil.which(command[0]) or sys.exit(f"serve.py: there is no program {command[0]}")
+    tried = subprocess.Popen(command, stdin=subprocess.PIPE, stdout=subprocess.DEVNULL, stderr=subprocess.PIPE, text=True)
+    said = threading.Thread(target=relay, args=[tried.stderr])
+    said.start()
+    program = executed(tried, path)
+    tried.stdin.close()
+    said.join()
     if tried.wait() != 4:  # 4: the files are good, and nothing is no review
-        sys.exit(f"serve.py: {command[0]} ended with {tried.returncode} at the start")
-    path = pathlib.Path(command[0]).resolve()
-    built = path.parent / "crates" / "kubeconv" / "out" / "kubeconv"
-    with path.open("rb") if path.is_file() else io.BytesIO() as file:
-        is_script = file.read(2) == b"#!"
-    return [str(built), *command[1:]] if is_script and built.is_file() else command
+        sys.exit(f"serve.py: {path} ended with {tried.returncode} at the start")
+    return [program, *command[1:]]
 
 
 def words():

@@ -1,0 +1,87 @@
+#!/usr/bin/env python3
+"""Runs the walk of docs/OPERATORS.md as it is written there:
+
+    python3 examples/upgrade/operators.py PROGRAM
+
+Each line of its code blocks that begins with `$ ` is a command, which goes on over the next line where it ends with a backslash or a
+`|`; all of them are run by one shell at the top of the repository, in their order. What stands behind a command is what it prints,
+where `...` stands for any text. PROGRAM is run in the place of ./kubeconv, and another port is taken than 8080. Prints what differs,
+and then the status is 1.
+"""
+import os
+import pathlib
+import re
+import socket
+import subprocess
+import sys
+
+TOP = pathlib.Path(__file__).resolve().parent.parent.parent
+PAGE = TOP / "docs" / "OPERATORS.md"
+SECONDS = 120
+MARK = "-- end of a command --"
+
+
+def commands(text):
+    """The commands of the page, each with what it is to print."""
+    found = []
+    is_open = False
+    for line in text.splitlines():
+        shown = line[4:] if line.startswith("    ") else None
+        if shown is None:
+            is_open = False
+        elif is_open:
+            found[-1][0] += "\n" + shown
+            is_open = shown.endswith(("\\", "|"))
+        elif shown.startswith("$ "):
+            found.append([shown[2:], []])
+            is_open = shown.endswith(("\\", "|"))
+        elif found:
+            found[-1][1].append(shown)
+    return [(command, "\n".join(told).strip()) for command, told in found]
+
+
+def free_port():
+    with socket.create_server(("127.0.0.1", 0)) as taken:
+        return taken.getsockname()[1]
+
+
+def run(script):
+    """What the shell printed behind each command. What it started ends with it."""
+    shell = subprocess.Popen(
+        ["bash", "-c", script], cwd=TOP, stdin=subprocess.DEVNULL, stdout=subprocess.PIPE, stderr=subprocess.STDOUT, start_new_session=True
+    )
+    try:
+        told, _ = shell.communicate(timeout=SECONDS)
+    except subprocess.TimeoutExpired:
+        os.killpg(shell.pid, 9)
+        told, _ = shell.communicate()
+    return [part.strip() for part in told.decode(errors="replace").replace("\r", "").split(MARK)]
+
+
+def is_as(told, wanted):
+    return re.fullmatch(".*".join(map(re.escape, wanted.split("..."))), told, re.DOTALL) is not None
+
+
+def main(words):
+    if len(words) != 1:
+        sys.exit(__doc__)
+    port, program = str(free_port()), os.path.abspath(words[0])
+    text = PAGE.read_text().replace("./kubeconv", program).replace("127.0.0.1:8080", f"127.0.0.1:{port}")
+    walk = commands(text)
+    script = "trap 'kill $(jobs -p) 2>&-' EXIT\n" + "".join(f"{command}\necho; echo '{MARK}'\n" for command, _ in walk)
+    came = run(script)
+    wrong = 0
+    for (command, wanted), told in zip(walk, came):
+        if not is_as(told, wanted):
+            wrong = 1
+            print(f"$ {command}\n  came:\n{told}\n  wanted:\n{wanted}\n")
+    if len(came) != len(walk) + 1:
+        wrong = 1
+        print(f"{len(walk)} commands, and {len(came) - 1} of them came to an end")
+    if not wrong:
+        print(f"{len(walk)} commands, as written")
+    return wrong
+
+
+if __name__ == "__main__":
+    sys.exit(main(sys.argv[1:]))
