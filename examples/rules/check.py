@@ -6,16 +6,20 @@
 PROGRAM is a built kubeconv, or the launcher ./kubeconv. Each NAME.http is answered by one run of `pipe`: what it creates is created,
 and what it reads at the other version gives what was created when it is converted back. Each NAME.objects.json has objects, each with
 the version that it is converted `to`, what is `shown` there, and what is `kept` in the annotation; converted back it is the object as
-it was. Prints a line for each file; the status is 1 where something differs.
+it was. cases.json has what docs/RULES.md says of rules: the fields of a `spoke` and of its `hub`, the rules between them, and with which
+path and word they are `refused`; or fields `at_spoke` and `at_hub` that are the same, or what is `shown` of those `from_` one of them.
+Prints a line for each file; the status is 1 where something differs.
 """
 import json
 import pathlib
 import re
 import subprocess
 import sys
+import tempfile
 
 HERE = pathlib.Path(__file__).resolve().parent
 KEPT = re.compile(r"(hub|spoke)\.kubeconv\.local/")
+HUB, SPOKE = "v1", "v1beta1"
 
 
 class Wrong(Exception):
@@ -23,11 +27,11 @@ class Wrong(Exception):
 
 
 class Rules:
-    """A definition with its rules, by the name of their files."""
+    """A definition with its rules, by the folder and the name of their files."""
 
-    def __init__(self, program, name):
+    def __init__(self, program, name, folder=HERE):
         self.program = program
-        self.files = ["--crd", str(HERE / f"{name}.json"), "--rules", str(HERE / f"{name}.rules.json")]
+        self.files = ["--crd", str(folder / f"{name}.json"), "--rules", str(folder / f"{name}.rules.json")]
 
     def run(self, line, given, *words):
         done = subprocess.run([self.program, line, *self.files, *words], input=given, capture_output=True)
@@ -58,7 +62,8 @@ def parted(value):
     return rest, [entry for text in texts for entry in json.loads(text)]
 
 
-def try_objects(rules, file):
+def try_objects(program, file):
+    rules = Rules(program, file.name.removesuffix(".objects.json"))
     cases = json.loads(file.read_text())
     for case in cases:
         name = case["object"]["metadata"]["name"]
@@ -79,7 +84,8 @@ def answers(output):
         output = rest[length:]
 
 
-def try_requests(rules, file):
+def try_requests(program, file):
+    rules = Rules(program, file.stem)
     came = list(answers(rules.run("pipe", file.read_bytes())))
     same("codes", [code for code, _ in came], [201, 200] * (len(came) // 2))
     for (_, created), (_, read) in zip(came[::2], came[1::2]):
@@ -88,14 +94,65 @@ def try_requests(rules, file):
     return f"{len(came) // 2} objects, created and read at the other version"
 
 
+def definition(case):
+    """The definition of a case: two versions, each with its fields."""
+    schemas = [(HUB, case["hub"]), (SPOKE, case["spoke"])]
+    versions = [
+        {"name": name, "served": True, "storage": name == HUB, "schema": {"openAPIV3Schema": {"type": "object", "properties": fields}}}
+        for name, fields in schemas
+    ]
+    spec = {"group": "example.com", "names": {"kind": "CronTab", "plural": "crontabs"}, "scope": "Namespaced", "versions": versions}
+    return {"apiVersion": "apiextensions.k8s.io/v1", "kind": "CustomResourceDefinition", "metadata": {"name": "crontabs.example.com"}, "spec": spec}
+
+
+def crontab(version, fields):
+    return {"apiVersion": f"example.com/{version}", "kind": "CronTab", "metadata": {"name": "a"}, **fields}
+
+
+def ways(case):
+    """The conversions of a case: from where and of what, to where, what is shown there, and whether something is kept."""
+    if "shown" in case:
+        at, to = (SPOKE, HUB) if "from_spoke" in case else (HUB, SPOKE)
+        return [(at, case["from_spoke" if at == SPOKE else "from_hub"], to, case["shown"], True)]
+    spoke, hub = case["at_spoke"], case["at_hub"]
+    return [(SPOKE, spoke, HUB, hub, False), (HUB, hub, SPOKE, spoke, False)]
+
+
+def try_case(rules, case):
+    if "refused" in case:
+        try:
+            rules.convert(crontab(HUB, {}), SPOKE)
+        except Wrong as said:
+            same(case["of"], str(said).partition(".rules.json: ")[2], case["refused"])
+            return
+        raise Wrong(f"{case['of']}: it isn't refused")
+    for at, fields, to, wanted, is_kept in ways(case):
+        came = rules.convert(crontab(at, fields), to)
+        shown, kept = parted(came)
+        same(case["of"], shown, crontab(to, wanted))
+        same(f"{case['of']}: kept", bool(kept), is_kept)
+        same(f"{case['of']}: converted back", rules.convert(came, at), crontab(at, fields))
+
+
+def try_cases(program, file):
+    cases = json.loads(file.read_text())
+    with tempfile.TemporaryDirectory() as to:
+        folder = pathlib.Path(to)
+        for case in cases:
+            (folder / "case.json").write_text(json.dumps(definition(case)))
+            (folder / "case.rules.json").write_text(json.dumps({"hub": HUB, "spokes": {SPOKE: case["rules"]}}))
+            try_case(Rules(program, "case", folder), case)
+    return f"{len(cases)} cases"
+
+
 def main(words):
     if len(words) != 1:
         sys.exit(__doc__)
     wrong = 0
-    for end, look in ((".http", try_requests), (".objects.json", try_objects)):
+    for end, look in ((".http", try_requests), (".objects.json", try_objects), ("cases.json", try_cases)):
         for file in sorted(HERE.glob(f"*{end}")):
             try:
-                said = look(Rules(words[0], file.name.removesuffix(end)), file)
+                said = look(words[0], file)
             except Wrong as why:
                 said, wrong = f"wrong: {why}", 1
             print(f"{file.name}: {said}")
