@@ -8,7 +8,7 @@ and what it reads at the other version gives what was created when it is convert
 the version that it is converted `to`, what is `shown` there, and what is `kept` in the annotation; converted back it is the object as
 it was. cases.json has what docs/RULES.md says of rules: the fields of a `spoke` and of its `hub`, the rules between them, and with which
 path and word they are `refused`; or fields `at_spoke` and `at_hub` that are the same, or what is `shown` of those `from_` one of them.
-Prints a line for each file; the status is 1 where something differs.
+Prints a line for each file; what differs is told on standard error, and then the status is 1.
 """
 import json
 import pathlib
@@ -152,10 +152,10 @@ def main(words):
     for end, look in ((".http", try_requests), (".objects.json", try_objects), ("cases.json", try_cases)):
         for file in sorted(HERE.glob(f"*{end}")):
             try:
-                said = look(words[0], file)
+                print(f"{file.name}: {look(words[0], file)}")
             except Wrong as why:
-                said, wrong = f"wrong: {why}", 1
-            print(f"{file.name}: {said}")
+                print(f"{file.name}: wrong: {why}", file=sys.stderr)
+                wrong = 1
     return wrong
 
 

@@ -5,12 +5,13 @@
 
 Each line of its code blocks that begins with `$ ` is a command, which goes on over the next line where it ends with a backslash or a
 `|`; all of them are run by one shell at the top of the repository, in their order. What stands behind a command is what it prints,
-where `...` stands for any text. PROGRAM is run in the place of ./kubeconv, and another port is taken than 8080. Prints what differs,
-and then the status is 1.
+where `...` stands for any text. PROGRAM is run in the place of ./kubeconv, and another port is taken than 8080. What differs is told on
+standard error, and then the status is 1. Where there is no curl it says that nothing was looked at.
 """
 import os
 import pathlib
 import re
+import shutil
 import socket
 import subprocess
 import sys
@@ -65,6 +66,9 @@ def is_as(told, wanted):
 def main(words):
     if len(words) != 1:
         sys.exit(__doc__)
+    if not all(map(shutil.which, ("bash", "curl"))):
+        print("skipped: there is no bash, or no curl")
+        return 0
     port, program = str(free_port()), os.path.abspath(words[0])
     text = PAGE.read_text().replace("./kubeconv", program).replace("127.0.0.1:8080", f"127.0.0.1:{port}")
     walk = commands(text)
@@ -74,10 +78,10 @@ def main(words):
     for (command, wanted), told in zip(walk, came):
         if not is_as(told, wanted):
             wrong = 1
-            print(f"$ {command}\n  came:\n{told}\n  wanted:\n{wanted}\n")
+            print(f"$ {command}\n  came:\n{told}\n  wanted:\n{wanted}\n", file=sys.stderr)
     if len(came) != len(walk) + 1:
         wrong = 1
-        print(f"{len(walk)} commands, and {len(came) - 1} of them came to an end")
+        print(f"{len(walk)} commands, and {len(came) - 1} of them came to an end", file=sys.stderr)
     if not wrong:
         print(f"{len(walk)} commands, as written")
     return wrong

@@ -5,8 +5,8 @@
 
 PROGRAM is a built kubeconv, or the launcher ./kubeconv. A certificate is made by certificate.sh, serve.py serves HTTPS with it and HTTP
 without it, and openssl, curl and a client that asks as an API server does, 40 at once, judge what is answered. One line is printed for
-each thing that was looked at, `skipped` where a tool isn't there; the status is 1 where something is wrong. With --slow it is also
-waited for the 30 seconds after which a silent peer is let go.
+each thing that was looked at, `skipped` where a tool isn't there. What is wrong is told on standard error, and then the status is 1.
+With --slow it is also waited for the 30 seconds after which a silent peer is let go.
 """
 import concurrent.futures
 import http.client
@@ -45,7 +45,7 @@ def looked(what, look, *given):
         print(f"skipped  {what}: {why}", flush=True)
     except Exception as wrong:  # whatever goes wrong is told, and the rest is looked at
         WRONG.append(what)
-        print(f"wrong    {what}: {type(wrong).__name__}: {wrong}", flush=True)
+        print(f"wrong    {what}: {type(wrong).__name__}: {wrong}", file=sys.stderr, flush=True)
 
 
 def wants(tool):
