@@ -181,11 +181,13 @@ def refusals(serving):
         ("POST / HTTP/1.1\r\nHost: a\r\nContent-Length: 2\r\nTransfer-Encoding: chunked\r\n\r\n0\r\n\r\n", 400),
         ("POST / HTTP/1.1\r\nHost: a\r\nTransfer-Encoding: chunked\r\n\r\nz\r\n", 400),
         ("POST / HTTP/1.1\r\nHost: a\r\nContent-Length: 67108865\r\n\r\n", 413),
+        ("PUT / HTTP/1.1\r\nHost: a\r\nContent-Length: 0\r\n\r\n", 501),
+        ("POST / HTTP/1.1 and more\r\n\r\n", 400),
     ):
         with serving.socket() as peer:
             peer.sendall(head.encode())
             same(peer.makefile("rb").readline().split()[1], str(code).encode())
-    return "400, 411 and 413, and 200 behind them"
+    return "400, 411, 413 and 501, and 200 behind them"
 
 
 def chunked(serving):

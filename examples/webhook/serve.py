@@ -215,7 +215,7 @@ class Peer(io.RawIOBase):
 class Webhook(http.server.BaseHTTPRequestHandler):
     """The requests of one connection."""
 
-    protocol_version = "HTTP/1.1"
+    protocol_version = default_request_version = "HTTP/1.1"
     server_version = "kubeconv-webhook"
     sys_version = ""
 
@@ -308,6 +308,11 @@ class Webhook(http.server.BaseHTTPRequestHandler):
     def refuse(self, refused):
         self.log_message("%s %s: %s", self.requestline, refused.code, refused)
         self.say(refused.code, "text/plain", f"kubeconv: {refused}\n".encode())
+
+    def send_error(self, code, message=None, explain=None):
+        """What the class above refuses: a head that isn't read, or a method that isn't there."""
+        self.close_connection = True
+        self.refuse(Refused(code, message or explain or "refused"))
 
     def say(self, code, kind, text):
         """One answer. The connection ends behind it where it has to."""
