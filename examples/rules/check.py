@@ -8,7 +8,8 @@ and what it reads at the other version gives what was created when it is convert
 the version that it is converted `to`, what is `shown` there, and what is `kept` in the annotation; converted back it is the object as
 it was. cases.json has what docs/RULES.md says of rules: the fields of a `spoke` and of its `hub`, the rules between them, and with which
 path and word they are `refused`; or fields `at_spoke` and `at_hub` that are the same, or what is `shown` of those `from_` one of them.
-Prints a line for each file; what differs is told on standard error, and then the status is 1.
+Of prepare/definitions.json tools/prepare_crd.py makes widgets.json, saying what stands in widgets.said, and of the other definition it
+says what stands in gadgets.said. Prints a line for each file; what differs is told on standard error, and then the status is 1.
 """
 import json
 import pathlib
@@ -145,12 +146,31 @@ def try_cases(program, file):
     return f"{len(cases)} cases"
 
 
+def prepared(file, name):
+    """What tools/prepare_crd.py prints of a definition, and what it says."""
+    tool = HERE.parent.parent / "tools" / "prepare_crd.py"
+    done = subprocess.run([sys.executable, tool, "--name", name, "-"], stdin=file.open(), capture_output=True, text=True)
+    return done.stdout, [line.removeprefix("prepare_crd.py: -: ") for line in done.stderr.splitlines()]
+
+
+def try_prepared(program, file):
+    made, said = prepared(file, "widgets.example.com")
+    same("what is said of widgets", said, (file.parent / "widgets.said").read_text().splitlines())
+    same("widgets", json.loads(made), json.loads((file.parent / "widgets.json").read_text()))
+    nothing, refused = prepared(file, "gadgets.example.com")
+    same("what is refused of gadgets", (nothing, refused), ("", (file.parent / "gadgets.said").read_text().splitlines()))
+    widget = {"apiVersion": "example.com/v1", "kind": "Widget", "metadata": {"name": "a"}, "spec": {"host": "a", "tls": {"secret": "b"}}}
+    rules = Rules(program, "widgets", file.parent)
+    same("a widget converted back", rules.convert(rules.convert(widget, SPOKE), HUB), widget)
+    return f"{len(said)} lines of what goes, {len(refused)} of what is refused"
+
+
 def main(words):
     if len(words) != 1:
         sys.exit(__doc__)
     wrong = 0
-    for end, look in ((".http", try_requests), (".objects.json", try_objects), ("cases.json", try_cases)):
-        for file in sorted(HERE.glob(f"*{end}")):
+    for end, look in ((".http", try_requests), (".objects.json", try_objects), ("cases.json", try_cases), ("definitions.json", try_prepared)):
+        for file in sorted(HERE.rglob(f"*{end}")):
             try:
                 print(f"{file.name}: {look(words[0], file)}")
             except Wrong as why:
