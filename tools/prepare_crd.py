@@ -300,16 +300,19 @@ def definition(prepared, document):
 
 
 def documents(path):
-    """The documents of a file: of YAML where the module is there, else the one of JSON."""
+    """The documents of a file: the one of JSON, or those of YAML where the module is there."""
     if path == "-":
         text = sys.stdin.read()
     else:
         with open(path, encoding="utf-8") as file:
             text = file.read()
     try:
-        import yaml
-    except ImportError:
         return [json.loads(text)]
+    except ValueError:
+        try:
+            import yaml
+        except ImportError:
+            raise ValueError("it isn't JSON, and there is no Python module yaml to read it as YAML") from None
 
     class Loader(yaml.SafeLoader):
         """YAML whose dates stay texts, as Kubernetes reads them."""

@@ -149,7 +149,7 @@ def try_cases(program, file):
 def prepared(file, name):
     """What tools/prepare_crd.py prints of a definition, and what it says."""
     tool = HERE.parent.parent / "tools" / "prepare_crd.py"
-    done = subprocess.run([sys.executable, tool, "--name", name, "-"], stdin=file.open(), capture_output=True, text=True)
+    done = subprocess.run([sys.executable, tool, "--name", name, "-"], input=file.read_text(), capture_output=True, text=True)
     return done.stdout, [line.removeprefix("prepare_crd.py: -: ") for line in done.stderr.splitlines()]
 
 
