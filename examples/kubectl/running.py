@@ -1,0 +1,71 @@
+"""What the scripts beside it share: `kubeconv serve` and the front at free ports, over a definition with printer columns, in a folder
+that goes at the end."""
+
+import json
+import pathlib
+import subprocess
+import sys
+import tempfile
+
+HERE = pathlib.Path(__file__).resolve().parent
+EXAMPLES = HERE.parent
+LISTENING = "listening on "
+COLUMNS = [
+    {"name": "Host", "type": "string", "jsonPath": ".host", "description": "Where it listens."},
+    {"name": "Paused", "type": "boolean", "jsonPath": ".paused"},
+    {"name": "Timeout", "type": "integer", "jsonPath": ".timeoutMillis", "priority": 1},
+    {"name": "Age", "type": "date", "jsonPath": ".metadata.creationTimestamp"},
+]
+
+
+def definition():
+    """The definition of the example, with columns and a short name, and with descriptions for `explain`."""
+    found = json.loads((EXAMPLES / "crontabs.json").read_text())
+    found["spec"]["names"].update(shortNames=["ct"], categories=["all"])
+    hub = found["spec"]["versions"][0]
+    hub["additionalPrinterColumns"] = COLUMNS
+    schema = hub["schema"]["openAPIV3Schema"]
+    schema["description"] = "What runs when."
+    schema["properties"]["timeoutMillis"]["description"] = "How long a run may take, in milliseconds."
+    return found
+
+
+class Running:
+    """The programs that run, and the folder of their files."""
+
+    def __init__(self, program):
+        self.program = program
+        self.folder = tempfile.TemporaryDirectory(prefix="kubeconv-kubectl-")
+        self.path = pathlib.Path(self.folder.name)
+        self.crd = self.path / "crd.json"
+        self.crd.write_text(json.dumps(definition()))
+        self.processes = []
+        self.server = ""
+
+    def started(self, words):
+        """The address at which a program listens that was just started."""
+        process = subprocess.Popen(list(map(str, words)), stdin=subprocess.DEVNULL, stdout=subprocess.PIPE, text=True)
+        self.processes.append(process)
+        line = process.stdout.readline()
+        if not line.startswith(LISTENING):
+            sys.exit(f"{words[0]} said {line!r}, and ended with status {process.wait(10)}")
+        return line[len(LISTENING) :].strip()
+
+    def serve(self, listen="127.0.0.1:0"):
+        """Starts `kubeconv serve`."""
+        files = ["--crd", self.crd, "--rules", EXAMPLES / "crontabs.rules.json"]
+        self.server = self.started([self.program, "serve", *files, "--listen", listen])
+        return self.processes[-1]
+
+    def front(self, *words):
+        """Starts a front, and gives its address."""
+        program = [sys.executable, HERE / "front.py", "--crd", self.crd, "--server", self.server]
+        return self.started([*program, "--listen", "127.0.0.1:0", *words])
+
+    def stop(self):
+        """Ends what runs."""
+        for process in reversed(self.processes):
+            process.kill()
+            process.wait()
+            process.stdout.close()
+        self.folder.cleanup()
