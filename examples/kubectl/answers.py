@@ -252,9 +252,7 @@ class Turn:
         return next((version for version in versions if version["name"] == place.version), {})
 
     def schema(self, place):
-        """The schema of the place's objects; None where all fields are kept or refused by `serve` itself."""
-        if place.of() == MIGRATIONS:
-            return openapi.migration_schema()
-        if place.of() == DEFINITIONS:
-            return None
-        return self.version(place).get("schema", {}).get("openAPIV3Schema")
+        """The schema of the place's objects."""
+        if place.of() in (DEFINITIONS, MIGRATIONS):
+            return openapi.definition_schema() if place.of() == DEFINITIONS else openapi.migration_schema()
+        return self.version(place).get("schema", {}).get("openAPIV3Schema", {"x-kubernetes-preserve-unknown-fields": True})

@@ -61,20 +61,30 @@ def component(group, version, kind):
 
 
 def definition_schema():
-    """The definition, as far as clients write it."""
-    flags = {
+    """The definition."""
+    flag, whatever = {"type": "boolean"}, {"type": "object", "x-kubernetes-preserve-unknown-fields": True}
+    item = {
+        "additionalPrinterColumns": {"type": "array", "items": whatever},
+        "deprecated": flag,
         "name": TEXT,
-        "served": described({"type": "boolean"}, "Whether clients may use the version."),
-        "storage": described({"type": "boolean"}, "Whether new writes are stored at the version; true for exactly one."),
-        "schema": {"type": "object", "x-kubernetes-preserve-unknown-fields": True},
+        "schema": whatever,
+        "served": described(flag, "Whether clients may use the version."),
+        "storage": described(flag, "Whether new writes are stored at the version; true for exactly one."),
     }
-    item = {"type": "object", "properties": flags, "x-kubernetes-preserve-unknown-fields": True}
-    versions = {"type": "array", "items": item, "description": "The versions; of an edit, only served and storage count."}
-    stored = {"type": "array", "items": TEXT, "description": "The versions at which objects may still be stored."}
-    spec = {"type": "object", "properties": {"versions": versions}, "x-kubernetes-preserve-unknown-fields": True}
-    status = {"type": "object", "properties": {"storedVersions": stored}, "x-kubernetes-preserve-unknown-fields": True}
+    versions = {"type": "array", "items": {"type": "object", "properties": item}}
+    spec = {
+        "conversion": whatever,
+        "group": TEXT,
+        "names": whatever,
+        "preserveUnknownFields": flag,
+        "scope": TEXT,
+        "versions": described(versions, "The versions; of an edit, only served and storage count."),
+    }
+    stored = described({"type": "array", "items": TEXT}, "The versions at which objects may still be stored.")
+    status = {"acceptedNames": whatever, "conditions": {"type": "array", "items": whatever}, "storedVersions": stored}
+    properties = {"spec": {"type": "object", "properties": spec}, "status": {"type": "object", "properties": status}}
     told = "A resource of several versions, which version is stored, and which may be stored."
-    return {"type": "object", "description": told, "properties": {"spec": spec, "status": status}}
+    return {"type": "object", "description": told, "properties": properties}
 
 
 def migration_schema():

@@ -24,7 +24,8 @@ def merged(target, patch):
 
 def unprocessable(message):
     """What refuses a patch whose operation can't be done at the object."""
-    return Refused(422, "Invalid", f"the patch can't be applied: {message}")
+    causes = [{"field": "patch", "message": message, "reason": "FieldValueInvalid"}]
+    return Refused(422, "Invalid", f"the patch can't be applied: {message}", {"causes": causes})
 
 
 def pointed(pointer):

@@ -42,9 +42,9 @@ def unknown_of_object(document, schema):
 
 
 def faults(document, schema, repeated):
-    """What a strict reader of an object complains of, one text each. Without a schema only names that stand twice count."""
+    """What a strict reader of an object complains of, one text each."""
     told = [f'duplicate field "{name}"' for name in dict.fromkeys(repeated)]
-    return told + ([] if schema is None else [f'unknown field "{path}"' for path in unknown_of_object(document, schema)])
+    return told + [f'unknown field "{path}"' for path in unknown_of_object(document, schema)]
 
 
 def judged(told, directive, document, place):

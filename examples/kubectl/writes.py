@@ -5,7 +5,7 @@ import time
 
 import patches
 import strict
-from statuses import Refused, bad_request, no_method, no_resource, read, unsupported, written
+from statuses import bad_request, no_method, no_resource, read, unsupported, written
 
 MERGE, OPERATIONS = "application/merge-patch+json", "application/json-patch+json"
 # Bodies that `serve` would take for JSON that is wrong.
@@ -92,7 +92,7 @@ def hold(old, new):
     if not isinstance(now, dict):
         return
     if now.get("uid", was.get("uid")) != was.get("uid"):
-        raise Refused(422, "Invalid", "metadata.uid: field is immutable")
+        raise patches.unprocessable("metadata.uid is immutable")
     if now.get("resourceVersion") is None and "resourceVersion" in was:
         now["resourceVersion"] = was["resourceVersion"]
 
