@@ -11,7 +11,7 @@ import selecting
 import tables
 from discovery import DEFINITIONS, MIGRATIONS
 from places import place_of
-from statuses import Refused, bad_request, no_method, read, written
+from statuses import Refused, bad_request, no_method, written
 from writes import written_at
 
 HEALTH = ("livez", "readyz", "healthz")
@@ -81,7 +81,7 @@ class Turn:
         reply = self.asker.ask("GET", path)
         if reply.code != 200:
             raise Refused(503, "ServiceUnavailable", f"kubeconv serve answered {reply.code} at {path}")
-        return read(reply.body)
+        return reply.document()
 
     def definition(self):
         """The definition that is served."""
@@ -225,7 +225,7 @@ class Turn:
         selects = not place.name and (request.asked("labelSelector") or request.asked("fieldSelector"))
         if reply.code != 200 or not selects and not request.wants_table():
             return reply
-        document = read(reply.body)
+        document = reply.document()
         return told(self.shown(self.selected(document) if not place.name else document, self.columns(place)))
 
     def selected(self, document):

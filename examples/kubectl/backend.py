@@ -8,7 +8,7 @@ import threading
 import time
 import typing
 
-from statuses import Refused
+from statuses import Refused, read
 
 # `serve` lets go of a connection that is silent for 60 seconds, or that has asked 10,000 times.
 MOST_IDLE_SECONDS = 20
@@ -23,6 +23,18 @@ class Reply(typing.NamedTuple):
 
     code: int
     body: bytes
+
+    def document(self):
+        """What its body spells."""
+        try:
+            return read(self.body)
+        except Refused as refused:
+            raise broken("what isn't JSON") from refused
+
+
+def broken(what):
+    """What refuses a request to which `serve` answered something else than an answer."""
+    return Refused(502, "BadGateway", f"kubeconv serve answered {what}")
 
 
 class Link:
@@ -99,8 +111,9 @@ def fault(error, method):
     undone = "" if method == "GET" or isinstance(error, ConnectionRefusedError) else "; it may have been done"
     if isinstance(error, TimeoutError):
         return Refused(504, "Timeout", f"kubeconv serve didn't answer in {MOST_WAIT_SECONDS} seconds{undone}")
-    told = f"kubeconv serve can't be reached: {error or type(error).__name__}{undone}"
-    return Refused(503, "ServiceUnavailable", told)
+    if not isinstance(error, OSError):
+        return broken(f"what isn't HTTP: {type(error).__name__}{undone}")
+    return Refused(503, "ServiceUnavailable", f"kubeconv serve can't be reached: {error or type(error).__name__}{undone}")
 
 
 class Backend:

@@ -75,7 +75,7 @@ def patched_once(turn, place, patch, repeated):
     reply = turn.asker.ask("GET", path)
     if reply.code != 200:
         return reply, []
-    old = read(reply.body)
+    old = reply.document()
     new = patches.operated(old, patch) if isinstance(patch, list) else patches.merged(old, patch)
     if not isinstance(new, dict):
         raise bad_request("the patch leaves no object")
@@ -99,4 +99,4 @@ def hold(old, new):
 
 def is_conflict(reply):
     """Whether an object was written between the GET and the PUT."""
-    return reply.code == 409 and read(reply.body).get("reason") == "Conflict"
+    return reply.code == 409 and reply.document().get("reason") == "Conflict"
