@@ -10,7 +10,7 @@ import protobuf
 import selecting
 import tables
 from discovery import DEFINITIONS, MIGRATIONS
-from places import place_of
+from places import PAGING, VERSIONS, place_of
 from statuses import Refused, bad_request, no_method, written
 from writes import written_at
 
@@ -195,7 +195,7 @@ class Turn:
     def refuse_unserved(self):
         """Refuses what neither the front nor `serve` can do."""
         if self.request.is_on("watch"):
-            raise no_method("watch isn't served; kubectl's --watch and wait need it")
+            raise no_method("watch isn't served; ask for the list again")
         if self.request.asked("dryRun"):
             raise bad_request("a dry run isn't served")
 
@@ -221,12 +221,22 @@ class Turn:
         if place.of() == DEFINITIONS and not place.name:
             found = listed("apiextensions.k8s.io/v1", "CustomResourceDefinitionList", [self.definition()])
             return told(self.shown(self.selected(found), tables.OF_DEFINITIONS))
-        reply = self.asker.ask("GET", request.target(request.path.removesuffix("/status") if place.part else None))
-        selects = not place.name and (request.asked("labelSelector") or request.asked("fieldSelector"))
-        if reply.code != 200 or not selects and not request.wants_table():
+        names = PAGING if not place.name and request.least() else PAGING + VERSIONS
+        reply = self.asker.ask("GET", request.target(request.path.removesuffix("/status") if place.part else None, names))
+        if reply.code != 200 or not request.wants_table() and (place.name or not request.narrows()):
             return reply
         document = reply.document()
-        return told(self.shown(self.selected(document) if not place.name else document, self.columns(place)))
+        if not place.name:
+            document = self.selected(document)
+            self.check_version(document)
+        return told(self.shown(document, self.columns(place) if request.wants_table() else ()))
+
+    def check_version(self, document):
+        """Refuses to show what is older than the version that the client has seen, as from a server that was started anew."""
+        least, now = self.request.least(), document["metadata"].get("resourceVersion") or "0"
+        if least > int(now):
+            causes = [{"reason": "ResourceVersionTooLarge", "message": "Too large resource version"}]
+            raise Refused(504, "Timeout", f"Too large resource version: {least}, current: {now}", {"causes": causes})
 
     def selected(self, document):
         """A list with the items that the request selects. A page may then be shorter than its limit, or empty, while others follow."""

@@ -1,5 +1,6 @@
 """What a request asks of: its target taken apart, and the place of the API that its path names."""
 
+import re
 import typing
 import urllib.parse
 
@@ -7,7 +8,8 @@ from discovery import DEFINITIONS, MIGRATIONS
 from statuses import bad_request
 
 # What `serve` reads of a query. A selector, and what only the front reads, isn't sent on.
-SENT_ON = ("limit", "continue", "resourceVersion", "resourceVersionMatch")
+PAGING = ("limit", "continue")
+VERSIONS = ("resourceVersion", "resourceVersionMatch")
 
 
 class Place(typing.NamedTuple):
@@ -44,10 +46,23 @@ class Request(typing.NamedTuple):
         """Whether a parameter asks for what it names."""
         return self.asked(name) not in ("", "0", "false", "False", "FALSE", "f", "F")
 
-    def target(self, path=None):
-        """What `serve` is asked for."""
-        sent = {name: self.query[name] for name in SENT_ON if name in self.query}
+    def target(self, path=None, names=(*PAGING, *VERSIONS)):
+        """What `serve` is asked for, with these parameters."""
+        sent = {name: self.query[name] for name in names if name in self.query}
         return (path or self.path) + ("?" + urllib.parse.urlencode(sent) if sent else "")
+
+    def least(self):
+        """The resource version that a list must have reached; 0 where any will do. Of a page of a list that isn't asked, since there the
+        parameter stands for that very version."""
+        number, match = self.asked("resourceVersion"), self.asked("resourceVersionMatch")
+        is_page = self.asked("continue") or match == "" and self.asked("limit") not in ("", "0")
+        if is_page or match not in ("", "NotOlderThan") or not re.fullmatch(r"[0-9]{1,18}", number):
+            return 0
+        return int(number)
+
+    def narrows(self):
+        """Whether a list is asked for by what `serve` doesn't read."""
+        return bool(self.asked("labelSelector") or self.asked("fieldSelector") or self.least())
 
     def wants_table(self):
         """Whether the client takes a table, and takes it rather than the plain document."""

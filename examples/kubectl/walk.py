@@ -11,7 +11,7 @@ import re
 import shutil
 import subprocess
 import sys
-import time
+import threading
 
 from running import HERE, Running
 
@@ -235,10 +235,7 @@ def upgrades(walk):
     raw = ["replace", "-f", "-", "--raw", f"/apis/apiextensions.k8s.io/v1/customresourcedefinitions/{CRD}/status"]
     walk.step(raw, r'\(StillStored\): version "v1beta1" is still stored by', stored, status=1)
     walk.step("create -f -", rows("storageversionmigration.storagemigration.k8s.io/to-v1 created"), MIGRATION)
-    for _ in range(100):
-        if "Succeeded" in walk.run(["get", "storageversionmigration", "to-v1"]).stdout:
-            break
-        time.sleep(0.1)
+    walk.step("wait --for=condition=Succeeded storageversionmigration/to-v1 --timeout=30s", "condition met$")
     walk.step("get storageversionmigrations", rows("NAME +STATUS +RESOURCE +VERSION *", "to-v1 +Succeeded +crontabs +v1"))
     walk.step("get storageversionmigration to-v1 -o yaml", "storageVersion: v1$")
     if walk.minor >= 24:
@@ -260,6 +257,17 @@ def deletes(walk):
     walk.step("delete -f -", rows('crontab.example.com "c" deleted.*'), crontab("c", "v1"))
     walk.step("delete crontabs -n many -l n=1", rows('crontab.example.com "e1" deleted.*'))
     walk.step("delete crontabs -n many --all", rows(*(f'crontab.example.com "e{i}" deleted.*' for i in (0, 2, 3, 4))))
+    held = crontab("held", "v1")
+    held["metadata"]["finalizers"] = ["example.com/hold"]
+    walk.step("create -f -", "/held created$", held)
+    walk.step("delete crontab held --wait=false", rows('crontab.example.com "held" deleted.*'))
+    walk.step("get crontab held -o jsonpath={.metadata.deletionTimestamp}", r"\A\d{4}-\d\d-\d\dT")
+    release = ["patch", "crontab", "held", "--type=merge", "-p", '{"metadata":{"finalizers":null}}']
+    later = threading.Timer(1, walk.run, [release])
+    later.start()
+    walk.step("delete crontab held --timeout=30s", '"held" deleted')
+    later.join()
+    walk.step("get crontab held", r"\(NotFound\)", status=1)
     walk.step("delete storageversionmigration to-v1", r"\(MethodNotAllowed\)", status=1)
     walk.step("create namespace new", r"\(MethodNotAllowed\): namespaces are always there", status=1)
 

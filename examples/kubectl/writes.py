@@ -20,7 +20,7 @@ def written_at(turn, place):
     request = turn.request
     if request.method == "PATCH":
         return patched_at(turn, place)
-    if request.media in NO_JSON:
+    if place is not None and request.media in NO_JSON:
         raise unsupported(["application/json"])
     warnings = []
     if request.method != "DELETE" and place is not None and request.asked("fieldValidation") not in ("", "Ignore"):
