@@ -254,7 +254,7 @@ class Turn:
         if place.of() in (DEFINITIONS, MIGRATIONS):
             return tables.OF_DEFINITIONS if place.of() == DEFINITIONS else tables.OF_MIGRATIONS
         found = self.front.columns.get(place.version) or self.version(place).get("additionalPrinterColumns")
-        return found or [tables.AGE]
+        return tables.usable(found) or [tables.AGE]
 
     def version(self, place):
         """What the served definition says of the place's version."""

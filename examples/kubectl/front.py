@@ -61,6 +61,7 @@ class Handler(http.server.BaseHTTPRequestHandler):
         super().finish()
         if self.unread:
             self.linger()
+        self.connection.close()
 
     def linger(self):
         """Reads on for a while, and throws away what comes."""
@@ -142,6 +143,9 @@ class Handler(http.server.BaseHTTPRequestHandler):
             return answers.refusal(refused)
         except RecursionError:
             return answers.refusal(bad_request("the body is nested too deep"))
+        except Exception as error:
+            print(f"front: {self.command} {self.path[:200]}: {error!r}", file=sys.stderr, flush=True)
+            return answers.refusal(Refused(500, "InternalError", "the front failed at this request"))
 
     def serve(self):
         """Answers one request."""

@@ -7,6 +7,7 @@ import http.client
 import json
 import pathlib
 import socket
+import ssl
 import sys
 import threading
 import time
@@ -15,7 +16,7 @@ import patches
 import selecting
 import statuses
 import tables
-from running import HERE, Running
+from running import HERE, Running, certificate
 
 LIST = "/apis/example.com/v1/namespaces/default/crontabs"
 MERGE, OPERATIONS = "application/merge-patch+json", "application/json-patch+json"
@@ -307,6 +308,31 @@ def absent(cases):
         peer.close()
 
 
+def encrypted(cases):
+    """Clients that don't speak TLS to a front that does, or say nothing."""
+    made = certificate(cases.running.path)
+    if made is None:
+        print("skipped: TLS, since there is no openssl to make a certificate with")
+        return
+    cert, key = made
+    plain = Client(cases.running.front("--cert", cert, "--key", key))
+    silent = [socket.create_connection(plain.address) for _ in range(20)]
+    found = plain.raw(b"GET /livez HTTP/1.1\r\n\r\n")
+    cases.tell("a client that doesn't speak TLS", not found.startswith(b"HTTP"), str(found))
+    context = ssl.create_default_context(cafile=cert)
+    secret = http.client.HTTPSConnection(*plain.address, timeout=20, context=context)
+    for number in range(3):
+        secret.request("GET", LIST)
+        response = secret.getresponse()
+        cases.tell(f"list {number} of one that does, beside 20 that say nothing", response.status == 200 and response.read(), str(response.status))
+    secret.putrequest("POST", LIST)
+    secret.putheader("Content-Length", str(2 * MIB))
+    secret.endheaders(b" " * MIB)
+    cases.tell("a longer body over TLS is 413", secret.getresponse().status == 413)
+    for peer in silent:
+        peer.close()
+
+
 def behind(cases):
     """`serve` that is down, comes back, and something else in its place."""
     cases.server.kill()
@@ -344,7 +370,7 @@ def main(words):
     """Runs the cases."""
     cases = Cases(pathlib.Path(words[0] if words else HERE.parent.parent / "kubeconv").resolve())
     try:
-        for part in (parts, bodies, heads, places, edits, patchers, absent, behind):
+        for part in (parts, bodies, heads, places, edits, patchers, absent, encrypted, behind):
             part(cases)
     finally:
         cases.running.stop()

@@ -3,6 +3,7 @@ that goes at the end."""
 
 import json
 import pathlib
+import shutil
 import subprocess
 import sys
 import tempfile
@@ -16,6 +17,16 @@ COLUMNS = [
     {"name": "Timeout", "type": "integer", "jsonPath": ".timeoutMillis", "priority": 1},
     {"name": "Age", "type": "date", "jsonPath": ".metadata.creationTimestamp"},
 ]
+
+
+def certificate(folder):
+    """A certificate of this machine's address and its key, or None where there is no openssl to make them."""
+    openssl, cert, key = shutil.which("openssl"), folder / "cert.pem", folder / "key.pem"
+    if openssl is None:
+        return None
+    of = ["-subj", "/CN=front", "-addext", "subjectAltName=IP:127.0.0.1", "-keyout", key, "-out", cert]
+    subprocess.run([openssl, "req", "-x509", "-newkey", "rsa:2048", "-nodes", "-days", "1", *of], check=True, capture_output=True)
+    return cert, key
 
 
 def definition():

@@ -46,8 +46,12 @@ def chosen(items, step):
     """The items that a filter keeps."""
     text = step["value"]
     wanted = text[1:-1] if text[:1] in ("'", '"') else {"true": True, "false": False}.get(text, text)
-    equal = step["sign"] == "=="
-    return [item for item in items if any(str(value) == str(wanted) for value in walked([item], steps(step["of"]))) == equal]
+    kept = []
+    for item in items:
+        values = [str(value) for value in walked([item], steps(step["of"]))]
+        if values and (str(wanted) in values) == (step["sign"] == "=="):
+            kept.append(item)
+    return kept
 
 
 def stepped(value, step):
@@ -125,6 +129,13 @@ def cell(item, column):
     if kind == "boolean":
         return value if isinstance(value, bool) else None
     return value if isinstance(value, (int, float)) and not isinstance(value, bool) else None
+
+
+def usable(columns):
+    """The columns of a definition that say what a column must say."""
+    found = columns if isinstance(columns, list) else []
+    told = ("name", "type", "jsonPath")
+    return [column for column in found if isinstance(column, dict) and all(isinstance(column.get(name), str) for name in told)]
 
 
 def heading(column):

@@ -13,7 +13,7 @@ import subprocess
 import sys
 import threading
 
-from running import HERE, Running
+from running import HERE, Running, certificate
 
 CRD = "crontabs.example.com"
 STORE_HUB = [
@@ -274,13 +274,11 @@ def deletes(walk):
 
 def encrypted(walk):
     """A front with a certificate."""
-    openssl = shutil.which("openssl")
-    if openssl is None:
+    made = certificate(walk.running.path)
+    if made is None:
         print("skipped: TLS, since there is no openssl to make a certificate with")
         return
-    cert, key = walk.running.path / "cert.pem", walk.running.path / "key.pem"
-    made = [openssl, "req", "-x509", "-newkey", "rsa:2048", "-nodes", "-days", "1", "-subj", "/CN=front", "-addext", "subjectAltName=IP:127.0.0.1"]
-    subprocess.run([*made, "-keyout", key, "-out", cert], check=True, capture_output=True)
+    cert, key = made
     walk.use(walk.running.front("--cert", cert, "--key", key), "https", **{"certificate-authority": str(cert)})
     walk.step("get crontabs -o name", rows("crontab.example.com/b", "crontab.example.com/f"))
     walk.step("label crontab b tls=on", "/b labeled$")
