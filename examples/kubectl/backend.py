@@ -13,8 +13,10 @@ from statuses import Refused, read
 # `serve` lets go of a connection that is silent for 60 seconds, or that has asked 10,000 times.
 MOST_IDLE_SECONDS = 20
 MOST_ASKED = 9_000
-# `serve` has threads for 64 connections. A request that finds none free waits for one.
-MOST_LINKS = 48
+# `serve` has threads for 64 connections, of which a front takes so many at most, and keeps so many for the next requests. A request that
+# finds none free waits for one.
+MOST_LINKS = 24
+MOST_KEPT = 8
 MOST_WAIT_SECONDS = 60
 
 
@@ -141,14 +143,15 @@ class Backend:
             link.close()
 
     def give_back(self, link):
-        """Keeps a link for the next request, where it is usable."""
+        """Keeps a link for the next request, where it is usable and there is room."""
         if link is None:
             return
-        if not link.is_usable():
-            link.close()
-            return
         with self.lock:
-            self.idle.append(link)
+            kept = link.is_usable() and len(self.idle) < MOST_KEPT
+            if kept:
+                self.idle.append(link)
+        if not kept:
+            link.close()
 
     @contextlib.contextmanager
     def asker(self):

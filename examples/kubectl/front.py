@@ -22,7 +22,7 @@ import threading
 import answers
 from backend import Backend
 from places import taken_apart
-from statuses import Refused, bad_request, no_method, written
+from statuses import Refused, bad_request, no_method
 
 MOST_BODY = 1 << 20
 # Of the chunks' own lines and of what stands behind the last.
@@ -238,14 +238,22 @@ def words():
     return found
 
 
+def encrypted(cert, key):
+    """What makes connections speak TLS by a certificate."""
+    tls = ssl.SSLContext(ssl.PROTOCOL_TLS_SERVER)
+    tls.load_cert_chain(cert, key)
+    return tls
+
+
 def main():
     """Runs the front until it is stopped."""
     given = words()
-    tls = None
-    if given.cert is not None:
-        tls = ssl.SSLContext(ssl.PROTOCOL_TLS_SERVER)
-        tls.load_cert_chain(given.cert, given.key)
-    with Server(given.listen, answers.Front(given.crd, Backend(*given.server)), tls) as server:
+    try:
+        tls = given.cert and encrypted(given.cert, given.key)
+        server = Server(given.listen, answers.Front(given.crd, Backend(*given.server)), tls)
+    except OSError as error:
+        sys.exit(f"front: {error}")
+    with server:
         host, port = server.server_address[:2]
         print(f"listening on {f'[{host}]' if ':' in host else host}:{port}", flush=True)
         try:

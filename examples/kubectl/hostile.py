@@ -16,54 +16,13 @@ import patches
 import selecting
 import statuses
 import tables
+from rows import AGES, MERGES, SELECTORS, STEPS
 from running import HERE, Running, certificate
 
 LIST = "/apis/example.com/v1/namespaces/default/crontabs"
 MERGE, OPERATIONS = "application/merge-patch+json", "application/json-patch+json"
 CLIENTS, EDITS = 8, 20
 MIB = 1 << 20
-
-# The rows of RFC 7386, appendix A: a value, a patch, and what it makes.
-MERGES = [
-    ({"a": "b"}, {"a": "c"}, {"a": "c"}), ({"a": "b"}, {"b": "c"}, {"a": "b", "b": "c"}), ({"a": "b"}, {"a": None}, {}),
-    ({"a": "b", "b": "c"}, {"a": None}, {"b": "c"}), ({"a": ["b"]}, {"a": "c"}, {"a": "c"}), ({"a": "c"}, {"a": ["b"]}, {"a": ["b"]}),
-    ({"a": {"b": "c"}}, {"a": {"b": "d", "c": None}}, {"a": {"b": "d"}}), ({"a": [{"b": "c"}]}, {"a": [1]}, {"a": [1]}),
-    (["a", "b"], ["c", "d"], ["c", "d"]), ({"a": "b"}, ["c"], ["c"]), ({"a": "foo"}, None, None), ({"a": "foo"}, "bar", "bar"),
-    ({"e": None}, {"a": 1}, {"e": None, "a": 1}), ([1, 2], {"a": "b", "c": None}, {"a": "b"}),
-    ({}, {"a": {"bb": {"ccc": None}}}, {"a": {"bb": {}}}),
-]  # fmt: skip
-# Rows of RFC 6902, appendix A, and beside them: a value, an operation, and what it makes, or None where it is refused.
-STEPS = [
-    ({"foo": "bar"}, ("add", "/baz", "qux"), {"baz": "qux", "foo": "bar"}),
-    ({"foo": ["bar", "baz"]}, ("add", "/foo/1", "qux"), {"foo": ["bar", "qux", "baz"]}),
-    ({"baz": "qux", "foo": "bar"}, ("remove", "/baz"), {"foo": "bar"}),
-    ({"foo": ["bar", "qux", "baz"]}, ("remove", "/foo/1"), {"foo": ["bar", "baz"]}),
-    ({"baz": "qux", "foo": "bar"}, ("replace", "/baz", "boo"), {"baz": "boo", "foo": "bar"}),
-    ({"foo": {"waldo": "fred"}, "qux": {"corge": "grault"}}, ("move", "/qux/thud", "/foo/waldo"), {"foo": {}, "qux": {"corge": "grault", "thud": "fred"}}),
-    ({"foo": ["all", "grass", "cows", "eat"]}, ("move", "/foo/3", "/foo/1"), {"foo": ["all", "cows", "eat", "grass"]}),
-    ({"baz": "qux", "foo": ["a", 2, "c"]}, ("test", "/foo/1", 2), {"baz": "qux", "foo": ["a", 2, "c"]}),
-    ({"baz": "qux"}, ("test", "/baz", "bar"), None),
-    ({"foo": "bar"}, ("add", "/child", {"grandchild": {}}), {"foo": "bar", "child": {"grandchild": {}}}),
-    ({"foo": "bar"}, ("add", "/baz/bat", "qux"), None),
-    ({"/": 9, "~1": 10}, ("test", "/~01", 10), {"/": 9, "~1": 10}),
-    ({"/": 9, "~1": 10}, ("test", "/~01", "10"), None),
-    ({"foo": ["bar"]}, ("add", "/foo/-", ["abc", "def"]), {"foo": ["bar", ["abc", "def"]]}),
-    ({"foo": ["bar"]}, ("add", "/foo/2", 1), None), ({"foo": ["bar"]}, ("add", "/foo/01", 1), None),
-    ({"foo": ["bar"]}, ("remove", "/foo/-"), None), ({"foo": ["bar"]}, ("remove", "/foo/-1"), None),
-    ({"foo": 1}, ("test", "/foo", True), None), ({"foo": [0]}, ("test", "/foo", [False]), None),
-    ({"foo": 1}, ("replace", "/bar", 1), None), ({"foo": {"a": 1}}, ("move", "/foo/b", "/foo"), None),
-    ({"foo": {"a": 1}}, ("copy", "/foo/b", "/foo"), {"foo": {"a": 1, "b": {"a": 1}}}), ({"a": 1}, ("replace", "", {"b": 2}), {"b": 2}),
-    ({"a": 1}, ("remove", ""), None), ({"a": 1}, ("grow", "/a"), None), ({"a": 1}, ("add", "a", 1), None), ({"a": 1}, ("add", "/b"), None),
-]  # fmt: skip
-# Labels, a selector, and whether it takes them.
-SELECTORS = [
-    ({"a": "1"}, "a=1", True), ({"a": "1"}, "a==2", False), ({}, "a!=1", True), ({"a": "1"}, "a in (1,2),a", True), ({}, "a in ()", False),
-    ({"a": ""}, "a in ()", True), ({}, "a notin (1)", True), ({"a": "1"}, "a notin (1, 2)", False), ({"a": "1"}, "!a", False),
-    ({"x.io/a": "1"}, "x.io/a = 1", True), ({"a": "1"}, "a=1,", None), ({"a": "1"}, "a>1", None), ({"a": "1"}, "a in (1", None),
-    ({"a": "1"}, "=1", None), ({"a": "1"}, "a=b c", None),
-]  # fmt: skip
-AGES = [(-5, "<invalid>"), (-1, "0s"), (119, "119s"), (120, "2m"), (185, "3m5s"), (600, "10m"), (10799, "179m"), (10800, "3h"), (11100, "3h5m")]
-AGES += [(28800, "8h"), (172799, "47h"), (172800, "2d"), (176400, "2d1h"), (691200, "8d"), (63072000, "2y"), (63158400, "2y1d")]
 
 
 class Client:
@@ -142,6 +101,11 @@ def refused(made, *given):
         return None
 
 
+def selects(labels, selector):
+    """Whether a selector takes an object with these labels."""
+    return selecting.by_labels(selector)({"metadata": {"labels": labels}})
+
+
 def operation(verb, path, *more):
     """An operation of a JSON patch."""
     name = "from" if verb in ("move", "copy") else "value"
@@ -154,7 +118,7 @@ def parts(cases):
     cases.tell(f"{len(MERGES)} merge patches", not wrong, str(wrong))
     wrong = [row for row in STEPS if refused(patches.operated, row[0], [operation(*row[1])]) != row[2]]
     cases.tell(f"{len(STEPS)} operations of JSON patches", not wrong, str(wrong))
-    wrong = [row for row in SELECTORS if refused(lambda row: selecting.by_labels(row[1])({"metadata": {"labels": row[0]}}), row) is not row[2]]
+    wrong = [row for row in SELECTORS if refused(selects, *row[:2]) is not row[2]]
     cases.tell(f"{len(SELECTORS)} label selectors", not wrong, str(wrong))
     wrong = [row for row in AGES if tables.spelled(row[0]) != row[1]]
     cases.tell(f"{len(AGES)} ages", not wrong, str(wrong))
@@ -179,7 +143,8 @@ def bodies(cases):
     cases.case("a body of 1 MiB", 201, "POST", LIST, whole + b" " * (MIB - len(whole)))
     cases.client.connection.close()
     cases.raw("a longer body", 413, f"POST {LIST} HTTP/1.1\r\nContent-Length: {MIB + 1}\r\n\r\n".encode() + b" " * (MIB + 1))
-    cases.raw("a longer body that isn't sent", 413, f"POST {LIST} HTTP/1.1\r\nContent-Length: 99999999999\r\nExpect: 100-continue\r\n\r\n".encode())
+    waits = f"POST {LIST} HTTP/1.1\r\nContent-Length: 99999999999\r\nExpect: 100-continue\r\n\r\n"
+    cases.raw("a longer body that isn't sent", 413, waits.encode())
     chunk = b"10000\r\n" + b" " * 65536 + b"\r\n"
     cases.raw("longer chunks", 413, f"POST {LIST} HTTP/1.1\r\nTransfer-Encoding: chunked\r\n\r\n".encode() + chunk * 17 + b"0\r\n\r\n")
     copies = [operation("add", "/extra", {"a": "x" * 1000})] + [operation("copy", f"/extra/{i}", "/extra") for i in range(40)]
@@ -216,7 +181,8 @@ def heads(cases):
 def places(cases):
     """Paths, queries and media types."""
     at = f"{LIST}/a"
-    for path in ("/", "/api/v2", "/apis/none", "/apis/example.com/v9", f"{LIST}/a/status", f"{LIST}/A_", "/apis//", "/openapi/v3/apis/x/v1"):
+    at_objects = f"{LIST}/a/status", f"{LIST}/A_", f"{LIST}/"
+    for path in ("/", "/api/v2", "/apis/none", "/apis/example.com/v9", "/apis//", "/openapi/v3/apis/x/v1", *at_objects):
         cases.case(f"GET {path}", 404, "GET", path)
     cases.case("an escape that is no text", 400, "GET", "/apis/%ff/v1")
     cases.case("a watch", 405, "GET", f"{LIST}?watch=true", says="watch isn't served")
@@ -235,7 +201,8 @@ def places(cases):
     cases.case("a write of a discovery document", 405, "POST", "/apis", {})
     cases.case("a media type that isn't served", 406, "GET", "/openapi/v3", Accept="text/html")
     cases.case("HEAD", 200, "HEAD", at)
-    cases.case("a table at a version that isn't served", 200, "GET", LIST, says="CronTabList", Accept="application/json;as=Table;v=v9;g=meta.k8s.io,application/json")
+    other = "application/json;as=Table;v=v9;g=meta.k8s.io,application/json"
+    cases.case("a table of another version", 200, "GET", LIST, says="CronTabList", Accept=other)
 
 
 def edits(cases):
@@ -255,8 +222,9 @@ def edits(cases):
     cases.case("a patch that takes metadata away", 400, "PATCH", at, {"metadata": None}, MERGE)
     cases.case("a patch to no object", 400, "PATCH", at, [operation("replace", "", 7)], OPERATIONS)
     cases.case("a patch that isn't admitted", 422, "PATCH", at, {"timeoutMillis": -1}, MERGE, says="Minimum")
-    cases.case("a strict patch of an unknown field", 400, "PATCH", f"{at}?fieldValidation=Strict", {"hots": "x"}, MERGE, says='unknown field "hots"')
-    cases.case("a strict patch that says a field twice", 400, "PATCH", f"{at}?fieldValidation=Strict", b'{"host":"x","host":"y"}', MERGE, says="duplicate")
+    strict = f"{at}?fieldValidation=Strict"
+    cases.case("a strict patch of an unknown field", 400, "PATCH", strict, {"hots": "x"}, MERGE, says='unknown field "hots"')
+    cases.case("a strict patch that says a field twice", 400, "PATCH", strict, b'{"host":"x","host":"y"}', MERGE, says="duplicate")
     cases.case("a patch of a migration", 404, "PATCH", "/apis/storagemigration.k8s.io/v1alpha1/storageversionmigrations/m", {}, MERGE)
     code, seen = cases.client.ask("GET", at)
     cases.tell("what was refused left nothing behind", seen["host"] == "k" and "hots" not in seen, str(seen))
@@ -324,7 +292,8 @@ def encrypted(cases):
     for number in range(3):
         secret.request("GET", LIST)
         response = secret.getresponse()
-        cases.tell(f"list {number} of one that does, beside 20 that say nothing", response.status == 200 and response.read(), str(response.status))
+        held = response.status == 200 and response.read()
+        cases.tell(f"list {number} of one that does, beside 20 that say nothing", held, str(response.status))
     secret.putrequest("POST", LIST)
     secret.putheader("Content-Length", str(2 * MIB))
     secret.endheaders(b" " * MIB)
@@ -348,7 +317,8 @@ def behind(cases):
     cases.case("a list once serve is back", 200, "GET", LIST)
     cases.case("a create once serve is back", 201, "POST", LIST, crontab("a"))
     with socket.create_server(("127.0.0.1", 0)) as odd:
-        told = [b"", b"HTTP/1.1 200 OK\r\nContent-Length: 10\r\n\r\n{", b"hello\r\n\r\n", b"HTTP/1.1 200 OK\r\nContent-Length: 1\r\n\r\n{"]
+        told = [b"", b"HTTP/1.1 200 OK\r\nContent-Length: 10\r\n\r\n{", b"hello\r\n\r\n"]
+        told.append(b"HTTP/1.1 200 OK\r\nContent-Length: 1\r\n\r\n{")
         threading.Thread(target=pretend, args=(odd, told), daemon=True).start()
         cases.running.server = "127.0.0.1:%d" % odd.getsockname()[1]
         cases.client = Client(cases.running.front())

@@ -49,6 +49,7 @@ def read(body, repeated=None):
     """The value that a body spells. The names that stand twice in one object are added to the list `repeated` where it is given."""
 
     def pairs(found):
+        """The object of these names and values."""
         held = {}
         for name, value in found:
             if name in held and repeated is not None:
@@ -57,6 +58,7 @@ def read(body, repeated=None):
         return held
 
     def no_number(word):
+        """Refuses a word that Python takes for a number."""
         raise ValueError(f"{word} is no number")
 
     try:

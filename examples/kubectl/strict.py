@@ -8,6 +8,8 @@ METADATA = {
     "annotations", "creationTimestamp", "deletionGracePeriodSeconds", "deletionTimestamp", "finalizers", "generateName", "generation",
     "labels", "managedFields", "name", "namespace", "ownerReferences", "resourceVersion", "selfLink", "uid",
 }  # fmt: skip
+# So many faults are told one by one.
+MOST_TOLD = 16
 OWN = ("apiVersion", "kind", "metadata")
 
 
@@ -51,6 +53,8 @@ def judged(told, directive, document, place):
     """The warnings of what is complained of; where the client asked for strictness, it is refused."""
     if directive not in ("Strict", "Warn"):
         raise Refused(400, "BadRequest", f"fieldValidation is none of Ignore, Warn and Strict: {directive!r}")
+    if len(told) > MOST_TOLD:
+        told = [*told[:MOST_TOLD], f"{len(told) - MOST_TOLD} others"]
     if not told or directive == "Warn":
         return told
     kind = document.get("kind", "object") if isinstance(document, dict) else "object"

@@ -88,7 +88,8 @@ class Walk:
             held = wanted(done.stdout)
         else:
             held = all(re.search(pattern, output, re.MULTILINE) for pattern in ([wanted] if isinstance(wanted, str) else wanted))
-        self.tell(" ".join(words), held and done.returncode == status, f"status {done.returncode}, not {status}, or not {wanted}:\n{output}")
+        why = f"status {done.returncode}, not {status}, or not {wanted}:\n{output}"
+        self.tell(" ".join(words), held and done.returncode == status, why)
 
     def tell(self, heading, held, why=""):
         """Prints the line of a step."""
@@ -138,7 +139,8 @@ def creates(walk):
     walk.step("apply -f -", rows("crontab.example.com/c created"), crontab("c", "v1", host="c", port="1", paused=True))
     walk.step("create -n elsewhere -f -", rows("crontab.example.com/d created"), crontab("d", "v1"))
     walk.step("get namespaces -o name", rows("namespace/default", "namespace/elsewhere"))
-    many = {"apiVersion": "v1", "kind": "List", "items": [crontab(f"e{i}", metadata={"name": f"e{i}", "labels": {"n": str(i)}}) for i in range(5)]}
+    items = [crontab(f"e{i}", metadata={"name": f"e{i}", "labels": {"n": str(i)}}) for i in range(5)]
+    many = {"apiVersion": "v1", "kind": "List", "items": items}
     walk.step("apply -n many -f -", rows(*(f"crontab.example.com/e{i} created" for i in range(5))), many)
     walk.step("create -f -", 'unknown field "hostport"', crontab("f", hostport="localhost:80"), status=1)
     bad = {**many, "items": [crontab("f", hostport="localhost:80")]}
@@ -151,7 +153,8 @@ def creates(walk):
 def gets(walk):
     """Every form of a get."""
     heading = "NAME +HOST +PAUSED +AGE *"
-    walk.step("get crontabs", rows(heading, f"a +localhost +false +{AGE}", f"b +b.example.com +false +{AGE}", f"c +c +true +{AGE}", f"f +false +{AGE}"))
+    others = f"b +b.example.com +false +{AGE}", f"c +c +true +{AGE}", f"f +false +{AGE}"
+    walk.step("get crontabs", rows(heading, f"a +localhost +false +{AGE}", *others))
     walk.step("get ct a", rows(heading, f"a +localhost +false +{AGE}"))
     walk.step("get ct a -o wide", rows("NAME +HOST +PAUSED +TIMEOUT +AGE *", f"a +localhost +false +30000 +{AGE}"))
     walk.step("get crontabs.v1beta1.example.com a", rows("NAME +AGE *", f"a +{AGE}"))
@@ -165,7 +168,8 @@ def gets(walk):
     walk.step(f"get crontab a c -o {columns}", rows("NAME +PORT *", "a +80", "c +1"))
     walk.step("get crontabs --sort-by=.host -o name", lambda output: output.split()[-1].endswith("/a"))
     walk.step("get crontabs -n many --show-labels --no-headers", r"^e3 +false +\S+ +n=3$")
-    walk.step("get crontabs -n many --chunk-size=2 -o name -v=6", [r"limit=2", r"continue=\w+", *(rf"^crontab.example.com/e{i}$" for i in range(5))])
+    each = [rf"^crontab.example.com/e{i}$" for i in range(5)]
+    walk.step("get crontabs -n many --chunk-size=2 -o name -v=6", [r"limit=2", r"continue=\w+", *each])
     walk.step("get crontab zz", r'\(NotFound\): crontabs.example.com "zz" not found', status=1)
     walk.step("get crontabs -w", r"\(MethodNotAllowed\)", status=1)
 
@@ -173,6 +177,7 @@ def gets(walk):
 def selects(walk):
     """Selectors."""
     def names(*numbers):
+        """Takes the names of these objects."""
         return rows(*(f"crontab.example.com/e{number}" for number in numbers))
 
     many = ["get", "crontabs", "-n", "many", "-o", "name"]
@@ -203,8 +208,9 @@ def edits(walk):
     editor.chmod(0o755)
     walk.step("edit crontab a", rows("crontab.example.com/a edited"), EDITOR=str(editor), KUBE_EDITOR=str(editor))
     seen = walk.read("get crontab a -o json")
-    held = (seen.get("host"), seen.get("owner"), seen.get("note"), seen["metadata"].get("annotations")) == ("edited", "me", "x", {"note": "one"})
-    walk.tell("each edit stands in the end", held and not seen["metadata"].get("labels"), json.dumps(seen))
+    held = [seen.get(name) for name in ("host", "owner", "note")] == ["edited", "me", "x"]
+    noted = seen["metadata"].get("annotations") == {"note": "one"} and not seen["metadata"].get("labels")
+    walk.tell("each edit stands in the end", held and noted, json.dumps(seen))
     walk.step("replace -f -", rows("crontab.example.com/a replaced"), {**seen, "host": "replaced"})
     walk.step("replace -f -", r"\(Conflict\)", {**seen, "host": "late"}, status=1)
     walk.step("replace -f -", rows("crontab.example.com/a replaced"), crontab("a", "v1", host="whole", port="1"))
