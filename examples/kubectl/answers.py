@@ -9,6 +9,7 @@ import openapi
 import protobuf
 import selecting
 import tables
+from backend import Reply
 from discovery import DEFINITIONS, MIGRATIONS
 from places import PAGING, VERSIONS, place_of
 from statuses import Refused, bad_request, no_method, written
@@ -32,11 +33,6 @@ class Answer:
 def refusal(refused):
     """The answer that refuses a request."""
     return Answer(refused.code, written(refused.document()))
-
-
-def told(document):
-    """The answer that is a document."""
-    return Answer(200, written(document))
 
 
 def listed(api_version, kind, items):
@@ -102,7 +98,7 @@ class Turn:
             return made
         if self.request.method not in ("GET", "HEAD"):
             raise no_method(f"{self.request.method} isn't served at this path")
-        return told(made)
+        return Answer(200, written(made))
 
     def of_names(self, names):
         """The document, or the answer, at a path that isn't of the core group."""
@@ -211,16 +207,16 @@ class Turn:
         if reply.code == 405:
             raise no_method(f"{request.method} isn't served at this path")
         headers = [("Warning", f"299 - {json.dumps(text)}") for text in warnings]
-        return Answer(reply.code, reply.body, "application/json", headers) if not isinstance(reply, Answer) else reply
+        return Answer(reply.code, reply.body, "application/json", headers)
 
     def reading(self, place):
-        """The reply to a request that only reads."""
+        """The reply to a request that only reads, with what the front makes of it."""
         request = self.request
         if place is None:
             return self.asker.ask("GET", request.target())
         if place.of() == DEFINITIONS and not place.name:
             found = listed("apiextensions.k8s.io/v1", "CustomResourceDefinitionList", [self.definition()])
-            return told(self.shown(self.selected(found), tables.OF_DEFINITIONS))
+            return Reply(200, written(self.shown(self.selected(found), tables.OF_DEFINITIONS)))
         names = PAGING if not place.name and request.least() else PAGING + VERSIONS
         reply = self.asker.ask("GET", request.target(request.path.removesuffix("/status") if place.part else None, names))
         if reply.code != 200 or not request.wants_table() and (place.name or not request.narrows()):
@@ -229,7 +225,7 @@ class Turn:
         if not place.name:
             document = self.selected(document)
             self.check_version(document)
-        return told(self.shown(document, self.columns(place) if request.wants_table() else ()))
+        return Reply(200, written(self.shown(document, self.columns(place) if request.wants_table() else ())))
 
     def check_version(self, document):
         """Refuses to show what is older than the version that the client has seen, as from a server that was started anew."""

@@ -24,6 +24,7 @@ from backend import Backend
 from places import taken_apart
 from statuses import Refused, bad_request, no_method
 
+FIELD_NAME = re.compile(r"[!#$%&'*+.^_`|~0-9A-Za-z-]+")
 MOST_BODY = 1 << 20
 # Of the chunks' own lines and of what stands behind the last.
 MOST_CHUNK_LINE = 4096
@@ -80,6 +81,8 @@ class Handler(http.server.BaseHTTPRequestHandler):
 
     def read_body(self):
         """The body of the request."""
+        if self.headers.defects or not all(FIELD_NAME.fullmatch(name) for name in self.headers):
+            raise bad_request("a line of the head is no field")
         lengths = self.headers.get_all("Content-Length", [])
         codings = self.headers.get_all("Transfer-Encoding", [])
         if codings:
