@@ -159,7 +159,8 @@ class Handler(http.server.BaseHTTPRequestHandler):
         if self.close_connection:
             answer.headers.append(("Connection", "close"))
         phrase = self.responses.get(answer.code, ("Unknown",))[0]
-        head = [f"HTTP/1.1 {answer.code} {phrase}", f"Content-Type: {answer.media}", f"Content-Length: {len(answer.body)}"]
+        head = [f"HTTP/1.1 {answer.code} {phrase}", f"Date: {self.date_time_string()}"]
+        head += [f"Content-Type: {answer.media}", f"Content-Length: {len(answer.body)}"]
         head += [f"{name}: {value}" for name, value in answer.headers]
         body = b"" if self.command == "HEAD" else answer.body
         self.wfile.write("\r\n".join([*head, "", ""]).encode("latin-1", "replace") + body)

@@ -55,7 +55,10 @@ class Running:
 
     def started(self, words):
         """The address at which a program listens that was just started."""
-        process = subprocess.Popen(list(map(str, words)), stdin=subprocess.DEVNULL, stdout=subprocess.PIPE, text=True)
+        try:
+            process = subprocess.Popen(list(map(str, words)), stdin=subprocess.DEVNULL, stdout=subprocess.PIPE, text=True)
+        except OSError as error:
+            sys.exit(f"{words[0]} can't be run: {error}")
         self.processes.append(process)
         line = process.stdout.readline()
         if not line.startswith(LISTENING):
