@@ -20,7 +20,7 @@ use Rattle.api_calls.specs.declared.reply.Reply.{Reply}
 use Rattle.api_calls.specs.declared.refusal.Refusal.{Refusal}
 use Rattle.http_routes.specs.Paths.{Resource, IsResource}
 use Rattle.http_routes.specs.Paths as path
-use Rattle.http_routes.specs.Actions.{Action, Row, Paging, row_of, cell, call_of}
+use Rattle.http_routes.specs.Actions.{Action, Row, Paging, AsksAt, row_of, cell, call_of}
 use Rattle.http_routes.specs.Actions as action
 use Rattle.http_routes.specs.Routes.{Route, Routes}
 use Rattle.http_routes.specs.Routes as route
@@ -215,76 +215,76 @@ answers_wanting f n v j q = replies_answer f n v v j j q wants_memory v.seen Non
 -- ---- arguments
 
 -- what an action has to have for its call
-abbrev MayAct : Meaning → Action → Type 0
-MayAct m (action.get v k) = v < m.count
-MayAct m (action.list v ns) = v < m.count
-MayAct m (action.create v ns) = (v < m.count) × (is_namespace ns ≡ true)
-MayAct m (action.replace v k) = (v < m.count) × IsTrue (is_namespace k.ns)
-MayAct m (action.delete v k) = v < m.count
-MayAct m action.group = Unit {0}
-MayAct m action.crd = Unit {0}
-MayAct m action.set_versions = Unit {0}
-MayAct m action.trim = Unit {0}
-MayAct m action.start = Unit {0}
-MayAct m (action.migration name) = Unit {0}
-MayAct m action.migrations = Unit {0}
-MayAct m (action.raw k) = Unit {0}
+abbrev MayAct : Action → Type 0
+MayAct (action.get v k) = Unit {0}
+MayAct (action.list v ns) = Unit {0}
+MayAct (action.create v ns) = is_namespace ns ≡ true
+MayAct (action.replace v k) = IsTrue (is_namespace k.ns)
+MayAct (action.delete v k) = Unit {0}
+MayAct action.group = Unit {0}
+MayAct action.crd = Unit {0}
+MayAct action.set_versions = Unit {0}
+MayAct action.trim = Unit {0}
+MayAct action.start = Unit {0}
+MayAct (action.migration name) = Unit {0}
+MayAct action.migrations = Unit {0}
+MayAct (action.raw k) = Unit {0}
 
-may_call : (m : Meaning) (a : Action) (body : List ℕ) (p : Paging) → MayAct m a → MayCall m (call_of a body p)
-may_call m (action.get v k) body p may = may
-may_call m (action.list v ns) body p may = may
-may_call m (action.create v ns) body p may = may
-may_call m (action.replace v k) body p may = may
-may_call m (action.delete v k) body p may = may
-may_call m action.group body p may = tt
-may_call m action.crd body p may = tt
-may_call m action.set_versions body p may = tt
-may_call m action.trim body p may = tt
-may_call m action.start body p may = tt
-may_call m (action.migration name) body p may = tt
-may_call m action.migrations body p may = tt
-may_call m (action.raw k) body p may = tt
+may_call : (m : Meaning) (a : Action) (v : ℕ) (body : List ℕ) (p : Paging) → MayAct a → AsksAt m a v → MayCall m (call_of a v body p)
+may_call m (action.get name k) v body p may at = at.0
+may_call m (action.list name ns) v body p may at = at.0
+may_call m (action.create name ns) v body p may at = (at.0, may)
+may_call m (action.replace name k) v body p may at = (at.0, may)
+may_call m (action.delete name k) v body p may at = at.0
+may_call m action.group v body p may at = tt
+may_call m action.crd v body p may at = tt
+may_call m action.set_versions v body p may at = tt
+may_call m action.trim v body p may at = tt
+may_call m action.start v body p may at = tt
+may_call m (action.migration name) v body p may at = tt
+may_call m action.migrations v body p may at = tt
+may_call m (action.raw k) v body p may at = tt
 
-if_some : (m : Meaning) (o : Option Action) (a : Action) → IfSome o (λ x. MayAct m x) → o ≡ Some a → MayAct m a
-if_some m o a all is = subst (λ (x : Option Action). IfSome x (λ y. MayAct m y)) is all
+if_some : (o : Option Action) (a : Action) → IfSome o (λ x. MayAct x) → o ≡ Some a → MayAct a
+if_some o a all is = subst (λ (x : Option Action). IfSome x (λ y. MayAct y)) is all
 
-pick : (m : Meaning) (g po pu d : Option Action) (b c e f : Bool) (a : Action)
-    → IfSome g (λ x. MayAct m x) → IfSome po (λ x. MayAct m x) → IfSome pu (λ x. MayAct m x) → IfSome d (λ x. MayAct m x)
-    → (if b then g else if c then po else if e then pu else if f then d else None) ≡ Some a → MayAct m a
-pick m g po pu d true c e f a one two three four is = if_some m g a one is
-pick m g po pu d false true e f a one two three four is = if_some m po a two is
-pick m g po pu d false false true f a one two three four is = if_some m pu a three is
-pick m g po pu d false false false true a one two three four is = if_some m d a four is
-pick m g po pu d false false false false a one two three four is = cc
+pick : (g po pu d : Option Action) (b c e f : Bool) (a : Action)
+    → IfSome g (λ x. MayAct x) → IfSome po (λ x. MayAct x) → IfSome pu (λ x. MayAct x) → IfSome d (λ x. MayAct x)
+    → (if b then g else if c then po else if e then pu else if f then d else None) ≡ Some a → MayAct a
+pick g po pu d true c e f a one two three four is = if_some g a one is
+pick g po pu d false true e f a one two three four is = if_some po a two is
+pick g po pu d false false true f a one two three four is = if_some pu a three is
+pick g po pu d false false false true a one two three four is = if_some d a four is
+pick g po pu d false false false false a one two three four is = cc
 
 -- the actions of a row are such
-record AreActs (m : Meaning) (r : Row) : Type 0 where
-  get : IfSome r.get (λ x. MayAct m x)
-  post : IfSome r.post (λ x. MayAct m x)
-  put : IfSome r.put (λ x. MayAct m x)
-  delete : IfSome r.delete (λ x. MayAct m x)
+record AreActs (r : Row) : Type 0 where
+  get : IfSome r.get (λ x. MayAct x)
+  post : IfSome r.post (λ x. MayAct x)
+  put : IfSome r.put (λ x. MayAct x)
+  delete : IfSome r.delete (λ x. MayAct x)
 
-acts : (m : Meaning) (r : Resource) → IsResource m r → AreActs m (row_of r)
+acts : (m : Meaning) (r : Resource) → IsResource m r → AreActs (row_of r)
 acts m path.group is = record { get = tt; post = tt; put = tt; delete = tt }
-acts m (path.everywhere v) is = record { get = is.0; post = tt; put = tt; delete = tt }
-acts m (path.collection v ns) is = record { get = is.0; post = is; put = tt; delete = tt }
-acts m (path.object v key) is = record { get = is.0; post = tt; put = (is.0, is.1.ns); delete = is.0 }
+acts m (path.everywhere v) is = record { get = tt; post = tt; put = tt; delete = tt }
+acts m (path.collection v ns) is = record { get = tt; post = is; put = tt; delete = tt }
+acts m (path.object v key) is = record { get = tt; post = tt; put = is.ns; delete = tt }
 acts m path.crd is = record { get = tt; post = tt; put = tt; delete = tt }
 acts m path.crd_status is = record { get = tt; post = tt; put = tt; delete = tt }
 acts m path.migrations is = record { get = tt; post = tt; put = tt; delete = tt }
 acts m (path.migration name) is = record { get = tt; post = tt; put = tt; delete = tt }
 acts m (path.raw key) is = record { get = tt; post = tt; put = tt; delete = tt }
 
-may_act : (m : Meaning) (r : Row) (method : List ℕ) (a : Action) → AreActs m r → cell r method ≡ Some a → MayAct m a
+may_act : (r : Row) (method : List ℕ) (a : Action) → AreActs r → cell r method ≡ Some a → MayAct a
 unfolding cell
-may_act m r method a all is =
-    pick m r.get r.post r.put r.delete (bytes_eq method (codes "GET")) (bytes_eq method (codes "POST")) (bytes_eq method (codes "PUT")) (bytes_eq method (codes "DELETE")) a
+may_act r method a all is =
+    pick r.get r.post r.put r.delete (bytes_eq method (codes "GET")) (bytes_eq method (codes "POST")) (bytes_eq method (codes "PUT")) (bytes_eq method (codes "DELETE")) a
     all.get all.post all.put all.delete is
 
 pub may_route : (m : Meaning) (method target body : List ℕ) (r : Route) → Routes m method target body r → MayRoute m r
 may_route m method target body (route.calls c) is =
-    subst (λ (x : Call). MayCall m x) (sym is.5)
-    (may_call m is.1 body is.2 (may_act m (row_of is.0) method is.1 (acts m is.0 is.3.named.0) is.3.asked))
+    subst (λ (x : Call). MayCall m x) (sym is.6)
+    (may_call m is.1 is.3 body is.2 (may_act (row_of is.0) method is.1 (acts m is.0 is.4.asks.named.0) is.4.asks.asked) is.5)
 may_route m method target body route.no_resource is = tt
 may_route m method target body route.method_not_allowed is = tt
 may_route m method target body (route.bad_request why) is = tt

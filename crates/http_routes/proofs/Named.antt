@@ -1,5 +1,5 @@
 -- Segments that name a resource.
-use Rattle.std.proofs.Common.{◌≡◌, ◌∙◌, ◌<◌, ℕ, true, List, [], ◌∷◌, Option, None, Some, ap, refl, sym, subst}
+use Rattle.std.proofs.Common.{◌≡◌, ◌∙◌, ℕ, true, List, [], ◌∷◌, Option, None, Some, ap, refl, sym, subst}
 use Rattle.std.specs.Prelude.{IsTrue, IfSome, MatchOption}
 use Rattle.std.specs.Borrow.{Bor}
 use Rattle.kube_meta.specs.Names.{is_name, is_namespace}
@@ -40,10 +40,10 @@ names_migrations m a b c d h = let p : a ≡ apis_word = h.0 in
     let s : d ≡ migrations_word = h.3 in
     (tt, cc)
 
-pub names_everywhere : (m : Meaning) (v : ℕ) (a b c d : List ℕ) → (IsMigrations a b c d → ⊥) → v < m.count
-    → a ≡ apis_word → b ≡ m.group → m.name v ≡ c → d ≡ m.plural → Names m ([] ∷ a ∷ b ∷ c ∷ d ∷ []) (everywhere v)
-names_everywhere m v a b c d other known p q r s =
-    ((known, λ (e : path_of m (everywhere v) ≡ path_of m migrations). other (cc, cc, cc, cc)), cc)
+pub names_everywhere : (m : Meaning) (a b c d : List ℕ) → (IsMigrations a b c d → ⊥)
+    → a ≡ apis_word → b ≡ m.group → d ≡ m.plural → Names m ([] ∷ a ∷ b ∷ c ∷ d ∷ []) (everywhere c)
+names_everywhere m a b c d other p q s =
+    (λ (e : path_of m (everywhere c) ≡ path_of m migrations). other (cc, cc, cc, cc), cc)
 
 pub names_crd : (m : Meaning) (a b c d f : List ℕ) → IsCrd a b c d → f ≡ crd_name m → Names m ([] ∷ a ∷ b ∷ c ∷ d ∷ f ∷ []) crd
 names_crd m a b c d f h t = let p : a ≡ apis_word = h.0 in
@@ -70,29 +70,27 @@ names_crd_status m a b c d f g h t u = let p : a ≡ apis_word = h.0 in
     let s : d ≡ crds_word = h.3 in
     (tt, cc)
 
-pub names_collection : (m : Meaning) (v : ℕ) (a b c d f g ns : List ℕ) → v < m.count → IsNamespaced m v a b c d g → IsNamespaceOf f ns
-    → Names m ([] ∷ a ∷ b ∷ c ∷ d ∷ f ∷ g ∷ []) (collection v ns)
-names_collection m v a b c d f g ns known h k =
+pub names_collection : (m : Meaning) (a b c d f g ns : List ℕ) → IsNamespaced m a b d g → IsNamespaceOf f ns
+    → Names m ([] ∷ a ∷ b ∷ c ∷ d ∷ f ∷ g ∷ []) (collection c ns)
+names_collection m a b c d f g ns h k =
     let p : a ≡ apis_word = h.0 in
     let q : b ≡ m.group = h.1 in
-    let r : c ≡ m.name v = h.2 in
-    let s : d ≡ namespaces_word = h.3 in
-    let t : g ≡ m.plural = h.4 in
+    let s : d ≡ namespaces_word = h.2 in
+    let t : g ≡ m.plural = h.3 in
     let u : ns ≡ f = k.0 in
-    ((known, good_namespace f ns k), cc)
+    (good_namespace f ns k, cc)
 
-pub names_object : (m : Meaning) (v : ℕ) (a b c d f g h ns name : List ℕ) → v < m.count → IsNamespaced m v a b c d g
+pub names_object : (m : Meaning) (a b c d f g h ns name : List ℕ) → IsNamespaced m a b d g
     → IsNamespaceOf f ns → IsNameOf h name
-    → Names m ([] ∷ a ∷ b ∷ c ∷ d ∷ f ∷ g ∷ h ∷ []) (object v (record { ns = ns; name = name }))
-names_object m v a b c d f g h ns name known i k l =
+    → Names m ([] ∷ a ∷ b ∷ c ∷ d ∷ f ∷ g ∷ h ∷ []) (object c (record { ns = ns; name = name }))
+names_object m a b c d f g h ns name i k l =
     let p : a ≡ apis_word = i.0 in
     let q : b ≡ m.group = i.1 in
-    let r : c ≡ m.name v = i.2 in
-    let s : d ≡ namespaces_word = i.3 in
-    let t : g ≡ m.plural = i.4 in
+    let s : d ≡ namespaces_word = i.2 in
+    let t : g ≡ m.plural = i.3 in
     let u : ns ≡ f = k.0 in
     let w : name ≡ h = l.0 in
-    ((known, record { ns = good_namespace f ns k; name = good_name h name l }), cc)
+    (record { ns = good_namespace f ns k; name = good_name h name l }, cc)
 
 -- ---- what is found
 

@@ -33,11 +33,11 @@ nothing_four m a b c never (raw key) served e =
     never (cc) (rw ns at served.ns) (rw name at served.name)
 
 pub nothing_five : (m : Meaning) (a b c d : List ℕ)
-    → ((v : ℕ) → v < m.count → a ≡ apis_word → b ≡ m.group → c ≡ m.name v → d ≡ m.plural → ⊥)
+    → (a ≡ apis_word → b ≡ m.group → d ≡ m.plural → ⊥)
     → (IsMigrations a b c d → ⊥)
     → NamesNothing m ([] ∷ a ∷ b ∷ c ∷ d ∷ [])
 nothing_five m a b c d all never group served e = cc
-nothing_five m a b c d all never (everywhere v) served e = all v served.0 (cc) (cc) (cc) (cc)
+nothing_five m a b c d all never (everywhere v) served e = all (cc) (cc) (cc)
 nothing_five m a b c d all never (collection v ns) served e = cc
 nothing_five m a b c d all never (object v key) served e = cc
 nothing_five m a b c d all never crd served e = cc
@@ -64,13 +64,13 @@ nothing_six m a b c d f defined never (raw key) served e = cc
 
 pub nothing_seven : (m : Meaning) (a b c d f g : List ℕ)
     → (IsCrd a b c d → f ≡ crd_name m → g ≡ status_word → ⊥)
-    → ((v : ℕ) → v < m.count → IsNamespaced m v a b c d g → IsTrue (is_namespace f) → ⊥)
+    → (IsNamespaced m a b d g → IsTrue (is_namespace f) → ⊥)
     → NamesNothing m ([] ∷ a ∷ b ∷ c ∷ d ∷ f ∷ g ∷ [])
 nothing_seven m a b c d f g defined never group served e = cc
 nothing_seven m a b c d f g defined never (everywhere v) served e = cc
 nothing_seven m a b c d f g defined never (collection v ns) served e =
     let same : ns ≡ f = cc in
-    never v served.0 (cc, cc, cc, cc, cc) (rw same at served.1)
+    never (cc, cc, cc, cc) (rw same at served)
 nothing_seven m a b c d f g defined never (object v key) served e = cc
 nothing_seven m a b c d f g defined never crd served e = cc
 nothing_seven m a b c d f g defined never crd_status served e = defined (cc, cc, cc, cc) (cc) (cc)
@@ -79,7 +79,7 @@ nothing_seven m a b c d f g defined never (migration name) served e = cc
 nothing_seven m a b c d f g defined never (raw key) served e = cc
 
 pub nothing_eight : (m : Meaning) (a b c d f g h : List ℕ)
-    → ((v : ℕ) → v < m.count → IsNamespaced m v a b c d g → IsTrue (is_namespace f) → IsTrue (is_name h) → ⊥)
+    → (IsNamespaced m a b d g → IsTrue (is_namespace f) → IsTrue (is_name h) → ⊥)
     → NamesNothing m ([] ∷ a ∷ b ∷ c ∷ d ∷ f ∷ g ∷ h ∷ [])
 nothing_eight m a b c d f g h never group served e = cc
 nothing_eight m a b c d f g h never (everywhere v) served e = cc
@@ -87,7 +87,7 @@ nothing_eight m a b c d f g h never (collection v ns) served e = cc
 nothing_eight m a b c d f g h never (object v key) served e =
     let ns : key.ns ≡ f = cc in
     let name : key.name ≡ h = cc in
-    never v served.0 (cc, cc, cc, cc, cc) (rw ns at served.1.ns) (rw name at served.1.name)
+    never (cc, cc, cc, cc) (rw ns at served.ns) (rw name at served.name)
 nothing_eight m a b c d f g h never crd served e = cc
 nothing_eight m a b c d f g h never crd_status served e = cc
 nothing_eight m a b c d f g h never migrations served e = cc
@@ -110,10 +110,10 @@ not_both a b c d h k =
     let q : b ≡ migration_group = k.1 in
     groups_differ (sym p ∙ q)
 
-pub not_namespaced : (m : Meaning) (v : ℕ) (a b c d g : List ℕ) → IsCrd a b c d → IsNamespaced m v a b c d g → ⊥
-not_namespaced m v a b c d g h k =
+pub not_namespaced : (m : Meaning) (a b c d g : List ℕ) → IsCrd a b c d → IsNamespaced m a b d g → ⊥
+not_namespaced m a b c d g h k =
     let p : d ≡ crds_word = h.3 in
-    let q : d ≡ namespaces_word = k.3 in
+    let q : d ≡ namespaces_word = k.2 in
     words_differ (sym p ∙ q)
 
 -- the last part of the first ones of the definition's path
@@ -127,13 +127,11 @@ pub migrations_found : {X : Type 0} (r : Option X) (a b c d : List ℕ) → a �
 migrations_found None a b c d p q s found = λ h. found h.3
 migrations_found (Some x) a b c d p q s found = (p, q, s, found)
 
--- the version that a part names, where the other parts are right
-pub version_found : (m : Meaning) (result : Option ℕ) (a b c d g : List ℕ)
-    → a ≡ apis_word → b ≡ m.group → d ≡ namespaces_word → g ≡ m.plural
-    → MatchOption result ((v : ℕ) → v < m.count → m.name v ≡ c → ⊥) (λ v. (v < m.count) × (m.name v ≡ c))
-    → MatchOption result ((v : ℕ) → v < m.count → IsNamespaced m v a b c d g → ⊥) (λ v. (v < m.count) × IsNamespaced m v a b c d g)
-version_found m None a b c d g p q r s found = λ v known h. found v known (sym h.2)
-version_found m (Some v) a b c d g p q r s found = (found.0, (p, q, sym found.1, r, s))
+-- the last part of a path of namespaced objects
+pub namespaced_found : {X : Type 0} (m : Meaning) (r : Option X) (a b d g : List ℕ) → a ≡ apis_word → b ≡ m.group → d ≡ namespaces_word
+    → MatchOption r (g ≢ m.plural) (λ _. g ≡ m.plural) → MatchOption r (IsNamespaced m a b d g → ⊥) (λ _. IsNamespaced m a b d g)
+namespaced_found m None a b d g p q s found = λ h. found h.3
+namespaced_found m (Some x) a b d g p q s found = (p, q, s, found)
 
 -- ---- what is as long as no line of the table, or begins with no empty segment
 

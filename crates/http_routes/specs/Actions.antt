@@ -1,20 +1,22 @@
 -- What each method asks of a resource, and the call of the server that it is.
-use Rattle.std.specs.Prelude.{ℕ, List, Option, None, Some, codes, if◌then◌else◌}
+use Rattle.std.specs.Prelude.{◌≡◌, ◌<◌, ℕ, List, Option, None, Some, MatchOption, IfSome, codes, if◌then◌else◌}
 use Rattle.std.specs.Str.{bytes_eq}
 use Rattle.kube_meta.specs.Key.{KeyView}
 use Rattle.api_calls.specs.Calls as calls
 use Rattle.api_calls.specs.Calls.{Call}
+use Rattle.api_calls.specs.Meaning.{Meaning}
 use Rattle.api_calls.specs.Pages.{Place}
 use Rattle.http_routes.specs.Paths as path
 use Rattle.http_routes.specs.Paths.{Resource}
 
+-- a version is told by its name
 pub data Action : Type 0 where
-  get : ℕ → KeyView → Action
+  get : List ℕ → KeyView → Action
   -- the objects at a version, of a namespace or of all
-  list : ℕ → Option (List ℕ) → Action
-  create : ℕ → List ℕ → Action
-  replace : ℕ → KeyView → Action
-  delete : ℕ → KeyView → Action
+  list : List ℕ → Option (List ℕ) → Action
+  create : List ℕ → List ℕ → Action
+  replace : List ℕ → KeyView → Action
+  delete : List ℕ → KeyView → Action
   group : Action
   crd : Action
   set_versions : Action
@@ -57,6 +59,40 @@ cell r method =
     else if bytes_eq method (codes "DELETE") then r.delete
     else None
 
+-- ---- versions
+
+-- the name of the version at which something is asked
+abbrev pub version_in : Action → Option (List ℕ)
+version_in (get v key) = Some v
+version_in (list v ns) = Some v
+version_in (create v ns) = Some v
+version_in (replace v key) = Some v
+version_in (delete v key) = Some v
+version_in group = None
+version_in crd = None
+version_in set_versions = None
+version_in trim = None
+version_in start = None
+version_in (migration name) = None
+version_in migrations = None
+version_in (raw key) = None
+
+-- the definition has the version of the name at this place
+abbrev pub IsVersion : Meaning → List ℕ → ℕ → Type 0
+IsVersion m name v = (v < m.count) × (m.name v ≡ name)
+
+-- it has none of the name
+abbrev pub IsUnknown : Meaning → List ℕ → Type 0
+IsUnknown m name = (v : ℕ) → v < m.count → m.name v ≡ name → ⊥
+
+-- what is asked is asked at the version of this place, or at none
+abbrev pub AsksAt : Meaning → Action → ℕ → Type 0
+AsksAt m a v = IfSome (version_in a) (λ name. IsVersion m name v)
+
+-- it is asked at a version that the definition doesn't have
+abbrev pub AsksNowhere : Meaning → Action → Type 0
+AsksNowhere m a = MatchOption (version_in a) ⊥ (λ name. IsUnknown m name)
+
 -- ---- the call
 
 -- what the query says of a list: how many objects at most, where 0 is no limit, and where the list goes on
@@ -68,18 +104,18 @@ pub record Paging : Type 0 where
 abbrev pub unpaged : Paging
 unpaged = record { limit = 0; from = None }
 
--- with the request's body
-abbrev pub call_of : Action → List ℕ → Paging → Call
-call_of (get v key) body p = calls.get v key
-call_of (list v ns) body p = calls.list v ns p.limit p.from
-call_of (create v ns) body p = calls.create (record { version = v; ns = ns; name = None; bytes = body })
-call_of (replace v key) body p = calls.replace (record { version = v; ns = key.ns; name = Some key.name; bytes = body }) key
-call_of (delete v key) body p = calls.delete v key body
-call_of group body p = calls.group
-call_of crd body p = calls.crd
-call_of set_versions body p = calls.set_versions body
-call_of trim body p = calls.trim body
-call_of start body p = calls.start body
-call_of (migration name) body p = calls.migration name
-call_of migrations body p = calls.migrations
-call_of (raw key) body p = calls.raw key
+-- at the version of a place, where one is asked for, with the request's body
+abbrev pub call_of : Action → ℕ → List ℕ → Paging → Call
+call_of (get name key) v body p = calls.get v key
+call_of (list name ns) v body p = calls.list v ns p.limit p.from
+call_of (create name ns) v body p = calls.create (record { version = v; ns = ns; name = None; bytes = body })
+call_of (replace name key) v body p = calls.replace (record { version = v; ns = key.ns; name = Some key.name; bytes = body }) key
+call_of (delete name key) v body p = calls.delete v key body
+call_of group v body p = calls.group
+call_of crd v body p = calls.crd
+call_of set_versions v body p = calls.set_versions body
+call_of trim v body p = calls.trim body
+call_of start v body p = calls.start body
+call_of (migration name) v body p = calls.migration name
+call_of migrations v body p = calls.migrations
+call_of (raw key) v body p = calls.raw key

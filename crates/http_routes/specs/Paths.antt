@@ -1,19 +1,19 @@
 -- Which paths there are (Kubernetes API Concepts, "Resource URIs"). A path is cut at its slashes, and its segments are decoded then,
 -- so that an encoded slash stays inside its segment.
-use Rattle.std.specs.Prelude.{◌≡◌, ◌≢◌, ◌<◌, ◌==◌, ℕ, List, [], ◌∷◌, ◌++◌, map, codes, IsTrue}
+use Rattle.std.specs.Prelude.{◌≡◌, ◌≢◌, ◌==◌, ℕ, List, [], ◌∷◌, ◌++◌, map, codes, IsTrue}
 use Rattle.std.specs.List.{slice_split}
 use Rattle.percent_encoding.specs.Percent.{percent_decode}
 use Rattle.kube_meta.specs.Key.{KeyView}
 use Rattle.kube_meta.specs.Names.{is_name, is_namespace, dot}
 use Rattle.api_calls.specs.Meaning.{Meaning}
 
--- what a path names; a version is told by its place
+-- what a path names; a version is told by its segment, whether or not the definition has one of that name
 pub data Resource : Type 0 where
   group : Resource
   -- the objects of all namespaces at a version, those of one, and one of them
-  everywhere : ℕ → Resource
-  collection : ℕ → List ℕ → Resource
-  object : ℕ → KeyView → Resource
+  everywhere : List ℕ → Resource
+  collection : List ℕ → List ℕ → Resource
+  object : List ℕ → KeyView → Resource
   -- the definition, and its status
   crd : Resource
   crd_status : Resource
@@ -62,9 +62,9 @@ crd_name m = m.plural ++ (dot ∷ m.group)
 
 abbrev pub path_of : Meaning → Resource → List (List ℕ)
 path_of m group = [] ∷ apis_word ∷ m.group ∷ []
-path_of m (everywhere v) = [] ∷ apis_word ∷ m.group ∷ m.name v ∷ m.plural ∷ []
-path_of m (collection v ns) = [] ∷ apis_word ∷ m.group ∷ m.name v ∷ namespaces_word ∷ ns ∷ m.plural ∷ []
-path_of m (object v key) = [] ∷ apis_word ∷ m.group ∷ m.name v ∷ namespaces_word ∷ key.ns ∷ m.plural ∷ key.name ∷ []
+path_of m (everywhere v) = [] ∷ apis_word ∷ m.group ∷ v ∷ m.plural ∷ []
+path_of m (collection v ns) = [] ∷ apis_word ∷ m.group ∷ v ∷ namespaces_word ∷ ns ∷ m.plural ∷ []
+path_of m (object v key) = [] ∷ apis_word ∷ m.group ∷ v ∷ namespaces_word ∷ key.ns ∷ m.plural ∷ key.name ∷ []
 path_of m crd = [] ∷ apis_word ∷ crd_group ∷ crd_version ∷ crds_word ∷ crd_name m ∷ []
 path_of m crd_status = [] ∷ apis_word ∷ crd_group ∷ crd_version ∷ crds_word ∷ crd_name m ∷ status_word ∷ []
 path_of m migrations = [] ∷ apis_word ∷ migration_group ∷ migration_version ∷ migrations_word ∷ []
@@ -76,13 +76,13 @@ pub record IsKey (key : KeyView) : Type 0 where
   pub ns : IsTrue (is_namespace key.ns)
   pub name : IsTrue (is_name key.name)
 
--- The version is one of the definition's, and namespaces and names keep their rules. One path may stand in two lines of
--- the table, that of all namespaces' objects and that of the migrations: the lower line alone counts.
+-- Namespaces and names keep their rules. One path may stand in two lines of the table, that of all namespaces' objects and
+-- that of the migrations: the lower line alone counts.
 abbrev pub IsResource : Meaning → Resource → Type 0
 IsResource m group = Unit {0}
-IsResource m (everywhere v) = (v < m.count) × (path_of m (everywhere v) ≢ path_of m migrations)
-IsResource m (collection v ns) = (v < m.count) × IsTrue (is_namespace ns)
-IsResource m (object v key) = (v < m.count) × IsKey key
+IsResource m (everywhere v) = path_of m (everywhere v) ≢ path_of m migrations
+IsResource m (collection v ns) = IsTrue (is_namespace ns)
+IsResource m (object v key) = IsKey key
 IsResource m crd = Unit {0}
 IsResource m crd_status = Unit {0}
 IsResource m migrations = Unit {0}
@@ -119,7 +119,6 @@ abbrev pub IsMigrations : List ℕ → List ℕ → List ℕ → List ℕ → Ty
 IsMigrations first second third fourth =
     (first ≡ apis_word) × (second ≡ migration_group) × (third ≡ migration_version) × (fourth ≡ migrations_word)
 
--- the segments of a path of namespaced objects that aren't names
-abbrev pub IsNamespaced : Meaning → ℕ → List ℕ → List ℕ → List ℕ → List ℕ → List ℕ → Type 0
-IsNamespaced m v first second third fourth last =
-    (first ≡ apis_word) × (second ≡ m.group) × (third ≡ m.name v) × (fourth ≡ namespaces_word) × (last ≡ m.plural)
+-- the segments of a path of namespaced objects that are neither names nor a version
+abbrev pub IsNamespaced : Meaning → List ℕ → List ℕ → List ℕ → List ℕ → Type 0
+IsNamespaced m first second fourth last = (first ≡ apis_word) × (second ≡ m.group) × (fourth ≡ namespaces_word) × (last ≡ m.plural)

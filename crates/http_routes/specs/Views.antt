@@ -35,9 +35,9 @@ key_view ns name = record { ns = ns; name = name }
 
 abbrev pub resource_of : Resource → path.Resource
 resource_of resources.Group = path.group
-resource_of (resources.Everywhere v) = path.everywhere v
-resource_of (resources.Collection v ns) = path.collection v ns.now
-resource_of (resources.Object v ns name) = path.object v (key_view ns.now name.now)
+resource_of (resources.Everywhere v) = path.everywhere v.now
+resource_of (resources.Collection v ns) = path.collection v.now ns.now
+resource_of (resources.Object v ns name) = path.object v.now (key_view ns.now name.now)
 resource_of resources.Crd = path.crd
 resource_of resources.CrdStatus = path.crd_status
 resource_of resources.Migrations = path.migrations
@@ -50,11 +50,11 @@ lent None = None
 lent (Some s) = Some s.now
 
 abbrev pub action_of : Action → action.Action
-action_of (actions.Get v ns name) = action.get v (key_view ns.now name.now)
-action_of (actions.List v ns) = action.list v (lent ns)
-action_of (actions.Create v ns) = action.create v ns.now
-action_of (actions.Replace v ns name) = action.replace v (key_view ns.now name.now)
-action_of (actions.Delete v ns name) = action.delete v (key_view ns.now name.now)
+action_of (actions.Get v ns name) = action.get v.now (key_view ns.now name.now)
+action_of (actions.List v ns) = action.list v.now (lent ns)
+action_of (actions.Create v ns) = action.create v.now ns.now
+action_of (actions.Replace v ns name) = action.replace v.now (key_view ns.now name.now)
+action_of (actions.Delete v ns name) = action.delete v.now (key_view ns.now name.now)
 action_of actions.Group = action.group
 action_of actions.Crd = action.crd
 action_of actions.SetVersions = action.set_versions
@@ -153,6 +153,11 @@ route_of routes.MethodNotAllowed = route.method_not_allowed
 route_of (routes.BadRequest why) = route.bad_request (why_of why)
 
 -- ---- for private clauses
+
+-- bytes lent, where there are any
+abbrev pub bytes_lent : Option (Bor (List ℕ)) → Option (List ℕ)
+bytes_lent None = None
+bytes_lent (Some b) = Some b.now
 
 -- bytes lent
 abbrev pub now_of : Bor (List ℕ) → List ℕ

@@ -11,29 +11,29 @@ use kj_value::{NoMemory, Txt};
 use kube_meta::Key;
 use std::alloc::Global;
 
-/// What a method asks of a resource, lent.
+/// What a method asks of a resource, lent; a version by its name.
 #[derive(Clone, Copy, Drop)]
 pub enum Action<'b> {
     Get {
-        version: u8,
+        version: &'b [u8],
         namespace: &'b str,
         name: &'b str,
     },
     List {
-        version: u8,
+        version: &'b [u8],
         namespace: Option<&'b str>,
     },
     Create {
-        version: u8,
+        version: &'b [u8],
         namespace: &'b str,
     },
     Replace {
-        version: u8,
+        version: &'b [u8],
         namespace: &'b str,
         name: &'b str,
     },
     Delete {
-        version: u8,
+        version: &'b [u8],
         namespace: &'b str,
         name: &'b str,
     },
@@ -195,27 +195,34 @@ fn listed<'a>(
     })
 }
 
-/// The call that is asked for.
+/// The call that is asked for, at the version of this place where it is asked at one.
 pub fn make_call<'a>(
     alloc: Global,
     action: Action<'_>,
+    version: u8,
     body: &'a [u8],
     paging: Paging,
 ) -> Result<Call<'a>, NoMemory>
     requires { FitsAction action }
-    ensures { IfOk result (λ c. call_view c ≡ call_of (action_of action.entry) body.now (paging_of paging)) }
+    ensures { IfOk result (λ c. call_view c ≡ call_of (action_of action.entry) version body.now (paging_of paging)) }
 {
     match action {
         Action::Get {
-            version,
+            version: _,
             namespace,
             name,
         } => {
             let key = Key::of(alloc, namespace, name)?;
             Ok(Call::Get { version, key })
         }
-        Action::List { version, namespace } => listed(alloc, version, namespace, paging),
-        Action::Create { version, namespace } => {
+        Action::List {
+            version: _,
+            namespace,
+        } => listed(alloc, version, namespace, paging),
+        Action::Create {
+            version: _,
+            namespace,
+        } => {
             let namespace = Txt::of(alloc, namespace)?;
             Ok(Call::Create {
                 version,
@@ -224,7 +231,7 @@ pub fn make_call<'a>(
             })
         }
         Action::Replace {
-            version,
+            version: _,
             namespace,
             name,
         } => {
@@ -232,7 +239,7 @@ pub fn make_call<'a>(
             Ok(Call::Replace { version, key, body })
         }
         Action::Delete {
-            version,
+            version: _,
             namespace,
             name,
         } => {

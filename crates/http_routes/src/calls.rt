@@ -66,7 +66,7 @@ pub enum Call<'a> {
 #[derive(Drop)]
 pub enum Route<'a> {
     Calls(Call<'a>),
-    /// Nothing has the path: 404, with the reason NotFound.
+    /// Nothing has the path, or the definition doesn't have the version: 404, with the reason NotFound.
     NoResource,
     /// What the path names doesn't have the method: 405.
     MethodNotAllowed,

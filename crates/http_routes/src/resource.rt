@@ -1,5 +1,5 @@
 //! What a path names.
-ghost use Rattle.std.specs.Prelude.{◌≡◌, ◌≢◌, ◌<◌, ◌≤◌, ◌++◌, ◌∷◌, [], ℕ, List, length, map, MatchOption, IfSome};
+ghost use Rattle.std.specs.Prelude.{◌≡◌, ◌≢◌, ◌++◌, ◌∷◌, [], map, MatchOption, IfSome};
 ghost use Rattle.kube_meta.specs.Names.{dot};
 ghost use Rattle.http_routes.specs.Paths.{crd_name, IsCrd, IsMigrations, IsNamespaced, Names, NamesNothing, path_of};
 ghost use Rattle.http_routes.specs.Views.{resource_of, now_of, FitsResource};
@@ -13,19 +13,19 @@ use crate::words::{
 };
 use api_calls::Versions;
 
-/// What a path names, lent.
+/// What a path names, lent; a version as its segment.
 #[derive(Clone, Copy, Drop)]
 pub enum Resource<'b> {
     Group,
     Everywhere {
-        version: u8,
+        version: &'b [u8],
     },
     Collection {
-        version: u8,
+        version: &'b [u8],
         namespace: &'b str,
     },
     Object {
-        version: u8,
+        version: &'b [u8],
         namespace: &'b str,
         name: &'b str,
     },
@@ -39,20 +39,6 @@ pub enum Resource<'b> {
         namespace: &'b str,
         name: &'b str,
     },
-}
-
-// The version of this name.
-fn version_of<V: Versions>(versions: &V, name: &[u8]) -> Option<u8>
-    ensures { MatchOption result
-        ((v : ℕ) → v < (V.meaning versions.now).count → (V.meaning versions.now).name v ≡ name.now → ⊥)
-        (λ v. (v < (V.meaning versions.now).count) × ((V.meaning versions.now).name v ≡ name.now)) }
-{
-    for v in 0..versions.count() {
-        if versions.name(v).as_str().as_bytes() == name {
-            return Some(v);
-        }
-    }
-    None
 }
 
 fn expect_group<V: Versions>(versions: &V, part: &[u8]) -> Option<()>
@@ -144,7 +130,7 @@ fn everywhere_at<'b, V: Versions>(
     versions: &V,
     apis: &[u8],
     group: &[u8],
-    version: &[u8],
+    version: &'b [u8],
     plural: &[u8],
 ) -> Option<Resource<'b>>
     ensures names { MatchOption result
@@ -158,7 +144,6 @@ fn everywhere_at<'b, V: Versions>(
             expect_apis(apis)?;
             expect_group(versions, group)?;
             expect_plural(versions, plural)?;
-            let version = version_of(versions, version)?;
             Some(Resource::Everywhere { version })
         }
     }
@@ -190,31 +175,29 @@ fn crd_at<'b, V: Versions>(
     }
 }
 
-// The version of a path of namespaced objects.
-fn version_at<V: Versions>(
+// Passes where the parts are those of a path of namespaced objects.
+fn expect_namespaced<V: Versions>(
     versions: &V,
     apis: &[u8],
     group: &[u8],
-    version: &[u8],
     namespaces: &[u8],
     plural: &[u8],
-) -> Option<u8>
+) -> Option<()>
     ensures { MatchOption result
-        ((v : ℕ) → v < (V.meaning versions.now).count → IsNamespaced (V.meaning versions.now) v apis.now group.now version.now namespaces.now plural.now → ⊥)
-        (λ v. (v < (V.meaning versions.now).count) × IsNamespaced (V.meaning versions.now) v apis.now group.now version.now namespaces.now plural.now) }
+        (IsNamespaced (V.meaning versions.now) apis.now group.now namespaces.now plural.now → ⊥)
+        (λ _. IsNamespaced (V.meaning versions.now) apis.now group.now namespaces.now plural.now) }
 {
     expect_apis(apis)?;
     expect_group(versions, group)?;
     expect_namespaces(namespaces)?;
-    expect_plural(versions, plural)?;
-    version_of(versions, version)
+    expect_plural(versions, plural)
 }
 
 fn collection_at<'b, V: Versions>(
     versions: &V,
     apis: &[u8],
     group: &[u8],
-    version: &[u8],
+    version: &'b [u8],
     fourth: &[u8],
     fifth: &'b [u8],
     last: &[u8],
@@ -231,7 +214,7 @@ fn collection_at<'b, V: Versions>(
             Some(Resource::CrdStatus)
         }
         None => {
-            let version = version_at(versions, apis, group, version, fourth, last)?;
+            expect_namespaced(versions, apis, group, fourth, last)?;
             let namespace = namespace_text(fifth)?;
             Some(Resource::Collection { version, namespace })
         }
@@ -242,7 +225,7 @@ fn object_at<'b, V: Versions>(
     versions: &V,
     apis: &[u8],
     group: &[u8],
-    version: &[u8],
+    version: &'b [u8],
     namespaces: &[u8],
     namespace: &'b [u8],
     plural: &[u8],
@@ -253,7 +236,7 @@ fn object_at<'b, V: Versions>(
         (λ r. Names (V.meaning versions.now) ([] ∷ apis.now ∷ group.now ∷ version.now ∷ namespaces.now ∷ namespace.now ∷ plural.now ∷ name.now ∷ []) (resource_of r)) }
     ensures fits { IfSome result FitsResource }
 {
-    let version = version_at(versions, apis, group, version, namespaces, plural)?;
+    expect_namespaced(versions, apis, group, namespaces, plural)?;
     let namespace = namespace_text(namespace)?;
     let name = name_text(name)?;
     Some(Resource::Object {

@@ -1,5 +1,5 @@
 use Rattle.std.proofs.Common.{◌≡◌, ◌<◌, ℕ}
-use Rattle.http_routes.proofs.resource.version_of.Given as goal
+use Rattle.http_routes.proofs.places.version_of.Given as goal
 
 -- no version so far has the name
 abbrev pub invariant-loop-v : goal.invariant-loop-v
