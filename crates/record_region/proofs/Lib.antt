@@ -5,3 +5,4 @@ pub mod Views
 pub mod Regions
 pub mod Opening
 pub mod Called
+mod OwnChunks

@@ -15,7 +15,7 @@ mod piece;
 mod region;
 
 pub use chunks::{CHUNK_BYTES, chunks_of};
-pub use laws::{every_list, numbers};
+pub use laws::{apart, every_list, numbers};
 pub use piece::{Piece, RegionFull};
 pub use region::Region;
 

@@ -30,11 +30,13 @@ mod record;
 mod store;
 mod text;
 
-// What a page has to do with the history.
+// What a page has to do with the history, and how large a server's region is.
 mod page_laws;
+mod standing;
 
 pub use answer::PutEnd;
 pub use page_laws::{Texts, page_of_history};
 pub use record::{NewRecord, StorePage, StoredRecord};
 pub use row::Record;
+pub use standing::standing_region;
 pub use store::Store;
