@@ -1,6 +1,6 @@
 """The documents that the scripts of this folder share, the same on every machine: definitions, objects, and reviews."""
 
-from programs import json
+import json
 
 GROUP = "example.com"
 

@@ -3,13 +3,15 @@
 
 Prints what one step takes, in microseconds of processor time, so that what else runs counts little, and how many times as long
 it takes in the longer drill as in the shorter one; the run of no steps is taken off. What each run writes is checked: it is what the
-model of drill_model.py prints, so the same in every run; as many objects were created as were deleted and are there, and 64 are
+model of checks/drill_model.py prints, so the same in every run; as many objects were created as were deleted and are there, and 64 are
 there at most."""
 
 import sys
 
-import drill_model
-from programs import built, each_of, parser_of, run_of
+from programs import TOP, built, each_of, parser_of, run_of
+
+sys.path.append(str(TOP / "checks"))
+import drill_model  # noqa: E402
 
 START = 7
 STEPS = 10_000, 100_000

@@ -1,4 +1,4 @@
-"""What the scripts of this folder share: their options, finding the built program, and timing its runs from outside."""
+"""What timers and checks share: their options, finding the built program, and timing its runs from outside."""
 
 import argparse
 import os
@@ -7,12 +7,6 @@ import resource
 import subprocess
 import sys
 import tempfile
-
-# The script json.py of this folder isn't the library of that name.
-HERE = sys.path.pop(0)
-import json  # noqa: E402
-
-sys.path.insert(0, HERE)
 
 TOP = pathlib.Path(__file__).resolve().parent.parent
 CRATE = TOP / "crates/kubeconv"
@@ -29,11 +23,11 @@ def parser_of(description):
 
 
 def built(path):
-    """The program at `path`, or the one that `rt run` left in the folder of its crate. Where there is none the script ends and
-    says what builds it."""
+    """The program at `path`, or the proved one in the folder of its crate. Where there is none the script ends and says what builds
+    one."""
     program = pathlib.Path(path) if path else CRATE / "out/kubeconv"
     if not os.access(program, os.X_OK) or program.is_dir():
-        sys.exit(f"there is no program {program}; this builds it: cd {CRATE} && rt run -- pipe </dev/null")
+        sys.exit(f"there is no program {program}: tools/build.py proves one there, and `tools/compile.py --bare FILE` compiles one for --program")
     return program.resolve()
 
 

@@ -11,7 +11,7 @@
 - memory: what the process holds with as many objects as a server may hold.
 
 What a request takes while more and more objects stand is timed by store.py, by one connection.
-Every answer is checked for its code. The program is built by `rt run` in its folder, or is the one of --program."""
+Every answer is checked for its code. The program is the one in the folder of its crate, or that of --program."""
 
 import argparse
 import multiprocessing

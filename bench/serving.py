@@ -1,6 +1,7 @@
 """What the scripts about `kubeconv serve` share: the program that runs, one connection of a client, and what is measured of the
 program from outside."""
 
+import json
 import os
 import pathlib
 import random
@@ -10,7 +11,7 @@ import sys
 import time
 
 from documents import name_of, spelled
-from programs import SHARED_FILES, json
+from programs import SHARED_FILES
 
 GROUP = "/apis/example.com"
 DEFINITION = "/apis/apiextensions.k8s.io/v1/customresourcedefinitions/crontabs.example.com"

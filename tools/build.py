@@ -1,7 +1,7 @@
 #!/usr/bin/env python3
 """Builds a program with the libraries below it side by side, as many at once as there are processors.
 
-    python3 tools/build.py                 builds kubeconv
+    python3 tools/build.py                 builds kubeconv, and keeps it for ./kubeconv
     python3 tools/build.py --log FILE      what rt says goes to FILE, and not to standard output
     python3 tools/build.py --only CRATE..  builds only these libraries and what is below them, and no program
 
@@ -15,7 +15,8 @@ is proved as it always is, once. The copies are removed at the end, and also aft
 removed by the next. No other `rt` works in this copy meanwhile: this waits for one that does, and keeps others out until `rt run`.
 
 A line for each library that stands goes to standard error, with how many are left. Where anything fails, `rt run` goes on from
-what stands, one crate after another. The status is that of the last command: 0 where the program stands.
+what stands, one crate after another. The status is that of the last command: 0 where the program stands; and 1
+where a source changed meanwhile, so that it isn't kept.
 """
 import contextlib
 import fcntl
@@ -29,6 +30,8 @@ import sys
 import tempfile
 import threading
 import time
+
+import kept
 
 TOP = os.path.dirname(os.path.dirname(os.path.realpath(__file__)))
 PROGRAM = "kubeconv"
@@ -291,12 +294,16 @@ def build(crates, program, log):
     sweep()
     room = tempfile.mkdtemp(prefix=f"kubeconv-build-{os.getpid()}-")
     try:
+        if not crates:
+            kept.begin(f"{room}/begun")
         with alone_in(order):
             is_well = side_by_side(order, named, log, room)
         if not is_well:
             print("kubeconv: not all libraries could be built side by side: one crate after another now", file=sys.stderr, flush=True)
         if not crates:
-            return last(["rt", "run", "--", "pipe"], f"{TOP}/crates/{program}", log)
+            status = last(["rt", "run", "--", "pipe"], f"{TOP}/crates/{program}", log)
+            made = f"{TOP}/crates/{program}/out/{program}"
+            return status if status or kept.keep("proved", made, f"{room}/begun") else 1
         for crate in crates:
             status = last(["rt", "lib"], f"{TOP}/crates/{crate}", log)
             if status:

@@ -12,6 +12,7 @@ import subprocess
 import sys
 import tempfile
 
+import parts  # noqa: F401  finds the next ones
 from pipe import codes_of
 from programs import built, parser_of
 

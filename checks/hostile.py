@@ -11,7 +11,7 @@ While they are there another connection makes requests, and migrations are start
 comes behind the 200 is to be answered too. Of the 65 places one is that of the connection that makes requests, so that 64 idle ones are
 let go a minute, and it waits two to four minutes: the system's queue holds 129, and whose try comes next when others are behind these is
 by chance. Prints what each came to, and ends with status 1 where something was stopped. It takes some five minutes, nearly all of which
-it waits; with --short some seconds. The program is built by `rt run` in its folder, or --address names a server that runs already."""
+it waits; with --short some seconds. The program is the one in the folder of its crate, or --address names a server that runs already."""
 
 import argparse
 import pathlib
@@ -21,6 +21,7 @@ import sys
 import threading
 import time
 
+import parts  # noqa: F401  finds the next ones
 from programs import built
 from serving import (
     DEFINITION,

@@ -3,17 +3,19 @@
 those that `pipe` writes for the same requests, but for stamps and uids, of the definition that is built in and of the shared
 one; also where they come byte by byte. The address that is printed has the port that was taken; with `--connections 1` the
 program ends with 0; an address that is taken, or is none, is status 8 with its line. `curl` and `kubectl get --raw` are answered
-too, where the machine has them. Prints what each came to, and ends with status 1 where one differs. The program is built by
-`rt run` in its folder, or is the one of --program."""
+too, where the machine has them. Prints what each came to, and ends with status 1 where one differs. The program is the one
+in the folder of its crate, or that of --program."""
 
 import argparse
+import json
 import re
 import shutil
 import socket
 import subprocess
 import sys
 
-from programs import SHARED_FILES, TOP, built, json
+import parts  # noqa: F401  finds the next ones
+from programs import SHARED_FILES, TOP, built
 from serving import LISTENING, address_of
 
 FAULTS = []

@@ -18,18 +18,20 @@ stands at another version, so that the stored versions can be trimmed to the sto
 
 With --minutes N round after round of connections is made until N minutes are over. A round ends after --seconds N, with the
 requests that were made till then. Prints requests a second, the processor time a request, the memory before and after, and how
-many answers were wrong. Ends with status 1 where one was. The program is built by `rt run` in its folder, or --address names a
+many answers were wrong. Ends with status 1 where one was. The program is the one in the folder of its crate, or --address names a
 server that runs already, of the definition in `examples/`."""
 
 import argparse
 import bisect
+import json
 import multiprocessing
 import os
 import sys
 import threading
 import traceback
 
-from programs import built, json
+import parts  # noqa: F401  finds the next ones
+from programs import built
 from serving import (
     DEFINITION,
     MIGRATIONS,

@@ -12,6 +12,7 @@ import resource
 import subprocess
 import sys
 
+import parts  # noqa: F401  finds the next ones
 from programs import built, parser_of
 
 BAD_WORDS = (2, b"kubeconv: bad command line\n")

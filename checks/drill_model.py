@@ -1,6 +1,6 @@
 #!/usr/bin/env python3
 """Says what `kubeconv drill START COUNT` is to print, by a server of lists that is written after what docs/COMMANDS.md and the
-definitions say, and not after the code: python3 bench/drill_model.py START COUNT."""
+definitions say, and not after the code: python3 checks/drill_model.py START COUNT."""
 
 import sys
 

@@ -1,0 +1,294 @@
+#!/usr/bin/env python3
+"""Holds the documents to their bounds, their links to what is there, and their marked commands to what the program prints.
+
+    python3 tools/check_documents.py                      bounds, links, and the lines of the launcher
+    python3 tools/check_documents.py --program PROGRAM    also the marked commands and the examples, by this program
+
+It prints a line for each thing that is wrong, and then ends with status 1.
+
+Bounds: a line of text has at most 110 columns. In `docs/` a line of a code block has at most 160, and a row of a table, which can't be
+broken, at most 300; in the other documents these have 110 too. LINES says how many lines a document has at most, and WORDS how many
+words a row of its tables.
+
+Links: each relative link leads to a file or folder that is there, and its `#anchor` to a heading there. Text in code isn't looked at.
+
+Commands: a line `<!-- run -->` before a code block marks its commands. A command is a line that begins with `$ `, and goes on where a line
+ends with `\\` or `|`; what stands behind it is what it prints on standard output. Where nothing does, only its status is looked at, as in
+a block without `$ `, of which each line is a command. It runs at the top of the repository, where `./kubeconv` stands for PROGRAM. Its
+status is 0, or N by `<!-- run: status N -->`, of the last command of a block; by `<!-- run: as FILE -->` that prints the text of FILE.
+`...` stands for any text. Stamps, uids, carriage returns, blanks at the ends of lines, empty lines at the ends, and whether an answer
+begins on a line of its own, don't count.
+"""
+
+import argparse
+import difflib
+import pathlib
+import re
+import shlex
+import subprocess
+import sys
+
+TOP = pathlib.Path(__file__).resolve().parent.parent
+sys.path[:0] = [str(TOP / "examples/upgrade"), str(TOP / "checks")]
+sys.dont_write_bytecode = True
+import drill_model  # noqa: E402
+import walk  # noqa: E402
+
+TEXT, CODE, ROW = 110, 160, 300
+LINES = {"README.md": 130, "docs/GATE.md": 60, "docs/PERFORMANCE.md": 90, "docs/PROOF_COST.md": 50, "docs/PROMISES.md": 400, "bench/README.md": 30, "checks/README.md": 30}
+WORDS = {"docs/PROMISES.md": 40}
+# So many marked commands stand in these documents at least.
+MARKED = {"README.md": 1, "docs/COMMANDS.md": 3}
+MARK = re.compile(r"<!-- run(?:: (.*))? -->")
+PATIENCE = 60
+SHARED = ["--crd", "examples/crontabs.json", "--rules", "examples/crontabs.rules.json"]
+
+
+def documents():
+    """The path of each document in the repository, and its lines with what each is."""
+    found = [TOP / "README.md", *TOP.glob("docs/*.md"), *TOP.glob("bench/*.md"), *TOP.glob("checks/*.md"), *TOP.glob("examples/**/*.md"), *TOP.glob("crates/*/*.md")]
+    return {str(it.relative_to(TOP)): kinds_of(it.read_text().split("\n")[:-1]) for it in sorted(found)}
+
+
+def kinds_of(lines):
+    """Each line with what it is: `fence`, `code`, `row` or `text`. A code block is fenced, or indented behind an empty line."""
+    told, is_fenced, before = [], False, ""
+    for line in lines:
+        if line.lstrip().startswith("```"):
+            is_fenced = not is_fenced
+            kind = "fence"
+        elif is_fenced or line.startswith("    ") and (not before or told[-1][1] == "code"):
+            kind = "code"
+        else:
+            kind = "row" if line.startswith("|") else "text"
+        told.append((line, kind))
+        before = line.strip()
+    return told
+
+
+def bounds(name, lines):
+    """What goes beyond the bounds of a document."""
+    widest = {"code": CODE, "row": ROW} if name.startswith("docs/") else {}
+    for number, (line, kind) in enumerate(lines, 1):
+        most = widest.get(kind, TEXT)
+        if len(line) > most:
+            yield f"{name}:{number}: {len(line)} columns, at most {most}"
+        words = len(line.replace("|", " ").split())
+        if kind == "row" and words > WORDS.get(name, words):
+            yield f"{name}:{number}: a row of {words} words, at most {WORDS[name]}"
+    if len(lines) > LINES.get(name, len(lines)):
+        yield f"{name}: {len(lines)} lines, at most {LINES[name]}"
+
+
+# ---- links
+
+
+def anchors_of(lines):
+    """The anchors of a document's headings, as they are made of them."""
+    found, times = set(), {}
+    for line, kind in lines:
+        found.update(re.findall(r'<[^>]+\b(?:id|name)="([^"]+)"', line))
+        heading = re.match(r"#{1,6} +(.*?)[ #]*$", line) if kind == "text" else None
+        if heading:
+            plain = re.sub(r"\[([^\]]*)\]\([^)]*\)|[`*]", r"\1", heading[1])
+            slug = re.sub(r"[^\w\- ]", "", plain.lower()).replace(" ", "-")
+            times[slug] = times.get(slug, -1) + 1
+            found.add(f"{slug}-{times[slug]}" if times[slug] else slug)
+    return found
+
+
+def links(name, lines, all_lines):
+    """The links of a document that lead nowhere."""
+    text = "\n".join(re.sub(r"(`+).+?\1", "", line) if kind in ("text", "row") else "" for line, kind in lines)
+    for target in re.findall(r"\]\(<?([^)\s>]+)>?(?: [^)]*)?\)|\b(?:src|href)=\"([^\"]+)\"", text):
+        target = "".join(target)
+        if re.match(r"[a-z]+:", target):
+            continue
+        path, _, anchor = target.partition("#")
+        found = (TOP / name).parent / path if path else TOP / name
+        if not found.exists():
+            yield f"{name}: a link leads to {target}, which isn't there"
+        elif anchor:
+            of = str(found.resolve().relative_to(TOP))
+            if anchor not in anchors_of(all_lines.get(of, [])):
+                yield f"{name}: a link leads to {target}, and {of} has no such heading"
+
+
+# ---- the lines of the program
+
+
+def launcher_lines():
+    """The lines of the program that the launcher knows, each as the names of its options, or its numbers."""
+    found = re.findall(r"^    (\w+)\) line='(.*)' ;;$", (TOP / "kubeconv").read_text(), re.M)
+    return {name: sorted(re.sub(r"[!+=].*", "", it) if it.startswith("--") else "N" for it in line.split()) for name, line in found}
+
+
+def document_lines(lines):
+    """The same of the first table of docs/COMMANDS.md."""
+    found = {}
+    for line, kind in lines:
+        told = re.match(r"\| `(\w+)([^`]*)` \|", line) if kind == "row" else None
+        if told and told[1] not in found:
+            words = told[2].replace("[", " ").replace("]", " ").split()
+            options = [it for it in words if it.startswith("--")]
+            found[told[1]] = sorted(options or ["N"] * len(words))
+    return found
+
+
+def differing_lines(all_lines):
+    """Where the launcher and docs/COMMANDS.md tell other lines."""
+    launched = launcher_lines()
+    told = {name: it for name, it in document_lines(all_lines["docs/COMMANDS.md"]).items() if name in launched or it}
+    if launched != told:
+        yield f"kubeconv and docs/COMMANDS.md tell other lines: {launched} and {told}"
+
+
+# ---- marked commands
+
+
+def plain(text):
+    """A text without what doesn't count."""
+    lines = walk.masked(text.replace("\r", "")).replace("}HTTP/1.1 ", "}\nHTTP/1.1 ").split("\n")
+    return "\n".join(line.rstrip() for line in lines).strip("\n")
+
+
+def is_shown(wanted, printed):
+    """Whether what is printed is what is shown, in which `...` stands for any text, and alone on a line also for no line."""
+    marked = re.sub(r"(?:\A|\n)\.\.\.(?=\n|\Z)", "\0", plain(wanted))
+    pattern = re.escape(marked).replace(re.escape("\0"), r"(?:(?:\A|\n).*)?").replace(re.escape("..."), ".*")
+    return re.fullmatch(pattern, plain(printed), re.S) is not None
+
+
+def marked_blocks(lines):
+    """The number of the line of each mark, what it says, and the block behind it."""
+    for at, (line, kind) in enumerate(lines):
+        found = MARK.fullmatch(line.strip()) if kind == "text" else None
+        if found:
+            block = []
+            for more, of in lines[at + 1 :]:
+                if of == "code":
+                    block.append(more)
+                elif block and more.strip() or of == "fence" and block:
+                    break
+                elif block:
+                    block.append("")
+            yield at + 1, found[1] or "", unindented(block)
+
+
+def unindented(block):
+    """The lines of a block, without the blanks that make it one, and without empty lines at its end."""
+    while block and not block[-1].strip():
+        block.pop()
+    return [line[4:] for line in block] if block and all(line[:4].strip() == "" for line in block) else block
+
+
+def commands_of(block):
+    """The commands of a block, each with the text that is shown behind it, or None."""
+    is_shown_with = any(line.startswith("$ ") for line in block)
+    found, goes_on = [], False
+    for line in block:
+        if goes_on or line.startswith("$ ") or not is_shown_with:
+            text = line if goes_on or not is_shown_with else line[2:]
+            if goes_on:
+                found[-1][0] += "\n" + text
+            elif text.strip():
+                found.append([text, []])
+            goes_on = text.rstrip().endswith(("\\", "|"))
+        elif found:
+            found[-1][1].append(line)
+    return [(command, "\n".join(shown) if any(it.strip() for it in shown) else None) for command, shown in found]
+
+
+def run(command, program):
+    """The status of a command and what it prints, with the program in the place of ./kubeconv."""
+    line = re.sub(r"(?<![\w./-])\./kubeconv(?![\w./-])", lambda _: shlex.quote(str(program)), command)
+    try:
+        ran = subprocess.run(["sh", "-c", line], cwd=TOP, stdin=subprocess.DEVNULL, stdout=subprocess.PIPE, stderr=subprocess.PIPE, timeout=PATIENCE)
+    except subprocess.TimeoutExpired:
+        return None, ""
+    return ran.returncode, ran.stdout.decode(errors="replace")
+
+
+def compared(where, wanted, printed):
+    """A complaint where what is printed isn't what is wanted, with the lines that differ."""
+    if not is_shown(wanted, printed):
+        yield f"{where} prints something else:"
+        yield from (f"    {it}" for it in difflib.unified_diff(plain(wanted).split("\n"), plain(printed).split("\n"), "wanted", "printed", lineterm="", n=1))
+
+
+def marked(name, lines, program):
+    """What is wrong with the marked commands of a document."""
+    count = 0
+    for number, said, block in marked_blocks(lines):
+        words = dict(it.split(" ", 1) for it in said.split(", ")) if said else {}
+        commands = commands_of(block)
+        count += len(commands)
+        if not commands or set(words) - {"status", "as"}:
+            yield f"{name}:{number}: a mark without commands, or with a word that isn't known"
+        for at, (command, shown) in enumerate(commands):
+            is_last, where = at == len(commands) - 1, f"{name}:{number}: {command.splitlines()[0]}"
+            status, printed = run(command, program)
+            wanted = int(words.get("status", 0)) if is_last else 0
+            if status != wanted:
+                yield f"{where} ended with status {status}, and not {wanted}"
+            if shown is not None:
+                yield from compared(where, shown, printed)
+            if is_last and "as" in words:
+                yield from compared(where, (TOP / words["as"]).read_text(), printed)
+    if count < MARKED.get(name, 0):
+        yield f"{name}: {count} marked commands, at least {MARKED[name]}"
+
+
+# ---- the examples
+
+
+def answered(program, given, words):
+    """The status of a run of `pipe` on a file of requests, and a line for each answer."""
+    with open(TOP / given, "rb") as it:
+        ran = subprocess.run([program, "pipe", *words], cwd=TOP, stdin=it, stdout=subprocess.PIPE, timeout=PATIENCE)
+    return ran.returncode, "".join(f"{status}\n{walk.masked(body)}\n" for status, body in walk.answers(ran.stdout))
+
+
+def of_rules(program):
+    """The requests of each rule are answered as the file beside them tells."""
+    for file in sorted(TOP.glob("examples/rules/*.http")):
+        name = file.relative_to(TOP).with_suffix("")
+        status, told = answered(program, file, ["--crd", f"{name}.json", "--rules", f"{name}.rules.json"])
+        if status:
+            yield f"{name}.http ended with status {status}"
+        yield from compared(f"{name}.http", (TOP / f"{name}.answers").read_text(), told)
+
+
+def of_examples(program):
+    """The other examples."""
+    words = " ".join(SHARED)
+    steps = f"./kubeconv pipe {words} --turns 1"
+    for command in (f"python3 examples/upgrade/walk.py --check {steps}", f"./kubeconv pipe {words} < examples/crontabs.http"):
+        status, printed = run(command, program)
+        if status:
+            yield f"{command} ended with status {status}: {printed}"
+    review = f"./kubeconv review {words} < examples/webhook/review.json"
+    yield from compared(review, (TOP / "examples/webhook/answer.json").read_text(), run(review, program)[1])
+    yield from compared("drill 7 1000", drill_model.drill(7, 1000), run("./kubeconv drill 7 1000", program)[1])
+
+
+def main():
+    """Reads the words, and prints what is wrong."""
+    parser = argparse.ArgumentParser(description=__doc__, formatter_class=argparse.RawDescriptionHelpFormatter)
+    parser.add_argument("--program", type=pathlib.Path, help="the built program")
+    program = parser.parse_args().program
+    program = program and program.resolve()
+    all_lines, wrong = documents(), []
+    for name, lines in all_lines.items():
+        wrong += [*bounds(name, lines), *links(name, lines, all_lines)]
+    wrong += differing_lines(all_lines)
+    if program:
+        for name, lines in all_lines.items():
+            wrong += marked(name, lines, program)
+        wrong += [*of_rules(program), *of_examples(program)]
+    print("".join(f"{it}\n" for it in wrong), end="", file=sys.stderr)
+    return 1 if wrong else 0
+
+
+if __name__ == "__main__":
+    sys.exit(main())
