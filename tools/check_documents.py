@@ -6,9 +6,8 @@
 
 It prints a line for each thing that is wrong, and then ends with status 1.
 
-Bounds: a line of text has at most 110 columns. In `docs/` a line of a code block has at most 160, and a row of a table, which can't be
-broken, at most 300; in the other documents these have 110 too. LINES says how many lines a document has at most, and WORDS how many
-words a row of its tables.
+Bounds: a line of text has at most 110 columns, a line of a code block at most 160, and a row of a table, which can't be broken, at most
+300; in README.md each line has 110. LINES says how many lines a document has at most, and WORDS how many words a row of its tables.
 
 Links: each relative link leads to a file or folder that is there, and its `#anchor` to a heading there. Text in code isn't looked at.
 
@@ -68,7 +67,7 @@ def kinds_of(lines):
 
 def bounds(name, lines):
     """What goes beyond the bounds of a document."""
-    widest = {"code": CODE, "row": ROW} if name.startswith("docs/") else {}
+    widest = {} if name == "README.md" else {"code": CODE, "row": ROW}
     for number, (line, kind) in enumerate(lines, 1):
         most = widest.get(kind, TEXT)
         if len(line) > most:
