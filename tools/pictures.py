@@ -1,0 +1,201 @@
+#!/usr/bin/env python3
+"""Draws the pictures of the documents: `pictures.py` writes them, `pictures.py --check` writes nothing and ends with 1 where one of
+them isn't what it would write.
+
+docs/way.svg is drawn from docs/way.txt, and docs/rooms.svg from docs/rooms.txt and crates.txt. A line of such a text is one of
+
+    size WIDTH HEIGHT
+    box NAME X Y WIDTH HEIGHT KIND | TITLE | LINE | ..
+    note X Y | TEXT
+    edge FROM TO [X,Y ..] | LABEL
+
+KIND is `plain`, `strong` or `pale`; a line that begins with a backquote is set as code. An edge goes from one box to the other by way
+of its points. A box without a TITLE is named by its NAME, and one without lines in docs/rooms.txt takes what crates.txt says of the
+room. The edges of docs/rooms.svg are those of crates.txt: a room points to each room that a crate of it names, but to those that it
+reaches by another one; docs/rooms.txt gives only their points."""
+
+import argparse
+import pathlib
+import sys
+import textwrap
+
+TOP = pathlib.Path(__file__).resolve().parent.parent
+DOCS = TOP / "docs"
+OUTSIDE = "tests and examples"
+
+STYLE = """
+svg{font-family:system-ui,-apple-system,"Segoe UI",Helvetica,Arial,sans-serif;font-size:13px}
+.back{fill:#ffffff}.plain{fill:#f2f5fa;stroke:#5b6b82}.strong{fill:#dcebff;stroke:#1f5fae}.pale{fill:#f7f7f4;stroke:#8a8a80}
+rect.box{stroke-width:1.4}text{fill:#1c2430}text.title{font-weight:600;font-size:14px}text.soft{fill:#4d5a6b}
+text.code{font-family:ui-monospace,Menlo,Consolas,monospace;font-size:12px}
+.edge{fill:none;stroke:#4d5a6b;stroke-width:1.5}.head{fill:#4d5a6b}.halo{stroke:#ffffff;stroke-width:4;paint-order:stroke}
+@media (prefers-color-scheme:dark){.back{fill:#10151d}.plain{fill:#1c2635;stroke:#8fa3c0}.strong{fill:#17365e;stroke:#7db4ff}
+.pale{fill:#23241f;stroke:#a3a394}text{fill:#e8edf5}text.soft{fill:#b3c0d1}.edge{stroke:#b3c0d1}.head{fill:#b3c0d1}
+.halo{stroke:#10151d}}
+"""
+
+
+class Box:
+    """A rectangle with a title and lines."""
+
+    def __init__(self, words, parts):
+        self.name = words[1]
+        self.x, self.y, self.w, self.h = (int(word) for word in words[2:6])
+        self.kind = words[6]
+        self.title = parts[0] if parts else self.name
+        self.lines = parts[1:]
+
+    def middle(self):
+        return self.x + self.w / 2, self.y + self.h / 2
+
+    def border(self, point):
+        """Where the way from the middle to a point leaves the box; straight down, up or to a side where the point stands beside it."""
+        px, py = point
+        mx, my = self.middle()
+        if self.x + 8 <= px <= self.x + self.w - 8:
+            return px, (self.y if py < my else self.y + self.h)
+        if self.y + 8 <= py <= self.y + self.h - 8:
+            return (self.x if px < mx else self.x + self.w), py
+        dx, dy = px - mx, py - my
+        part = min(self.w / 2 / abs(dx) if dx else 9e9, self.h / 2 / abs(dy) if dy else 9e9)
+        return mx + dx * part, my + dy * part
+
+
+def read(file):
+    """The size, the boxes by name, the notes and the edges of a text."""
+    size, boxes, notes, edges = (0, 0), {}, [], []
+    for line in file.read_text().splitlines():
+        if not line.strip() or line.startswith("#"):
+            continue
+        head, *parts = [part.strip() for part in line.split("|")]
+        words = head.split()
+        if words[0] == "size":
+            size = (int(words[1]), int(words[2]))
+        elif words[0] == "box":
+            boxes[words[1]] = Box(words, parts)
+        elif words[0] == "note":
+            notes.append((int(words[1]), int(words[2]), parts[0]))
+        elif words[0] == "edge":
+            points = [tuple(float(n) for n in word.split(",")) for word in words[3:]]
+            edges.append((words[1], words[2], points, parts[0] if parts else ""))
+        else:
+            sys.exit(f"{file}: {line}")
+    return size, boxes, notes, edges
+
+
+def escaped(text):
+    return text.replace("&", "&amp;").replace("<", "&lt;").replace(">", "&gt;")
+
+
+def text_at(x, y, text, kinds="", anchor="middle"):
+    if text.startswith("`"):
+        text, kinds = text.strip("`"), f"{kinds} code"
+    return f'<text class="{kinds.strip()}" x="{x:g}" y="{y:g}" text-anchor="{anchor}">{escaped(text)}</text>'
+
+
+def drawn_box(box):
+    x, _ = box.middle()
+    rows = 1 + len(box.lines)
+    first = box.y + (box.h - 17 * (rows - 1)) / 2 + 4.5
+    out = [f'<rect class="box {box.kind}" x="{box.x}" y="{box.y}" width="{box.w}" height="{box.h}" rx="7"/>']
+    out.append(text_at(x, first, box.title, "title"))
+    out += [text_at(x, first + 17 * (i + 1), line, "soft") for i, line in enumerate(box.lines)]
+    return out
+
+
+def drawn_edge(boxes, edge):
+    one, other, points, label = edge
+    way = [boxes[one].border(points[0] if points else boxes[other].middle())]
+    way += points
+    way.append(boxes[other].border(points[-1] if points else boxes[one].middle()))
+    path = "M" + " L".join(f"{x:.1f} {y:.1f}" for x, y in way)
+    out = [f'<path class="edge" d="{path}" marker-end="url(#head)"/>']
+    if label:
+        half = len(way) // 2
+        (ax, ay), (bx, by) = way[half - 1], way[half]
+        for i, line in enumerate(label.split(" / ")):
+            out.append(text_at((ax + bx) / 2, (ay + by) / 2 - 6 + 15 * i, line, "soft halo"))
+    return out
+
+
+def drawn(size, boxes, notes, edges, title):
+    width, height = size
+    out = [
+        f'<svg xmlns="http://www.w3.org/2000/svg" viewBox="0 0 {width} {height}" width="{width}" height="{height}" role="img">',
+        f"<title>{escaped(title)}</title>",
+        f"<style>{STYLE}</style>",
+        '<defs><marker id="head" viewBox="0 0 10 10" refX="9" refY="5" markerWidth="8" markerHeight="8" orient="auto">'
+        '<path class="head" d="M0 1 L9 5 L0 9 z"/></marker></defs>',
+        f'<rect class="back" width="{width}" height="{height}"/>',
+    ]
+    for edge in edges:
+        out += drawn_edge(boxes, edge)
+    for box in boxes.values():
+        out += drawn_box(box)
+    out += [text_at(x, y, text, "soft", "start") for x, y, text in notes]
+    return "\n".join(out + ["</svg>", ""])
+
+
+def rooms_in_list():
+    """What crates.txt says of each room, and which rooms its crates name."""
+    says, room_of, names = {}, {}, {}
+    room = ""
+    for line in (TOP / "crates.txt").read_text().splitlines():
+        if line.startswith("#"):
+            room, _, said = line[1:].strip().partition(":")
+            says[room] = said.strip()
+        elif ":" in line:
+            head, _, below = line.partition(":")
+            crate = head.split()[0]
+            room_of[crate], names[crate] = room, below.split()
+    pairs = {(room_of[c], room_of[b]) for c, below in names.items() for b in below if b in room_of}
+    return says, {(a, b) for a, b in pairs if a != b and OUTSIDE not in (a, b)}
+
+
+def reached(start, pairs):
+    seen, left = set(), [start]
+    while left:
+        now = left.pop()
+        for a, b in pairs:
+            if a == now and b not in seen:
+                seen.add(b)
+                left.append(b)
+    return seen
+
+
+def rooms():
+    size, boxes, notes, ways = read(DOCS / "rooms.txt")
+    says, pairs = rooms_in_list()
+    missing = set(says) - {OUTSIDE} - set(boxes)
+    if missing:
+        sys.exit(f"docs/rooms.txt has no box for {', '.join(sorted(missing))}")
+    for box in boxes.values():
+        if not box.lines:
+            box.lines = textwrap.wrap(says[box.name], box.w // 7)
+    points = {(one, other): by for one, other, by, _ in ways}
+    short = {(a, b) for a, b in pairs if not any(b in reached(c, pairs) for x, c in pairs if x == a and c != b)}
+    edges = [(a, b, points.get((a, b), []), "") for a, b in sorted(short)]
+    return drawn(size, boxes, notes, edges, "The rooms of kubeconv, and which stands on which")
+
+
+def way():
+    return drawn(*read(DOCS / "way.txt"), "Clients at two versions, the hub, the store and a migration")
+
+
+def main():
+    asked = argparse.ArgumentParser(description=__doc__.split("\n")[0])
+    asked.add_argument("--check", action="store_true", help="write nothing, and end with 1 where a picture is an old one")
+    check = asked.parse_args().check
+    old = 0
+    for name, text in (("way.svg", way()), ("rooms.svg", rooms())):
+        file = DOCS / name
+        if check and (not file.exists() or file.read_text() != text):
+            print(f"docs/{name} isn't what tools/pictures.py draws", file=sys.stderr)
+            old = 1
+        elif not check:
+            file.write_text(text)
+    return old
+
+
+if __name__ == "__main__":
+    sys.exit(main())
