@@ -12,7 +12,7 @@ docs/way.svg is drawn from docs/way.txt, and docs/rooms.svg from docs/rooms.txt 
 KIND is `plain`, `strong` or `pale`; a line that begins with a backquote is set as code. An edge goes from one box to the other by way
 of its points. A box without a TITLE is named by its NAME, and one without lines in docs/rooms.txt takes what crates.txt says of the
 room. The edges of docs/rooms.svg are those of crates.txt: a room points to each room that a crate of it names, but to those that it
-reaches by another one; docs/rooms.txt gives only their points."""
+reaches by another one; docs/rooms.txt gives only their points. A box that is no room of crates.txt isn't drawn."""
 
 import argparse
 import pathlib
@@ -166,6 +166,7 @@ def reached(start, pairs):
 def rooms():
     size, boxes, notes, ways = read(DOCS / "rooms.txt")
     says, pairs = rooms_in_list()
+    boxes = {name: box for name, box in boxes.items() if name in says}
     missing = set(says) - {OUTSIDE} - set(boxes)
     if missing:
         sys.exit(f"docs/rooms.txt has no box for {', '.join(sorted(missing))}")
