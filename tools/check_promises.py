@@ -1,0 +1,100 @@
+#!/usr/bin/env python3
+"""Whether docs/PROMISES.md names what there is.
+
+    python3 tools/check_promises.py
+
+Each row has a promise, its calls and clauses, its edits and a test. Told is, on standard error, with status 1:
+
+- a call or a clause whose name the crates in bold above its row, and those that it names, don't have (where no crate is in bold,
+  any crate),
+- an edit that no crate has in must-fail/, and one in must-fail/ that no row names,
+- a test that is no function, no case behind `# ` on the `stdin` of a program of cases, no crate, and no file of proofs/.
+
+It says nothing of what a row promises: that is held against the clause by who writes it.
+"""
+import os
+import re
+import sys
+from glob import glob
+
+TOP = os.path.join(os.path.dirname(os.path.realpath(__file__)), "..")
+DOCUMENT = "docs/PROMISES.md"
+
+
+def read(path):
+    with open(path, encoding="utf-8") as it:
+        return it.read()
+
+
+class Tree:
+    """The words of each crate's sources and specs, its edits, its functions, the heads of all cases, and the files of proofs."""
+
+    def __init__(self):
+        self.words = {os.path.basename(crate): set() for crate in glob("crates/*")}
+        self.functions = set()
+        for path in glob("crates/*/src/**/*.rt", recursive=True) + glob("crates/*/specs/*.antt"):
+            text = read(path)
+            self.words[path.split("/")[1]].update(re.findall(r"\w+", text))
+            self.functions.update(re.findall(r"\bfn (\w+)", text))
+        self.every = set().union(*self.words.values())
+        self.edits = {os.path.basename(path)[: -len(".edit")] for path in glob("crates/*/must-fail/*.edit")}
+        cases = "\n".join(map(read, glob("crates/*/stdin")))
+        self.heads = "\n".join(line for line in cases.split("\n") if line.startswith("#"))
+        self.proofs = {os.path.basename(path)[: -len(".antt")] for path in glob("crates/*/proofs/*.antt")}
+
+    def has_call(self, crates, name):
+        """Whether one of the crates has a call, a clause or a definition of the name."""
+        first, _, rest = name.partition("::")
+        if first in self.words:
+            return not rest or all(word in self.words[first] for word in rest.split("::"))
+        known = set().union(*(self.words[crate] for crate in crates)) if crates else self.every
+        return all(word in known for word in name.split("::"))
+
+    def has_test(self, name):
+        """Whether there is a test, a case, a crate or a file of proofs of the name."""
+        if name in self.words or name in self.functions or any(p.startswith(name.rstrip("*")) for p in self.proofs):
+            return True
+        return re.search(rf"(?<!\w){re.escape(name)}(?!\w)", self.heads) is not None
+
+
+def rows(tree, document):
+    """Each row with the line that it stands in and the crates in bold above it."""
+    crates = []
+    for number, line in enumerate(document.split("\n"), 1):
+        cells = [cell.strip() for cell in line[1:-1].split("|")] if line.startswith("|") else []
+        if line.startswith("| **"):
+            names = [name.split("::")[0] for name in re.findall(r"`([\w:]+)`", line)]
+            crates = [name for name in names if name in tree.words]
+        elif len(cells) == 4 and cells[0] not in ("promise", "---"):
+            yield number, crates, cells
+
+
+def faults(tree, document):
+    named = set()
+    for number, crates, (_, calls, edits, tests) in rows(tree, document):
+        its = re.findall(r"`([\w:]+)`", calls)
+        within = crates and crates + [name.split("::")[0] for name in its if name.split("::")[0] in tree.words]
+        for name in its:
+            if not tree.has_call(within, name):
+                yield f"{number}: {name} is no call or clause of {', '.join(within) or 'any crate'}"
+        for name in re.findall(r"`(\w+)`", edits):
+            named.add(name)
+            if name not in tree.edits:
+                yield f"{number}: {name} is no edit"
+        for name in re.findall(r"`([^`]+)`|\"([^\"]+)\"", tests):
+            if not tree.has_test("".join(name)):
+                yield f"{number}: {''.join(name)} is no test"
+    for name in sorted(tree.edits - named):
+        yield f"the edit {name} has no row"
+
+
+def main():
+    os.chdir(TOP)
+    wrong = list(faults(Tree(), read(DOCUMENT)))
+    for line in wrong:
+        print(f"{DOCUMENT}:{line}", file=sys.stderr)
+    return 1 if wrong else 0
+
+
+if __name__ == "__main__":
+    sys.exit(main())
