@@ -38,12 +38,16 @@ USE = re.compile(
 HEAD = re.compile(r"(?:(?:abbrev|unfoldable|opaque)\s+)*(?:pub\s+)?(?:(?:data|record|abbrev)\s+)?([^\s:(){}]+)")
 MEMBER = re.compile(r"\s+(?:(?:abbrev|unfoldable)\s+)?(?:pub\s+)?(?:data\s+|record\s+)?([^\s:(){}]+)\s[^=]*:")
 SPECS_TEXT = re.compile(r'"(?:\\.|[^"\\])*"|(?:(?<=\s)|^)--[^\n]*', re.M)
+# where a sentence that is too long is cut: before what explains it, before a remark, before a further part
+CUTS = (": |; ", r" \(", ", (?=and |where |which )")
 RUST_TEXT = re.compile(r"""b?'\\?"'|"(?:\\.|[^"\\])*"|(?:(?<=\s)|^)//[^\n]*""", re.M)
 
 # What a file says, where its own first sentence says too little beside the file's name.
 OWN_WORDS = {
     "object_reading/specs/Fields": "Fields and items as plain lists; a null stands for nothing.",
     "object_reading/specs/Written": "Which objects have a document that is read back as they are.",
+    "document_text/specs/FieldLaws": "The text of an object's fields around one of them, and of a document around number and uid.",
+    "crontab_example/specs/Documents": "The definition and the rules of the shared example: the documents that their texts read as.",
     "crd_meaning/specs/Meant": "The meaning of a loaded definition (`meaning_of`), where what bodies say of flags is left open.",
     "crd_versions/specs/Set": "What the versions of a loaded definition show to contracts.",
     "review_batch/specs/Request": "The request of a review, and the document that spells it.",
@@ -267,8 +271,9 @@ def says(tree, module):
     text = re.match(r".*?[^.\s]\.(?= [A-Z]|$)|.*", tree[module].head).group()
     room = WIDTH - len(f"| `{name}` |  | 0000 |")
     if len(text) > room:
-        cuts = [m.start() for m in re.finditer(r": |; | \(|, (?=where|which|with|and )", text) if m.start() < room]
-        text = text[: cuts[-1]] + "." if cuts else text[: room - 3] + "..."
+        cuts = [[m.start() for m in re.finditer(mark, text) if m.start() < room] for mark in CUTS]
+        last = next((at[-1] for at in cuts if at), room - 3)
+        text = text[:last] + "."
     return text.replace("|", "\\|")
 
 
