@@ -30,7 +30,8 @@ BEGIN, END = "<!-- counts: tools/definitions.py -->", "<!-- end of counts -->"
 MARK = "<!-- All that follows is written by tools/definitions.py --dictionary. -->"
 WIDTH = 160
 NOT_COUNTED = re.compile(r"(_tests|_fixture|_example)$|^test_")
-TOKEN = re.compile(r"[^\s(){}\[\],.;\"«»]+")
+CHAIN = re.compile(r"[^\s(){}\[\],;\"«»]+")
+TAIL = re.compile(r"[A-Za-z0-9_]+$")
 USE = re.compile(
     r"(?<![A-Za-z0-9_])((?:pub\s+)?(?:ghost\s+)?use)\s+(Rattle(?:\.[A-Za-z0-9_+'«»\-]+)+)"
     r"(?:\s*\.\s*\{([^}]*)\})?(?:\s+as\s+([A-Za-z0-9_]+))?"
@@ -38,7 +39,7 @@ USE = re.compile(
 HEAD = re.compile(r"(?:(?:abbrev|unfoldable|opaque)\s+)*(?:pub\s+)?(?:(?:data|record|abbrev)\s+)?([^\s:(){}]+)")
 MEMBER = re.compile(r"\s+(?:(?:abbrev|unfoldable)\s+)?(?:pub\s+)?(?:data\s+|record\s+)?([^\s:(){}]+)\s[^=]*:")
 SPECS_TEXT = re.compile(r'"(?:\\.|[^"\\])*"|(?:(?<=\s)|^)--[^\n]*', re.M)
-# where a sentence that is too long is cut: before what explains it, before a remark, before a further part
+# where a sentence that is too long is cut, once a remark at its end has gone: before what explains it, a remark, a further part
 CUTS = (": |; ", r" \(", ", (?=and |where |which )")
 RUST_TEXT = re.compile(r"""b?'\\?"'|"(?:\\.|[^"\\])*"|(?:(?<=\s)|^)//[^\n]*""", re.M)
 
@@ -99,12 +100,17 @@ def imports(text):
 
 def tokens(text):
     """Each word with the one that stands before its point, if any."""
-    found, before, end = [], "", -1
-    for m in TOKEN.finditer(text):
-        word, start = m.group(), m.start()
-        head = re.search(r"[A-Za-z0-9_]+$", before) if end == start - 1 and text[end] == "." else None
-        found.append((word, head.group() if head else None))
-        before, end = word, m.end()
+    found = []
+    for chain in CHAIN.findall(text):
+        if "." not in chain:
+            found.append((chain, None))
+            continue
+        before = ""
+        for word in chain.split("."):
+            head = TAIL.search(before)
+            if word:
+                found.append((word, head and head.group()))
+            before = word
     return found
 
 
@@ -271,9 +277,11 @@ def says(tree, module):
     text = re.match(r".*?[^.\s]\.(?= [A-Z]|$)|.*", tree[module].head).group()
     room = WIDTH - len(f"| `{name}` |  | 0000 |")
     if len(text) > room:
-        cuts = [[m.start() for m in re.finditer(mark, text) if m.start() < room] for mark in CUTS]
-        last = next((at[-1] for at in cuts if at), room - 3)
-        text = text[:last] + "."
+        text = re.sub(r" \([^()]*\)\.$", ".", text)
+    if len(text) > room:
+        open_at = [text[:i].count("(") > text[:i].count(")") for i in range(len(text))]
+        cuts = [[m.start() for m in re.finditer(mark, text[:room]) if not open_at[m.start()]] for mark in CUTS]
+        text = text[: next((at[-1] for at in cuts if at), room - 3)] + "."
     return text.replace("|", "\\|")
 
 
