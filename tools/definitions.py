@@ -38,10 +38,10 @@ USE = re.compile(
 )
 HEAD = re.compile(r"(?:(?:abbrev|unfoldable|opaque)\s+)*(?:pub\s+)?(?:(?:data|record|abbrev)\s+)?([^\s:(){}]+)")
 MEMBER = re.compile(r"\s+(?:(?:abbrev|unfoldable)\s+)?(?:pub\s+)?(?:data\s+|record\s+)?([^\s:(){}]+)\s[^=]*:")
-SPECS_TEXT = re.compile(r'"(?:\\.|[^"\\])*"|(?:(?<=\s)|^)--[^\n]*', re.M)
+SPECS_TEXT = re.compile(r'"(?:\\.|[^"\\])*"|--(?<!\S--)[^\n]*')
 # where a sentence that is too long is cut, once a remark at its end has gone: before what explains it, a remark, a further part
 CUTS = (": |; ", r" \(", ", (?=and |where |which )")
-RUST_TEXT = re.compile(r"""b?'\\?"'|"(?:\\.|[^"\\])*"|(?:(?<=\s)|^)//[^\n]*""", re.M)
+RUST_TEXT = re.compile(r"""'\\?"'|"(?:\\.|[^"\\])*"|//(?<!\S//)[^\n]*""")
 
 # What a file says, where its own first sentence says too little beside the file's name.
 OWN_WORDS = {
