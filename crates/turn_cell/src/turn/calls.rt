@@ -6,7 +6,7 @@ ghost use Rattle.turn_cell.specs.Steps.{Sees};
 ghost use Rattle.api_calls.specs.Item.{items_of};
 ghost use Rattle.turn_cell.specs.declared.view.Stage.TheVariants.{Rest, Waits};
 
-use super::waiting::{BELL_COUNT, CALLERS, COUNT, SERVING, SLEEPERS};
+use super::waiting::{CALLERS, COUNT, SERVING, WORDS};
 use super::{PassOf, Place, Turn, TurnPass};
 use crate::plays::{Append, GetNumber, Halve, Look, PassOn, Unite};
 use crate::standing::{Names, Standing};
@@ -29,7 +29,7 @@ impl<T: Standing> Turn<T> {
         ensures { IfOk result (λ r. (r.1.seat.table_id ≡ r.0.table.shared.table_id) × (r.1.seat.me.0 ≡ opening_view (T.base value))) }
     {
         let about = Snapshot::of(&value);
-        let mut words = [0; SLEEPERS + BELL_COUNT];
+        let mut words = [0; WORDS];
         words[CALLERS] = 1;
         let mut slots = Vec::with_capacity(alloc, 1)?;
         slots.push_reserved(Some(value));
@@ -37,10 +37,9 @@ impl<T: Standing> Turn<T> {
         Ok((Turn { table }, PassOf { seat }))
     }
 
-    /// Waits for the turn, first come, first served, and hands out the value. It stands for all that the pass then has
-    /// seen, of which what it had seen is a beginning, with no further item of the pass or of those met into it. A pass
-    /// that is alone has seen it all before. The list has fewer than 2^61 items: from as many turns on the call never
-    /// returns. It takes no memory.
+    /// Waits for the turn, and hands out the value. It stands for all that the pass then has seen, of which what it had seen
+    /// is a beginning, with no further item of the pass or of those met into it. A pass that is alone has seen it all
+    /// before. The list has fewer than 2^61 items: from as many turns on the call never returns. It takes no memory.
     pub fn take<R: Wait>(&self, rt: &R, pass: &mut TurnPass<T>) -> T
         requires own { pass.old.seat.table_id ≡ self.now.table.shared.table_id }
         requires rest { IsResting pass.old.seat.me.0 }
@@ -65,8 +64,8 @@ impl<T: Standing> Turn<T> {
             .fetch_add::<Append<E>>(&mut pass.seat, COUNT, 1);
     }
 
-    /// Gives the value back, and the turn to the next pass that waits. The value stands for the list as it is now, and has
-    /// the pass's base. It takes no memory, and makes no system call where no pass sleeps.
+    /// Gives the value back, and the turn to a pass that waits, if there is one. The value stands for the list as it is now,
+    /// and has the pass's base. It takes no memory, and makes no system call where no pass sleeps.
     pub fn give(&self, pass: &mut TurnPass<T>, value: T)
         requires own { pass.old.seat.table_id ≡ self.now.table.shared.table_id }
         requires holds { IsHolding pass.old.seat.me.0 }

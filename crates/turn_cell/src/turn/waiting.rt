@@ -1,11 +1,16 @@
-//! Tickets: how a pass waits for its turn, first come, first served.
+//! Tickets: how a pass waits for its turn.
 //!
-//! A pass draws a ticket and waits until the ticket is served. It first looks again and again, and yields the processor
-//! between two looks where it isn't the next in line. Then it sleeps on a bell, which is one of sixteen words, by the
-//! ticket's number. Before it sleeps it is counted among the bell's sleepers, and looks once more. Who passes the turn on
-//! rings the bell of the next ticket if that has sleepers. So a pass that waits long sleeps, none oversleeps its turn,
-//! and a turn that goes to nobody, or to a pass that is awake, makes no system call.
-ghost use Rattle.std.specs.Prelude.{◌≡◌, [], ◌<◌, ◌≤◌};
+//! A pass draws the next ticket only where that is the one that is served, so that it has the turn at once. Where the turn
+//! is taken it looks again and again, and then sleeps on a bell. Before it sleeps it is counted among the bell's sleepers, and
+//! looks once more. Who passes the turn on rings the bell where it has sleepers, which wakes one of them, and that one tries
+//! again. So a pass that is awake is served before one that sleeps, and a turn that goes to nobody who sleeps makes no
+//! system call.
+//!
+//! A pass that was woken so many times in vain draws the next ticket, whichever is served, and stands in line: behind it
+//! no ticket is drawn at once until it was served. Passes in line are served first come, first served. They sleep on bells
+//! of their own, of which each has those whose ticket's number leaves one rest, and who passes the turn on rings that of the
+//! next ticket.
+ghost use Rattle.std.specs.Prelude.{◌≡◌, [], ◌<◌, ◌≤◌, MatchOption};
 ghost use Rattle.turn_cell.specs.Views.{set_stage};
 ghost use Rattle.turn_cell.specs.Turns.{IsResting};
 ghost use Rattle.turn_cell.specs.Steps.{Sees};
@@ -26,41 +31,74 @@ pub(super) const COUNT: usize = 2;
 
 pub(super) const CALLERS: usize = 3;
 
-/// The first of the bells.
-pub(super) const BELLS: usize = 4;
+/// The bell of the passes that have no ticket.
+const BELL: usize = 4;
 
-/// How many bells there are.
-pub(super) const BELL_COUNT: usize = 16;
+/// The count of those who sleep on it, or are about to.
+const SLEEPERS: usize = 5;
 
-/// The first of the counts of sleepers, one for each bell.
-pub(super) const SLEEPERS: usize = BELLS + BELL_COUNT;
+/// The first of the bells of those who stand in line.
+const LINE_BELLS: usize = 6;
+
+/// How many bells the line has.
+const LINE_BELL_COUNT: usize = 15;
+
+/// The first of the counts of sleepers in line, one for each of its bells.
+const LINE_SLEEPERS: usize = LINE_BELLS + LINE_BELL_COUNT;
+
+/// How many words there are.
+pub(super) const WORDS: usize = LINE_SLEEPERS + LINE_BELL_COUNT;
 
 /// No ticket has this number or a greater one.
 const LAST_TICKET: u64 = 1 << 61;
 
-/// For how many looks a pass that is the next in line keeps the processor, which lets a turn of some microseconds end.
+/// For how many looks a pass keeps the processor where the turn is taken, which lets a turn of some microseconds end.
+const LOOKS: u32 = 128;
+
+/// How often a pass that has no ticket may be woken, until it stands in line.
+const WAKES: u32 = 64;
+
+/// For how many looks a pass that is the next in line keeps the processor.
 const QUICK_LOOKS: u32 = 128;
 
-/// How many looks a pass takes before it is counted among the sleepers.
+/// How many looks a pass in line takes before it is counted among the sleepers.
 const WAKING_LOOKS: u32 = QUICK_LOOKS + 16;
 
-// The bell of a ticket.
+// The bell of a ticket in line.
 fn bell_of(ticket: u64) -> usize
-    ensures { (4 ≤ result) × (result < 20) }
+    ensures { (6 ≤ result) × (result < 21) }
 {
-    BELLS + ticket as usize % BELL_COUNT
+    LINE_BELLS + ticket as usize % LINE_BELL_COUNT
 }
 
-// The count of those who sleep on the bell of a ticket, or are about to.
+// The count of those in line who sleep on the bell of a ticket, or are about to.
 fn sleepers_of(ticket: u64) -> usize
-    ensures { (20 ≤ result) × (result < 36) }
+    ensures { (21 ≤ result) × (result < 36) }
 {
-    SLEEPERS + ticket as usize % BELL_COUNT
+    LINE_SLEEPERS + ticket as usize % LINE_BELL_COUNT
 }
 
 impl<T: Standing> Turn<T> {
-    // Draws a ticket. After 2^61 tickets it never returns.
-    pub(super) fn draw<R: Wait>(&self, rt: &R, seat: &mut Place<T, T::Base>) -> u64
+    // Draws the ticket that is served, where nobody has drawn it.
+    fn draw_served(&self, seat: &mut Place<T, T::Base>) -> Option<u64>
+        requires own { seat.old.table_id ≡ self.now.table.shared.table_id }
+        requires rest { IsResting seat.old.me.0 }
+        ensures own { seat.new.table_id ≡ seat.old.table_id }
+        ensures drawn { MatchOption result (seat.new.me ≡ seat.old.me) (λ ticket. seat.new.me ≡ (set_stage seat.old.me.0 seat.old.me.0.seen (Waits ticket), seat.old.me.1)) }
+    {
+        let served = self.table.shared.peek(SERVING);
+        if served >= LAST_TICKET || self.table.shared.peek(TICKET) != served {
+            return None;
+        }
+        let found = self
+            .table
+            .shared
+            .compare_exchange::<Draw>(seat, TICKET, served, served + 1);
+        if found == served { Some(served) } else { None }
+    }
+
+    // Draws the next ticket, whichever is served.
+    fn draw_next<R: Wait>(&self, rt: &R, seat: &mut Place<T, T::Base>) -> u64
         requires own { seat.old.table_id ≡ self.now.table.shared.table_id }
         requires rest { IsResting seat.old.me.0 }
         ensures own { seat.new.table_id ≡ seat.old.table_id }
@@ -82,6 +120,44 @@ impl<T: Standing> Turn<T> {
             }
         }
         unreachable!()
+    }
+
+    // Draws a ticket where the pass is counted among the sleepers. Between the look at the bell and the sleep it looks once more:
+    // so who passes the turn on behind that look finds a sleeper and rings the bell, which then has changed, and there is no
+    // sleep.
+    fn draw_asleep<R: Wait>(&self, rt: &R, seat: &mut Place<T, T::Base>) -> u64
+        requires own { seat.old.table_id ≡ self.now.table.shared.table_id }
+        requires rest { IsResting seat.old.me.0 }
+        ensures own { seat.new.table_id ≡ seat.old.table_id }
+        ensures drawn { seat.new.me ≡ (set_stage seat.old.me.0 seat.old.me.0.seen (Waits result), seat.old.me.1) }
+    {
+        for _wake in 0..WAKES {
+            let rung = self.table.shared.peek(BELL);
+            if let Some(ticket) = self.draw_served(seat) {
+                return ticket;
+            }
+            self.table.shared.park(rt, BELL, (rung % (1 << 32)) as u32);
+        }
+        self.draw_next(rt, seat)
+    }
+
+    // Draws a ticket: the one that is served, or the next one after many sleeps. After 2^61 tickets it never returns.
+    pub(super) fn draw<R: Wait>(&self, rt: &R, seat: &mut Place<T, T::Base>) -> u64
+        requires own { seat.old.table_id ≡ self.now.table.shared.table_id }
+        requires rest { IsResting seat.old.me.0 }
+        ensures own { seat.new.table_id ≡ seat.old.table_id }
+        ensures drawn { seat.new.me ≡ (set_stage seat.old.me.0 seat.old.me.0.seen (Waits result), seat.old.me.1) }
+    {
+        for _look in 0..LOOKS {
+            if let Some(ticket) = self.draw_served(seat) {
+                return ticket;
+            }
+            hint::spin_loop();
+        }
+        self.table.shared.fetch_add::<Ring>(seat, SLEEPERS, 1);
+        let ticket = self.draw_asleep(rt, seat);
+        self.table.shared.fetch_sub::<Ring>(seat, SLEEPERS, 1);
+        ticket
     }
 
     // Waits until the ticket is served. Between the look at the bell and the sleep the ticket is looked at once more, when
@@ -121,16 +197,22 @@ impl<T: Standing> Turn<T> {
         unreachable!()
     }
 
-    // Wakes the pass that waits for this ticket, if it sleeps or is about to.
+    // Wakes whom the next turn is for: where somebody in line has drawn its ticket that one, if it sleeps or is about to, and
+    // else one of those that have no ticket.
     pub(super) fn call(&self, seat: &mut Place<T, T::Base>, ticket: u64)
         requires own { seat.old.table_id ≡ self.now.table.shared.table_id }
         ensures own { seat.new.table_id ≡ seat.old.table_id }
         ensures same { seat.new.me ≡ seat.old.me }
     {
-        if self.table.shared.peek(sleepers_of(ticket)) != 0 {
-            let bell = bell_of(ticket);
-            self.table.shared.fetch_add::<Ring>(seat, bell, 1);
-            self.table.shared.wake_all(bell);
+        if self.table.shared.peek(TICKET) != ticket {
+            if self.table.shared.peek(sleepers_of(ticket)) != 0 {
+                let bell = bell_of(ticket);
+                self.table.shared.fetch_add::<Ring>(seat, bell, 1);
+                self.table.shared.wake_all(bell);
+            }
+        } else if self.table.shared.peek(SLEEPERS) != 0 {
+            self.table.shared.fetch_add::<Ring>(seat, BELL, 1);
+            self.table.shared.wake_one(BELL);
         }
     }
 }

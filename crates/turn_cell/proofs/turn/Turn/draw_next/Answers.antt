@@ -1,7 +1,7 @@
 use Rattle.std.proofs.Common.{rules, ap, ◌∙◌}
 use Rattle.turn_cell.proofs.Lists.{rests}
 use Rattle.turn_cell.proofs.Keeps.{draws}
-use Rattle.turn_cell.proofs.turn.Turn.draw.Goals as goal
+use Rattle.turn_cell.proofs.turn.Turn.draw_next.Goals as goal
 
 pub compare_exchange-found-requires : goal.compare_exchange-found-requires
 compare_exchange-found-requires g c =
