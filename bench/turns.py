@@ -232,16 +232,16 @@ def gone_through(plan, turns):
 
 
 ROWS = [
-    ("one look, never in line", Plan(1, None, 0, 1, None), (2, 2, 1, 1)),
-    ("two looks, never in line", Plan(2, None, 0, 1, None), (1, 2, 1, 1)),
-    ("in line after one sleep, one bell", Plan(1, 1, 0, 1, None), (1, 2, 1, 1)),
-    ("in line after one sleep, two bells", Plan(1, 1, 0, 2, None), (1, 2, 1, 1)),
-    ("in line after two sleeps, a look in line", Plan(1, 2, 1, 1, None), (1, 2, 1, 1)),
+    ("one look, never in line", Plan(1, None, 0, 1, None), (2, 1, 1, 1)),
+    ("two looks, never in line", Plan(2, None, 0, 1, None), (1, 1, 1, 1)),
+    ("in line after one sleep, one bell", Plan(1, 1, 0, 1, None), (1, 1, 1, 1)),
+    ("in line after one sleep, two bells", Plan(1, 1, 0, 2, None), (1, 1, 1, 1)),
+    ("in line after two sleeps, a look in line", Plan(1, 2, 1, 1, None), (1, 1, 1, 1)),
 ]
 LONG_ROWS = [
-    ("one look, never in line", Plan(1, None, 0, 1, None), (2, 2, 2, 2)),
-    ("in line after one sleep, one bell", Plan(1, 1, 0, 1, None), (2, 2, 2, 1)),
-    ("in line after two sleeps, two bells", Plan(1, 2, 0, 2, None), (2, 2, 2, 1)),
+    ("one look, never in line", Plan(1, None, 0, 1, None), (2, 2, 1, 1)),
+    ("in line after one sleep, one bell", Plan(1, 1, 0, 1, None), (1, 2, 1, 1)),
+    ("in line after two sleeps, two bells", Plan(1, 2, 0, 2, None), (1, 2, 1, 1)),
 ]
 EDITS = [
     ("never counted", Plan(1, None, 0, 1, "never counted"), (1, 1, 1, 1)),

@@ -5,13 +5,14 @@
 - one that asks for lists and never reads an answer: it is let go a minute after the last byte was written to it;
 - one that is gone in mid-body, and one that breaks its connection there: nothing is created;
 - one whose head has 16,384 bytes and no end: it is answered 431 and let go;
-- 200 connections on which nothing is sent: those that have a thread are let go after a minute.
+- 200 connections on which nothing is sent: where there are so many, those that have a thread are let go after some seconds;
+- 80 such connections, and 80 that send a byte a second of a request: one that comes behind them is answered within 5 seconds.
 
 While they are there another connection makes requests, and migrations are started, which the workers are to finish. A connection that
-comes behind the 200 is to be answered too. Of the 65 places one is that of the connection that makes requests, so that 64 idle ones are
-let go a minute, and it waits two to four minutes: the system's queue holds 129, and whose try comes next when others are behind these is
-by chance. Prints what each came to, and ends with status 1 where something was stopped. It takes some five minutes, nearly all of which
-it waits; with --short some seconds. The program is the one in the folder of its crate, or --address names a server that runs already."""
+comes behind the 200 is to be answered too: the system's queue holds 129, and whose try comes next when others are behind these is by
+chance. Prints what each came to, and ends with status 1 where something was stopped. It takes some four minutes, nearly all of which it
+waits; with --short some seconds. The program is the one in the folder of its
+crate, or --address names a server that runs already."""
 
 import argparse
 import pathlib
@@ -41,6 +42,9 @@ from serving import (
 
 IDLE = 200
 IDLE_SECONDS = 60
+# So many say nothing, so many a byte a second, and so many seconds one that is told from neither may wait for its answer behind them.
+CROWD = 80
+CROWD_SECONDS = 5
 # So many seconds late an end may come, and so many an answer may take that others hold up.
 LATE_SECONDS = 15
 SLOW_SECONDS = 5
@@ -217,11 +221,42 @@ def idle(address, early, mark):
     serves(early, PAIRS, mark)
     seconds = seconds_to_end(held[0], start)
     told = "never" if seconds is None else f"{seconds:.0f} seconds after it came"
-    check(seconds is not None and seconds >= IDLE_SECONDS - 1, f"an idle connection was closed {told}")
+    check(seconds is not None and seconds < LATE_SECONDS, f"an idle connection was closed {told}")
     last.join()
     seconds = seconds_now() - start
     check(came == [200], f"a connection behind {IDLE} idle ones is answered {came}, after {seconds:.0f} seconds")
     for it in held:
+        it.close()
+
+
+def drip(peers, over):
+    """Sends one byte a second on each connection, until it is let go."""
+    asked = request("GET", path_of("v1", "hostile", "drip"))
+    for byte in asked:
+        for it in peers:
+            try:
+                it.send(bytes([byte]))
+            except OSError:
+                continue
+        if over.wait(1):
+            return
+
+
+def crowd(address):
+    """Connections that say nothing and connections that say little, and one that comes behind them."""
+    idle, slow = [silent(address) for _ in range(CROWD)], [silent(address) for _ in range(CROWD)]
+    over, start = threading.Event(), seconds_now()
+    dripping = threading.Thread(target=drip, args=(slow, over), daemon=True)
+    dripping.start()
+    time.sleep(0.1)
+    came = []
+    behind(address, came)
+    seconds = seconds_now() - start
+    told = f"a connection behind {CROWD} idle ones and {CROWD} slow ones is answered {came}, after {seconds:.1f} seconds"
+    check(came == [200] and seconds < CROWD_SECONDS, told)
+    over.set()
+    dripping.join()
+    for it in idle + slow:
         it.close()
 
 
@@ -261,6 +296,7 @@ def main():
         near = IDLE_SECONDS - 2 <= seconds <= IDLE_SECONDS + LATE_SECONDS
         check(near, f"the one that never reads is let go {seconds:.0f} seconds after the last byte")
         idle(address, early, f"{mark}i")
+    crowd(address)
     check(early.slowest < SLOW_SECONDS, f"another connection is answered meanwhile, the slowest time after {early.slowest:.3f} seconds")
     early.close()
     if server:

@@ -1,9 +1,11 @@
-// A plain server of one custom resource at two versions, to compare `kubeconv pipe` with: it reads requests from standard input, holds
-// objects at v1 in a map, and answers creates, gets, replaces and lists. It promises nothing: no schema, no history, no continue tokens,
-// no migrations, and what v1beta1 can't hold isn't kept.
+// A plain server of one custom resource at two versions, to compare `kubeconv pipe` and `kubeconv serve` with: it reads requests from
+// standard input, or with an address answers many connections by net/http, holds objects at v1 in a map, and answers creates, gets,
+// replaces and lists. It promises nothing: no schema, no history, no continue tokens, no migrations, and what v1beta1 can't hold isn't
+// kept.
 //
 //	go build -o plain bench/plain/server.go
 //	python3 bench/pipe.py --beside ./plain
+//	./plain 127.0.0.1:8080
 package main
 
 import (
@@ -17,6 +19,7 @@ import (
 	"sort"
 	"strconv"
 	"strings"
+	"sync"
 	"time"
 )
 
@@ -28,7 +31,13 @@ type server struct {
 	objects map[string]object
 	names   []string
 	number  int
-	out     *bufio.Writer
+	lock    sync.Mutex
+}
+
+// An answer, whose value nobody changes any more.
+type reply struct {
+	code  int
+	value interface{}
 }
 
 // The same object at the other version: `host` at v1 is `address` at v1beta1.
@@ -59,21 +68,19 @@ func shown(o object, version string) object {
 	return converted(o, version, "host", "address")
 }
 
-func (s *server) answer(code int, value interface{}) {
+func text(value interface{}) []byte {
 	text, err := json.Marshal(value)
 	if err != nil {
 		panic(err)
 	}
-	fmt.Fprintf(s.out, "HTTP/1.1 %d %s\r\nContent-Type: application/json\r\nContent-Length: %d\r\n\r\n", code, http.StatusText(code), len(text))
-	s.out.Write(text)
-	s.out.Flush()
+	return text
 }
 
-func (s *server) refuse(code int, reason string) {
-	s.answer(code, object{"apiVersion": "v1", "kind": "Status", "status": "Failure", "reason": reason, "code": code})
+func refuse(code int, reason string) reply {
+	return reply{code, object{"apiVersion": "v1", "kind": "Status", "status": "Failure", "reason": reason, "code": code}}
 }
 
-func (s *server) list(version string, limit int) {
+func (s *server) list(version string, limit int) reply {
 	sort.Strings(s.names)
 	items := make([]object, 0, limit)
 	for _, name := range s.names {
@@ -82,24 +89,29 @@ func (s *server) list(version string, limit int) {
 		}
 		items = append(items, shown(s.objects[name], version))
 	}
-	s.answer(200, object{
+	return reply{200, object{
 		"apiVersion": "example.com/" + version, "kind": "CronTabList", "items": items,
 		"metadata": object{"resourceVersion": strconv.Itoa(s.number)},
-	})
+	}}
 }
 
-func (s *server) write(code int, version, name string, body []byte) {
+func read(body []byte) object {
 	var o object
 	decoder := json.NewDecoder(bytes.NewReader(body))
 	decoder.UseNumber()
-	if decoder.Decode(&o) != nil || o["apiVersion"] != "example.com/"+version || o["kind"] != "CronTab" {
-		s.refuse(400, "BadRequest")
-		return
+	if decoder.Decode(&o) != nil {
+		return nil
+	}
+	return o
+}
+
+func (s *server) write(code int, version, name string, o object) reply {
+	if o == nil || o["apiVersion"] != "example.com/"+version || o["kind"] != "CronTab" {
+		return refuse(400, "BadRequest")
 	}
 	metadata, has := o["metadata"].(object)
 	if !has {
-		s.refuse(400, "BadRequest")
-		return
+		return refuse(400, "BadRequest")
 	}
 	given, _ := metadata["name"].(string)
 	if name == "" {
@@ -107,8 +119,7 @@ func (s *server) write(code int, version, name string, body []byte) {
 	}
 	old, stands := s.objects[name]
 	if given != name || (code == 201) == stands {
-		s.refuse(409, "Conflict")
-		return
+		return refuse(409, "Conflict")
 	}
 	s.number++
 	metadata["namespace"] = "default"
@@ -118,8 +129,7 @@ func (s *server) write(code int, version, name string, body []byte) {
 	if stands {
 		before := old["metadata"].(object)
 		if number := metadata["resourceVersion"]; number != nil && number != before["resourceVersion"] {
-			s.refuse(409, "Conflict")
-			return
+			return refuse(409, "Conflict")
 		}
 		metadata["creationTimestamp"] = before["creationTimestamp"]
 		metadata["uid"] = before["uid"]
@@ -128,49 +138,63 @@ func (s *server) write(code int, version, name string, body []byte) {
 	}
 	metadata["resourceVersion"] = strconv.Itoa(s.number)
 	s.objects[name] = toHub(o, version)
-	s.answer(code, shown(s.objects[name], version))
+	return reply{code, shown(s.objects[name], version)}
 }
 
-func (s *server) serve(request *http.Request) {
+func (s *server) serve(request *http.Request) reply {
 	body, err := io.ReadAll(request.Body)
 	if err != nil {
 		panic(err)
 	}
 	parts := strings.Split(strings.TrimPrefix(request.URL.Path, group), "/")
 	if len(parts) < 4 || parts[3] != "crontabs" {
-		s.refuse(404, "NotFound")
-		return
+		return refuse(404, "NotFound")
 	}
-	version := parts[0]
+	version, o := parts[0], read(body)
+	s.lock.Lock()
+	defer s.lock.Unlock()
 	switch {
 	case request.Method == "POST":
-		s.write(201, version, "", body)
+		return s.write(201, version, "", o)
 	case request.Method == "PUT" && len(parts) == 5:
-		s.write(200, version, parts[4], body)
+		return s.write(200, version, parts[4], o)
 	case len(parts) == 5:
 		o, stands := s.objects[parts[4]]
 		if !stands {
-			s.refuse(404, "NotFound")
-			return
+			return refuse(404, "NotFound")
 		}
-		s.answer(200, shown(o, version))
+		return reply{200, shown(o, version)}
 	default:
 		limit, err := strconv.Atoi(request.URL.Query().Get("limit"))
 		if err != nil {
 			limit = 500
 		}
-		s.list(version, limit)
+		return s.list(version, limit)
 	}
 }
 
+func (s *server) ServeHTTP(w http.ResponseWriter, request *http.Request) {
+	came := s.serve(request)
+	w.Header().Set("Content-Type", "application/json")
+	w.WriteHeader(came.code)
+	w.Write(text(came.value))
+}
+
 func main() {
-	s := &server{objects: map[string]object{}, number: 1, out: bufio.NewWriterSize(os.Stdout, 1<<16)}
-	in := bufio.NewReaderSize(os.Stdin, 1<<16)
+	s := &server{objects: map[string]object{}, number: 1}
+	if len(os.Args) > 1 {
+		panic(http.ListenAndServe(os.Args[1], s))
+	}
+	in, out := bufio.NewReaderSize(os.Stdin, 1<<16), bufio.NewWriterSize(os.Stdout, 1<<16)
 	for {
 		request, err := http.ReadRequest(in)
 		if err != nil {
 			return
 		}
-		s.serve(request)
+		came := s.serve(request)
+		text := text(came.value)
+		fmt.Fprintf(out, "HTTP/1.1 %d %s\r\nContent-Type: application/json\r\nContent-Length: %d\r\n\r\n", came.code, http.StatusText(came.code), len(text))
+		out.Write(text)
+		out.Flush()
 	}
 }

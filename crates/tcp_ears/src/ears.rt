@@ -2,24 +2,28 @@
 ghost use Rattle.std.specs.Prelude.{◌≡◌, ℕ, None, IfOk};
 
 use crate::Place;
-use crate::parts::{IDLE_SECONDS, TcpClosed, TcpSink, TcpSource, close};
+use crate::parts::{TcpClosed, TcpSink, TcpSource, close};
+use crate::patience::{Counted, IDLE_SECONDS, SLICE_SECONDS};
 use edge_io::{Ears, Failed};
 use kj_value::{NoMemory, Txt};
 use std::alloc::Global;
 use std::io;
 use std::io::{Read, Write};
 use std::net::{Net, OpenListener, OpenStream, SocketAddr, TcpListener};
-use std::time::Duration;
+use std::sync::Arc;
+use std::sync::atomic::{AtomicBool, AtomicU64};
+use std::time::{Clock, Duration};
 
-// What listens, and the address with the port that was taken.
+// What listens, the address with the port that was taken, and how many connections there are.
 #[derive(Drop)]
 struct Listening<L: Drop> {
     listener: L,
     address: SocketAddr,
+    count: Arc<AtomicU64, Global>,
 }
 
 /// Waits for connections over TCP. Each is made so that small pieces aren't held back, and that a read or a write that waits
-/// for a minute fails.
+/// for a minute fails. A read fails sooner where there are many connections and the peer sends nothing, or little.
 #[derive(Drop)]
 pub struct TcpEars<'a, R: Net> {
     net: &'a R,
@@ -28,7 +32,7 @@ pub struct TcpEars<'a, R: Net> {
     faults: u64,
 }
 
-impl<'a, R: Net + Sync> TcpEars<'a, R>
+impl<'a, R: Net + Clock + Sync> TcpEars<'a, R>
 where
     R::Listener: Send,
     R::Stream: Send,
@@ -47,25 +51,33 @@ where
 }
 
 // What listens at a place: an IP address or a host's name, and a port.
-fn bound<R: Net>(net: &R, place: &str) -> io::Result<Listening<R::Listener>> {
+fn bound<R: Net>(net: &R, alloc: Global, place: &str) -> io::Result<Listening<R::Listener>> {
+    let count = Arc::new(alloc, AtomicU64::new(0))?;
     let listener = TcpListener::bind(net, place)?;
     let address = listener.local_addr()?;
-    Ok(Listening { listener, address })
+    Ok(Listening {
+        listener,
+        address,
+        count,
+    })
 }
 
 // A connection that is set up; an error where the peer is gone, or where there is no memory or no handle for it.
-fn set_up<S: OpenStream + Read + Write + Drop>(
+fn set_up<'a, S: OpenStream + Read + Write + Drop, C: Clock>(
+    clock: &'a C,
     alloc: Global,
+    count: &Arc<AtomicU64, Global>,
     stream: S,
-) -> io::Result<(TcpSource<S>, TcpSink<S>)>
+) -> io::Result<(TcpSource<'a, S, C>, TcpSink<S>)>
     ensures { IfOk result (λ c. (c.0.faults ≡ 0) × (c.1.faults ≡ 0)) }
 {
-    let wait = Duration::from_secs(IDLE_SECONDS);
     stream.set_nodelay(true)?;
-    stream.set_read_timeout(Some(wait))?;
-    stream.set_write_timeout(Some(wait))?;
-    let out = TcpSink::new(alloc, stream.try_clone()?)?;
-    Ok((TcpSource::new(stream), out))
+    stream.set_read_timeout(Some(Duration::from_secs(SLICE_SECONDS)))?;
+    stream.set_write_timeout(Some(Duration::from_secs(IDLE_SECONDS)))?;
+    let answered = Arc::new(alloc, AtomicBool::new(true))?;
+    let out = TcpSink::new(alloc, stream.try_clone()?, Arc::try_clone(&answered)?)?;
+    let counted = Counted::new(Arc::try_clone(count)?);
+    Ok((TcpSource::new(stream, clock, counted, answered), out))
 }
 
 // An error of a peer or of the way to it before its connection was had, which is no fault of the ears.
@@ -83,10 +95,12 @@ fn is_of_peer(fault: &io::Error) -> bool {
 }
 
 // The next connection. One that can't be set up, as its peer is gone, is closed and passed over.
-fn next_of<L: OpenListener>(
+fn next_of<'a, L: OpenListener, C: Clock>(
+    clock: &'a C,
     alloc: Global,
+    count: &Arc<AtomicU64, Global>,
     listener: &L,
-) -> io::Result<(TcpSource<L::Stream>, TcpSink<L::Stream>)>
+) -> io::Result<(TcpSource<'a, L::Stream, C>, TcpSink<L::Stream>)>
 where
     L::Stream: OpenStream + Read + Write + Drop,
     ensures { IfOk result (λ c. (c.0.faults ≡ 0) × (c.1.faults ≡ 0)) }
@@ -94,7 +108,7 @@ where
     for _turn in 0..u64::MAX {
         match listener.accept() {
             Ok((stream, _)) => {
-                if let Ok(parts) = set_up(alloc, stream) {
+                if let Ok(parts) = set_up(clock, alloc, count, stream) {
                     return Ok(parts);
                 }
             }
@@ -108,12 +122,12 @@ where
     Err(io::Error::from(io::ErrorKind::Other))
 }
 
-impl<'a, R: Net + Sync> Ears for TcpEars<'a, R>
+impl<'a, R: Net + Clock + Sync> Ears for TcpEars<'a, R>
 where
     R::Listener: Send,
     R::Stream: Send,
 {
-    type In = TcpSource<R::Stream>;
+    type In = TcpSource<'a, R::Stream, R>;
 
     type Out = TcpSink<R::Stream>;
 
@@ -130,7 +144,7 @@ where
     ghost ending = { λ c. record { origin = None; read_faults = c.read_faults; write_faults = c.write_faults; written = None } };
 
     fn listen(&mut self, place: &str) -> Result<(), Failed> {
-        match bound(self.net, place) {
+        match bound(self.net, self.alloc, place) {
             Ok(listening) => {
                 self.listening = Some(listening);
                 Ok(())
@@ -142,12 +156,12 @@ where
         }
     }
 
-    fn next(&mut self) -> Result<(TcpSource<R::Stream>, TcpSink<R::Stream>), Failed> {
+    fn next(&mut self) -> Result<(TcpSource<'a, R::Stream, R>, TcpSink<R::Stream>), Failed> {
         let Some(listening) = &self.listening else {
             self.faults = self.faults.saturating_add(1);
             return Err(Failed);
         };
-        match next_of(self.alloc, &listening.listener) {
+        match next_of(self.net, self.alloc, &listening.count, &listening.listener) {
             Ok(parts) => Ok(parts),
             Err(_) => {
                 self.faults = self.faults.saturating_add(1);
@@ -156,7 +170,7 @@ where
         }
     }
 
-    fn shut(input: TcpSource<R::Stream>, output: TcpSink<R::Stream>) -> TcpClosed {
+    fn shut(input: TcpSource<'a, R::Stream, R>, output: TcpSink<R::Stream>) -> TcpClosed {
         close(input, output)
     }
 

@@ -1,15 +1,16 @@
 //! What a connection is read from and written to.
 ghost use Rattle.std.specs.Prelude.{◌≡◌, ℕ, None, IfOk};
+ghost use Rattle.std.specs.Io.{ReadsAtMost};
 
+use crate::patience::{Counted, IDLE_SECONDS, is_silent, is_slow};
 use edge_io::{Failed, Sink, Source};
 use std::alloc::Global;
 use std::io;
 use std::io::{BufWriter, Read, Write};
 use std::net::{OpenStream, Shutdown};
-use std::time::Duration;
-
-/// So many seconds a read or a write may wait for the peer.
-pub const IDLE_SECONDS: u64 = 60;
+use std::sync::Arc;
+use std::sync::atomic::{AtomicBool, Ordering};
+use std::time::{Clock, Duration, Instant};
 
 /// So many bytes are written at once at most, as many as a body may have.
 pub const WRITE_BYTES: usize = 1_048_576;
@@ -23,11 +24,18 @@ pub const CLOSING_READS: usize = 16;
 // So many bytes are read at once then.
 const CLOSING_BYTES: usize = 4_096;
 
-/// What a connection is read from. It counts its errors, of which one is that nothing came for so long.
+/// What a connection is read from. It counts its errors, of which one is that nothing came for so long. A request begins with
+/// the first byte that is read after an answer was handed on: so it is told from a connection that waits between two.
 #[derive(Drop)]
-pub struct TcpSource<S> {
+pub struct TcpSource<'a, S, C> {
     stream: S,
     faults: u64,
+    clock: &'a C,
+    counted: Counted,
+    answered: Arc<AtomicBool, Global>,
+    // How many bytes of the request were read, and when it was waited for after the first of them.
+    bytes: u64,
+    since: Option<Instant>,
 }
 
 // A stream whose writes wait for a time at most. One that takes less than it is given has waited for so long, so that the next
@@ -58,6 +66,7 @@ impl<S: Write> Write for Timed<S> {
 pub struct TcpSink<S: Write + Drop> {
     stream: BufWriter<Timed<S>>,
     faults: u64,
+    answered: Arc<AtomicBool, Global>,
 }
 
 /// A connection that is closed: how often it failed.
@@ -93,20 +102,26 @@ fn end<S: OpenStream + Read>(stream: &mut S) {
 }
 
 /// Closes a connection. Where it failed, nothing more is asked of its peer; bytes that weren't handed on are dropped.
-pub(crate) fn close<S: OpenStream + Read + Write + Drop>(
-    input: TcpSource<S>,
+pub(crate) fn close<S: OpenStream + Read + Write + Drop, C: Clock>(
+    input: TcpSource<'_, S, C>,
     output: TcpSink<S>,
 ) -> TcpClosed
-    ensures read { result.read_faults ≡ input.faults }
+    ensures read { result.read_faults ≡ input.entry.faults }
     ensures write { result.write_faults ≡ output.faults }
 {
     let TcpSource {
         mut stream,
         faults: read_faults,
+        clock: _,
+        counted: _counted,
+        answered: _,
+        bytes: _,
+        since: _,
     } = input;
     let TcpSink {
         stream: out,
         faults: write_faults,
+        answered: _,
     } = output;
     let (_out, _unwritten) = out.into_parts();
     if read_faults == 0 && write_faults == 0 {
@@ -118,16 +133,95 @@ pub(crate) fn close<S: OpenStream + Read + Write + Drop>(
     }
 }
 
-impl<S> TcpSource<S> {
+impl<'a, S, C: Clock> TcpSource<'a, S, C> {
     // A source of which nothing was read.
-    pub(crate) fn new(stream: S) -> TcpSource<S>
+    pub(crate) fn new(
+        stream: S,
+        clock: &'a C,
+        counted: Counted,
+        answered: Arc<AtomicBool, Global>,
+    ) -> TcpSource<'a, S, C>
         ensures { result.faults ≡ 0 }
     {
-        TcpSource { stream, faults: 0 }
+        TcpSource {
+            stream,
+            faults: 0,
+            clock,
+            counted,
+            answered,
+            bytes: 0,
+            since: None,
+        }
+    }
+
+    // A read begins: after an answer a new request does, and behind its first bytes its time is counted.
+    fn begin(&mut self)
+        ensures { self.new.faults ≡ self.old.faults }
+    {
+        if self.answered.swap(false, Ordering::SeqCst) {
+            self.bytes = 0;
+            self.since = None;
+        } else if self.bytes > 0 && self.since.is_none() {
+            self.since = Instant::now(self.clock).ok();
+        }
+    }
+
+    // Whether the request took too long.
+    fn is_late(&self) -> bool {
+        let Some(since) = self.since else {
+            return false;
+        };
+        let Ok(past) = since.elapsed(self.clock) else {
+            return false;
+        };
+        is_slow(past.as_secs(), self.bytes, self.counted.is_crowded())
     }
 }
 
-impl<S: Read> Source for TcpSource<S> {
+// A read that waited for so long.
+fn is_slice(fault: &io::Error) -> bool {
+    matches!(
+        fault.kind(),
+        io::ErrorKind::WouldBlock | io::ErrorKind::TimedOut
+    )
+}
+
+impl<'a, S: Read, C: Clock> TcpSource<'a, S, C> {
+    // Reads what comes. It waits in slices, and looks after each whether it is to wait on.
+    fn wait(&mut self, into: &mut [u8]) -> io::Result<usize>
+        ensures bound { ReadsAtMost result into.new }
+        ensures faults { self.new.faults ≡ self.old.faults }
+    {
+        for slice in 0..IDLE_SECONDS {
+            match self.stream.read(into) {
+                Ok(count) => return Ok(count),
+                Err(fault) => {
+                    let silent = is_silent(slice + 1, self.bytes, self.counted.is_crowded());
+                    if silent || !is_slice(&fault) || self.is_late() {
+                        return Err(fault);
+                    }
+                }
+            }
+        }
+        Err(io::Error::from(io::ErrorKind::TimedOut))
+    }
+
+    // Reads what comes of a request, unless it takes too long.
+    fn take(&mut self, into: &mut [u8]) -> io::Result<usize>
+        ensures bound { ReadsAtMost result into.new }
+        ensures faults { self.new.faults ≡ self.old.faults }
+    {
+        self.begin();
+        let count = self.wait(into)?;
+        self.bytes = self.bytes.saturating_add(count as u64);
+        if self.is_late() {
+            return Err(io::Error::from(io::ErrorKind::TimedOut));
+        }
+        Ok(count)
+    }
+}
+
+impl<'a, S: Read, C: Clock> Source for TcpSource<'a, S, C> {
     ghost left = { λ s. None };
 
     ghost faults = { λ s. s.faults };
@@ -137,7 +231,7 @@ impl<S: Read> Source for TcpSource<S> {
     ghost most = { λ s. None };
 
     fn read(&mut self, into: &mut [u8]) -> Result<usize, Failed> {
-        match self.stream.read(into) {
+        match self.take(into) {
             Ok(count) => Ok(count),
             Err(_) => {
                 self.faults = self.faults.saturating_add(1);
@@ -149,7 +243,11 @@ impl<S: Read> Source for TcpSource<S> {
 
 impl<S: Write + Drop> TcpSink<S> {
     // A sink to which nothing was written; an error where there is no memory for its buffer.
-    pub(crate) fn new(alloc: Global, stream: S) -> io::Result<TcpSink<S>>
+    pub(crate) fn new(
+        alloc: Global,
+        stream: S,
+        answered: Arc<AtomicBool, Global>,
+    ) -> io::Result<TcpSink<S>>
         ensures { IfOk result (λ s. s.faults ≡ 0) }
     {
         let timed = Timed {
@@ -157,7 +255,11 @@ impl<S: Write + Drop> TcpSink<S> {
             waited: false,
         };
         let stream = BufWriter::with_capacity(alloc, WRITE_BYTES, timed)?;
-        Ok(TcpSink { stream, faults: 0 })
+        Ok(TcpSink {
+            stream,
+            faults: 0,
+            answered,
+        })
     }
 }
 
@@ -186,7 +288,10 @@ impl<S: Write + Drop> Sink for TcpSink<S> {
 
     fn flush(&mut self) -> Result<(), Failed> {
         match self.stream.flush() {
-            Ok(()) => Ok(()),
+            Ok(()) => {
+                self.answered.store(true, Ordering::SeqCst);
+                Ok(())
+            }
             Err(_) => {
                 self.faults = self.faults.saturating_add(1);
                 Err(Failed)

@@ -1,0 +1,127 @@
+// A client of bench/many.py: so many connections, each of which asks one request after the other and waits for each answer.
+//
+//	go build -o client bench/plain/client/client.go
+//	client ADDRESS CONNECTIONS REQUESTS get|create|mix
+//
+// Says "ready" once each connection has made an object of its own. Then it waits for a line, asks REQUESTS requests in all, and prints the
+// seconds that they took, and of the waits for an answer in microseconds the middle one, the 99th of 100 and the longest. It waits for
+// another line before it ends, so that its connections stand until then. A mix is seven gets, two replaces and a create of ten.
+package main
+
+import (
+	"bufio"
+	"fmt"
+	"io"
+	"net"
+	"net/http"
+	"os"
+	"sort"
+	"strconv"
+	"strings"
+	"sync"
+	"time"
+)
+
+const path = "/apis/example.com/v1/namespaces/default/crontabs"
+
+type caller struct {
+	in     *bufio.Reader
+	out    net.Conn
+	name   string
+	number string
+	made   int
+	waits  []time.Duration
+}
+
+func body(name, number string) string {
+	version := ""
+	if number != "" {
+		version = `,"resourceVersion":"` + number + `"`
+	}
+	return `{"apiVersion":"example.com/v1","kind":"CronTab","metadata":{"name":"` + name + `"` + version + `},"host":"localhost","port":"1234","timeoutMillis":3000}`
+}
+
+// ask gives the answer's text, and ends the program where its code isn't the wanted one.
+func (c *caller) ask(wanted int, method, at, text string) string {
+	length := ""
+	if text != "" {
+		length = "Content-Length: " + strconv.Itoa(len(text)) + "\r\n"
+	}
+	if _, err := io.WriteString(c.out, method+" "+at+" HTTP/1.1\r\nHost: x\r\n"+length+"\r\n"+text); err != nil {
+		fail(err.Error())
+	}
+	answer, err := http.ReadResponse(c.in, nil)
+	if err != nil {
+		fail(err.Error())
+	}
+	came, err := io.ReadAll(answer.Body)
+	if err != nil || answer.StatusCode != wanted {
+		fail(fmt.Sprintf("%s %s is answered %d %s", method, at, answer.StatusCode, came))
+	}
+	return string(came)
+}
+
+func fail(why string) {
+	fmt.Println(why)
+	os.Exit(1)
+}
+
+func (c *caller) create(name string) { c.number = numberOf(c.ask(201, "POST", path, body(name, ""))) }
+
+func numberOf(shown string) string {
+	_, rest, _ := strings.Cut(shown, `"resourceVersion":"`)
+	number, _, _ := strings.Cut(rest, `"`)
+	return number
+}
+
+func (c *caller) step(kind string, turn int) {
+	start := time.Now()
+	switch {
+	case kind == "create" || kind == "mix" && turn%10 == 9:
+		c.made++
+		c.ask(201, "POST", path, body(c.name+"-"+strconv.Itoa(c.made), ""))
+	case kind == "mix" && turn%5 == 3:
+		c.number = numberOf(c.ask(200, "PUT", path+"/"+c.name, body(c.name, c.number)))
+	default:
+		c.ask(200, "GET", path+"/"+c.name, "")
+	}
+	c.waits = append(c.waits, time.Since(start))
+}
+
+func main() {
+	address, kind := os.Args[1], os.Args[4]
+	connections, _ := strconv.Atoi(os.Args[2])
+	requests, _ := strconv.Atoi(os.Args[3])
+	callers := make([]*caller, connections)
+	for i := range callers {
+		out, err := net.Dial("tcp", address)
+		if err != nil {
+			fail(err.Error())
+		}
+		callers[i] = &caller{in: bufio.NewReader(out), out: out, name: "c" + strconv.Itoa(i)}
+		callers[i].create(callers[i].name)
+	}
+	lines := bufio.NewScanner(os.Stdin)
+	fmt.Println("ready")
+	lines.Scan()
+	var all sync.WaitGroup
+	start := time.Now()
+	for _, c := range callers {
+		all.Add(1)
+		go func(c *caller) {
+			defer all.Done()
+			for turn := 0; turn < requests/connections; turn++ {
+				c.step(kind, turn)
+			}
+		}(c)
+	}
+	all.Wait()
+	seconds := time.Since(start).Seconds()
+	var waits []time.Duration
+	for _, c := range callers {
+		waits = append(waits, c.waits...)
+	}
+	sort.Slice(waits, func(i, j int) bool { return waits[i] < waits[j] })
+	fmt.Println(seconds, waits[len(waits)/2].Microseconds(), waits[len(waits)*99/100].Microseconds(), waits[len(waits)-1].Microseconds())
+	lines.Scan()
+}
