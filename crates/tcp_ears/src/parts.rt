@@ -192,11 +192,13 @@ impl<'a, S: Read, C: Clock> TcpSource<'a, S, C> {
         ensures bound { ReadsAtMost result into.new }
         ensures faults { self.new.faults ≡ self.old.faults }
     {
+        let mut crowded = false;
         for slice in 0..IDLE_SECONDS {
             match self.stream.read(into) {
                 Ok(count) => return Ok(count),
                 Err(fault) => {
-                    let silent = is_silent(slice + 1, self.bytes, self.counted.is_crowded());
+                    crowded = crowded || self.counted.is_crowded();
+                    let silent = is_silent(slice + 1, self.bytes, crowded);
                     if silent || !is_slice(&fault) || self.is_late() {
                         return Err(fault);
                     }

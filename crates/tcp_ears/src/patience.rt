@@ -21,27 +21,32 @@ pub const CROWDED_BYTES: u64 = 256;
 /// So many seconds a whole request may take, from its first byte to its last.
 pub const WHOLE_SECONDS: u64 = 120;
 
-// One of the connections that are there, which are counted.
+// One of the connections that are there, which are counted. One that came when there were many is never waited for as long as
+// others, since the thread that accepts may serve it.
 pub(crate) struct Counted {
     count: Arc<AtomicU64, Global>,
+    late: bool,
 }
 
 impl Counted {
     // One more.
     pub(crate) fn new(count: Arc<AtomicU64, Global>) -> Counted {
-        count.fetch_add(1, Ordering::SeqCst);
-        Counted { count }
+        let before = count.fetch_add(1, Ordering::SeqCst);
+        Counted {
+            count,
+            late: before >= CROWD,
+        }
     }
 
-    // Whether there are so many that peers are waited for less.
+    // Whether its peer is waited for less.
     pub(crate) fn is_crowded(&self) -> bool {
-        self.count.load(Ordering::SeqCst) > CROWD
+        self.late || self.count.load(Ordering::SeqCst) > CROWD
     }
 }
 
 impl Drop for Counted {
     fn drop(self) {
-        let Self { count } = self;
+        let Self { count, late: _ } = self;
         count.fetch_sub(1, Ordering::SeqCst);
     }
 }
