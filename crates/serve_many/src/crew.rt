@@ -9,7 +9,7 @@ ghost use Rattle.serve_spans.specs.Keeping.{Going, Job};
 ghost use Rattle.serve_many.specs.Answered.{IsAnswered, front_of};
 ghost use Rattle.serve_many.specs.Jobs.{Retires, Worked};
 
-use crate::gates::{OpenGate, RestingGate};
+use crate::gates::{OpenGate, PAUSE_MILLIS, RestingGate};
 use crate::passes::make_pass;
 use api_calls::{Tools, Versions};
 use migrate_workers::{Gate, WorkEnd, work};
@@ -165,6 +165,7 @@ where
         gate: RestingGate {
             system: rt,
             open: theirs,
+            pause: PAUSE_MILLIS,
         },
     };
     match start_work(rt, alloc, scope, api, shift, open) {

@@ -9,15 +9,20 @@ use std::sync::{Arc, Wait};
 use std::thread;
 use std::time::{Clock, Duration};
 
-/// So many milliseconds a worker rests where it finds nothing to do.
+/// So many milliseconds a worker rests at first where it finds nothing to do.
 pub const PAUSE_MILLIS: u64 = 2;
 
-/// A gate that says yes while it is open, and rests a little before the turn after one that found nothing to do. Its
-/// parameter has no bound, so that it may be sent.
+/// So many milliseconds it rests at most, where it found nothing to do many times.
+pub const MOST_PAUSE_MILLIS: u64 = 100;
+
+/// A gate that says yes while it is open, and rests before the turn after one that found nothing to do, twice as long each
+/// time. Its parameter has no bound, so that it may be sent.
 #[derive(Drop)]
 pub struct RestingGate<'s, T> {
     pub system: &'s T,
     pub open: Arc<AtomicBool, Global>,
+    /// So many milliseconds the next rest takes.
+    pub pause: u64,
 }
 
 impl<'s, T: Clock> Gate for RestingGate<'s, T> {
@@ -26,8 +31,11 @@ impl<'s, T: Clock> Gate for RestingGate<'s, T> {
     ghost questions = { λ g. [] };
 
     fn go_on<R: Wait>(&mut self, _rt: &R, last: TurnStep) -> bool {
-        if last == TurnStep::Idle && self.open.load(Ordering::SeqCst) {
-            thread::sleep(self.system, Duration::from_millis(PAUSE_MILLIS));
+        if last != TurnStep::Idle {
+            self.pause = PAUSE_MILLIS;
+        } else if self.open.load(Ordering::SeqCst) {
+            thread::sleep(self.system, Duration::from_millis(self.pause));
+            self.pause = self.pause.saturating_mul(2).min(MOST_PAUSE_MILLIS);
         }
         self.open.load(Ordering::SeqCst)
     }

@@ -17,6 +17,6 @@ mod serving;
 
 pub use accepting::MOST_RUNNING;
 pub use crew::TURNS_BETWEEN;
-pub use gates::PAUSE_MILLIS;
+pub use gates::{MOST_PAUSE_MILLIS, PAUSE_MILLIS};
 pub use laws::{never_rises, stays_served};
 pub use serving::{ServeEnd, serve_all};
