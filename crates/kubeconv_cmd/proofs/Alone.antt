@@ -9,11 +9,14 @@ use Rattle.kube_meta.specs.Plan.{Migration, running, may_claim, is_done}
 use Rattle.api_calls.specs.Calls.{Server, Call, work, Told, answered, worked, failed, gave_back, no_memory, IsTurn, Decides, Fails, IsMoved, IsLost, Comes, decided, wants_memory, not_converted, moved, lost}
 use Rattle.api_calls.specs.Ends.{grown, prepare}
 use Rattle.api_calls.specs.Item.{Item, Logged, items, items_of}
-use Rattle.api_calls.specs.Legal.{In}
+use Rattle.api_calls.specs.GrowthLaws.{legal-more}
+use Rattle.api_calls.specs.Legal.{In, legal}
 use Rattle.api_calls.specs.Meaning.{Meaning}
 use Rattle.api_calls.specs.Reply.{ReplyView}
 use Rattle.api_calls.specs.State.{State, revision, state}
 use Rattle.api_calls.specs.Work.{Turn, Work, idle_turn, first_turn, turn_decision}
+use Rattle.api_calls.specs.WorkGuards.{work-guard}
+use Rattle.api_calls.proofs.Sound.{sound-all, finished}
 use Rattle.turn_cell.specs.Laws.{items_of-append}
 use Rattle.turn_cell.specs.Turns.{addition}
 use Rattle.turn_cell.specs.Views.{IsAlone}
@@ -139,13 +142,26 @@ alone_step f n p q r a few quiet step = record {
 abbrev at : List Logged → Option ℕ → At
 at seen claim = record { log = items seen; claim = claim }
 
+-- what a turn enters in a legal list has its guard
+turned_legal : (s : Server) (p : At) → legal s.meaning s.limits p.log → legal s.meaning s.limits (turned s p).log
+turned_legal s p l = by (turn_at s p).decision.item refl
+  where
+    by : (i : Option Item) → (turn_at s p).decision.item ≡ i → legal s.meaning s.limits (grown p.log i)
+    by None is = l
+    by (Some i) is = legal-more s.meaning s.limits p.log i l
+        (work-guard s.meaning s.limits (revision p.log + 1) (state s.meaning p.log) p.claim i
+        (λ q runs done. finished q (state s.meaning p.log) (sound-all s.meaning s.limits p.log l) runs done) is)
+
 -- turns that would be taken
-would_take : (s : Server) (w : At) (n : ℕ) → (u : At) × TakesTurns s w n u
-would_take s w zero = (w, no_turn)
-would_take s w (suc n) =
-    let so_far = would_take s w n in
-    let same : n + 1 ≡ suc n = omega arith in
-    (turned s so_far.0, subst (λ (k : ℕ). TakesTurns s w k (turned s so_far.0)) same (one_more n so_far.0 (turned s so_far.0) so_far.1 (inl refl)))
+would_take : (s : Server) (w : At) (n : ℕ) → legal s.meaning s.limits w.log → (u : At) × legal s.meaning s.limits u.log × TakesTurns s w n u
+would_take s w zero l = (w, l, no_turn)
+would_take s w (suc n) l =
+    let so_far = would_take s w n l in
+    let same : n + 1 ≡ suc n = omega arith in (
+      turned s so_far.0,
+      turned_legal s so_far.0 so_far.1,
+      subst (λ (k : ℕ). TakesTurns s w k (turned s so_far.0)) same (one_more n so_far.0 (turned s so_far.0) so_far.2 (inl refl)),
+    )
 
 module _ (f : Front) (turns : ℕ) (p q : Point) (claim : Option ℕ) (known left before written : Option (List ℕ)) (few : q.faults ≤ p.faults)
     (quiet : (m : ℕ) → m ≢ 0 → items_of m q.seen ≡ items_of m p.seen) where
@@ -173,18 +189,19 @@ module _ (f : Front) (turns : ℕ) (p q : Point) (claim : Option ℕ) (known lef
   pub unread_at : (q ≡ p) × (written ≡ before) → (at q.seen claim ≡ at p.seen claim) × (written ≡ before)
   unread_at did = (ap (λ (w : Point). at w.seen claim) did.0, did.1)
 
-  pub broke_at : Did (StepAnswers f 0) steps.WriteFault p q known left before written
-      → (u : At) × Did (AnswersAndWorks f turns) steps.WriteFault (at p.seen claim) u known left before written
-  broke_at did = elim did [
+  pub broke_at : legal f.server.meaning f.server.limits (items q.seen) → Did (StepAnswers f 0) steps.WriteFault p q known left before written
+      → (u : At) × legal f.server.meaning f.server.limits u.log × Did (AnswersAndWorks f turns) steps.WriteFault (at p.seen claim) u known left before written
+  broke_at l did = elim did [
     | inl broke ↦
-        let after = would_take f.server (at q.seen claim) turns in (
+        let after = would_take f.server (at q.seen claim) turns l in (
           after.0,
+          after.1,
           inl (record {
             exchange = broke.exchange;
             step = record {
               mid = items q.seen;
               answers = alone_step f 0 p q broke.exchange.request broke.exchange.answer few quiet broke.step;
-              works = after.1;
+              works = after.2;
             };
             reads = broke.reads;
             some = broke.some;
@@ -192,6 +209,7 @@ module _ (f : Front) (turns : ℕ) (p q : Point) (claim : Option ℕ) (known lef
         )
     | inr broke ↦ (
       at q.seen claim,
+      l,
       inr (record {
         fault = broke.fault;
         same = ap (λ (w : Point). at w.seen claim) broke.same;

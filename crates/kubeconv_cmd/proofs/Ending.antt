@@ -49,17 +49,17 @@ pub talks : (named : Named) (crd rules : List ℕ) (turns : ℕ) (start : Start)
 talks named crd rules turns start b before written files reads writes (Ok Closed) s c is nf nr nw = inl (record {
   loaded = c.talk.loaded;
   loads = c.talk.loads;
-  answered = elim c.talk.conversed.1 [
-    | inl talk ↦ record { end = closed; after = c.talk.conversed.0; conversation = talk; is_status = is }
-    | inr talk ↦ record { end = closing; after = c.talk.conversed.0; conversation = talk; is_status = is }
+  answered = elim c.talk.conversed.2 [
+    | inl talk ↦ record { end = closed; after = c.talk.conversed.0; is_legal = c.talk.conversed.1; conversation = talk; is_status = is }
+    | inr talk ↦ record { end = closing; after = c.talk.conversed.0; is_legal = c.talk.conversed.1; conversation = talk; is_status = is }
   ];
 })
 talks named crd rules turns start b before written files reads writes (Ok (Torn held)) s c is nf nr nw =
-    inl (record { loaded = c.talk.loaded; loads = c.talk.loads; answered = record { end = torn held; after = c.talk.conversed.0; conversation = c.talk.conversed.1; is_status = is } })
+    inl (record { loaded = c.talk.loaded; loads = c.talk.loads; answered = record { end = torn held; after = c.talk.conversed.0; is_legal = c.talk.conversed.1; conversation = c.talk.conversed.2; is_status = is } })
 talks named crd rules turns start b before written files reads writes (Ok (Refused f)) s c is nf nr nw =
-    inl (record { loaded = c.talk.loaded; loads = c.talk.loads; answered = record { end = refused f; after = c.talk.conversed.0; conversation = c.talk.conversed.1; is_status = is } })
+    inl (record { loaded = c.talk.loaded; loads = c.talk.loads; answered = record { end = refused f; after = c.talk.conversed.0; is_legal = c.talk.conversed.1; conversation = c.talk.conversed.2; is_status = is } })
 talks named crd rules turns start b before written files reads writes (Ok Spent) s c is nf nr nw =
-    inl (record { loaded = c.talk.loaded; loads = c.talk.loads; answered = record { end = spent; after = c.talk.conversed.0; conversation = c.talk.conversed.1; is_status = is } })
+    inl (record { loaded = c.talk.loaded; loads = c.talk.loads; answered = record { end = spent; after = c.talk.conversed.0; is_legal = c.talk.conversed.1; conversation = c.talk.conversed.2; is_status = is } })
 talks named crd rules turns start b before written files reads writes (Ok ReadFault) s c is nf nr nw = absurd (nr c.blames)
 talks named crd rules turns start b before written files reads writes (Ok WriteFault) s c is nf nr nw = absurd (nw c.blames)
 talks named crd rules turns start b before written files reads writes (Err stops.ReadFailed) s c is nf nr nw = absurd (nf c.unread)

@@ -4,6 +4,7 @@ use Rattle.std.specs.Prelude.{IfOk}
 use Rattle.kj_value.specs.declared.error.NoMemory.{NoMemory}
 use Rattle.kube_meta.specs.declared.limits.TheConstants.Limits.{STANDING}
 use Rattle.api_calls.specs.Item.{items}
+use Rattle.api_calls.specs.Legal.{legal}
 use Rattle.api_calls.specs.Meaning.{Meaning}
 use Rattle.crd_loading.specs.Load.{Loads}
 use Rattle.crd_loading.specs.View.{LoadedView}
@@ -30,11 +31,13 @@ first_alone {B = B} base v new = subst (λ (w : View B). IsAlone w) (sym new) re
 pub opened : {V : Type 0} (meaning : V → Meaning) (a : ApiOf (CoreBase V)) (v : View (CoreBase V)) (versions : V) (start : Start) (turns : ℕ) (b : List ℕ)
     (left before written : Option (List ℕ)) (end : PipeEnd) (after : At)
     → a.base ≡ record { versions = versions; limits = STANDING; boot = start.boot } → v ≡ opening_view a.base → left ≡ Some b
+    → legal (meaning a.base.versions) a.base.limits after.log
     → Links (AnswersAndWorks (record { server = server_of meaning a.base; told = start.told }) turns) MOST_REQUESTS ⊥ (link_end end)
     (record { log = items v.seen; claim = None }) after left before written
     → Conversed (front_of (meaning versions) start) turns b before written end
-opened {V = V} meaning a v versions start turns b left before written end after base new known link = (
+opened {V = V} meaning a v versions start turns b left before written end after base new known guards link = (
   after,
+  subst (λ (c : CoreBase V). legal (meaning c.versions) c.limits after.log) base guards,
   subst (λ (k : Option (List ℕ)). Links (AnswersAndWorks (front_of (meaning versions) start) turns) MOST_REQUESTS ⊥ (link_end end) opening after k before written) known
       (subst (λ (c : CoreBase V). Links (AnswersAndWorks (record { server = server_of meaning c; told = start.told }) turns) MOST_REQUESTS ⊥ (link_end end) opening after left before written) base
       (subst (λ (w : View (CoreBase V)). Links (AnswersAndWorks (record { server = server_of meaning a.base; told = start.told }) turns) MOST_REQUESTS ⊥ (link_end end)

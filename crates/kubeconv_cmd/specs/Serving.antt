@@ -4,6 +4,7 @@ use Rattle.kube_meta.specs.declared.limits.TheConstants.Limits.{STANDING}
 use Rattle.api_calls.specs.Calls.{Server}
 use Rattle.api_calls.specs.Ends.{grown}
 use Rattle.api_calls.specs.Item.{Item}
+use Rattle.api_calls.specs.Legal.{legal}
 use Rattle.api_calls.specs.Meaning.{Meaning}
 use Rattle.api_calls.specs.Reply.{ReplyView}
 use Rattle.api_calls.specs.State.{revision, state}
@@ -96,12 +97,12 @@ link_end Spent = links.Spent
 link_end ReadFault = links.ReadFault
 link_end WriteFault = links.WriteFault
 
--- The input was answered from a history with nothing in it to this end, with so many turns of the worker after each answer. A
--- fault of reading comes behind the answers to the first requests. A fault of writing comes behind those and a front of one more
--- response.
+-- The input was answered from a history with nothing in it to this end, with so many turns of the worker after each answer, and
+-- what was entered until then is a legal list. A fault of reading comes behind the answers to the first requests. A fault of writing
+-- comes behind those and a front of one more response.
 abbrev pub Conversed : Front → ℕ → List ℕ → Option (List ℕ) → Option (List ℕ) → PipeEnd → Type 0
 Conversed f turns input before written end =
-    (after : At) × Links (AnswersAndWorks f turns) MOST_REQUESTS ⊥ (link_end end) opening after (Some input) before written
+    (after : At) × legal f.server.meaning f.server.limits after.log × Links (AnswersAndWorks f turns) MOST_REQUESTS ⊥ (link_end end) opening after (Some input) before written
 
 -- a fault of reading has this cause, and one of writing that
 abbrev pub Blames : PipeEnd → Type 0 → Type 0 → Type 0
@@ -116,10 +117,12 @@ meaning_of d = loaded_meaning d (settings_of d.view)
 abbrev pub served_meaning : LoadedView → Meaning
 served_meaning l = meaning_of (set_of l)
 
--- The input was answered whole, beginning with nothing entered, and the status is that of its end.
+-- The input was answered whole, beginning with nothing entered. What was entered is a legal list, and the status is that of the
+-- input's end.
 pub record Answered (f : Front) (turns : ℕ) (input : List ℕ) (before written : Option (List ℕ)) (status : ℕ) : Type 0 where
   pub end : End
   pub after : At
+  pub is_legal : legal f.server.meaning f.server.limits after.log
   pub conversation : Conversation (AnswersAndWorks f turns) MOST_REQUESTS opening after (Some input) before written end
   pub is_status : status ≡ status_of end
 

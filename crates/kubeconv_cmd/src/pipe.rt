@@ -1,6 +1,7 @@
 //! The work of `pipe`, over any definition.
 ghost use Rattle.std.specs.Prelude.{◌≡◌, ℕ, [], List, Some, IfOk, OnErr};
 ghost use Rattle.api_calls.specs.Item.{items};
+ghost use Rattle.api_calls.specs.Legal.{legal};
 ghost use Rattle.edge_io.specs.Causes.{Rose};
 ghost use Rattle.http_wire.specs.declared.limits.TheConstants.{MOST_REQUESTS};
 ghost use Rattle.turn_cell.specs.Views.{IsAlone};
@@ -74,7 +75,7 @@ fn converse<V: Versions<Tool = NoTool> + Drop, R: Wait, S: Source, K: Sink, C: C
     requires number { pass.old.view.number ≡ Some 0 }
     requires alone { IsAlone pass.old.view }
     requires empty { inbox.old.bytes ≡ [] }
-    ensures talk { (after : At) × Links (AnswersAndWorks (record { server = server_of V.meaning api.now.base; told = C.told clock.now }) turns) MOST_REQUESTS ⊥ (link_end result)
+    ensures talk { (after : At) × legal (V.meaning api.now.base.versions) api.now.base.limits after.log × Links (AnswersAndWorks (record { server = server_of V.meaning api.now.base; told = C.told clock.now }) turns) MOST_REQUESTS ⊥ (link_end result)
         (record { log = items pass.old.view.seen; claim = worker.old.claim }) after (S.left input.old) (K.written output.old) (K.written output.new) }
     ensures blames { Blames result (Rose (S.faults input.old) (S.faults input.new)) (Rose (K.faults output.old) (K.faults output.new)) }
 {

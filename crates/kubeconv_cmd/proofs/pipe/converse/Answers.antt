@@ -58,6 +58,7 @@ returns-in-Last-clause-talk g c =
     let written : Option (List ℕ) = g.K.Sink.written c.serve_one.new.output in
     let after : At = record { log = items c.take_turns-in-Last.new.pass.view.seen; claim = c.take_turns-in-Last.new.worker.claim } in (
       after,
+      c.take_turns-in-Last.ensures.of.legal.guards,
       inr (ended_last (AnswersAndWorks f c.args.turns) _ _ _ _ _ _ _ _ _ _ _ c.loop-count.invariant.so_far c.loop-count-test.true
           (answered_and_worked f c.args.turns p q c.loop-count.worker.claim known left before written (omega arith) quiet true after (c.in-Last.ensures.did 0 number) c.take_turns-in-Last.ensures.took)),
     )
@@ -75,6 +76,7 @@ returns-in-Closed-clause-talk g c =
     let before : Option (List ℕ) = g.K.Sink.written c.loop-count.output in
     let written : Option (List ℕ) = g.K.Sink.written c.serve_one.new.output in (
       record { log = items q.seen; claim = c.loop-count.worker.claim },
+      c.in-Closed.ensures.of.legal.guards,
       inl (ended_so (AnswersAndWorks f c.args.turns) _ _ _ _ _ _ _ None _ _ _ c.loop-count.invariant.so_far closed c.loop-count-test.true
           (ended_at f c.args.turns p q c.loop-count.worker.claim known left before written (omega arith) quiet closed (c.in-Closed.ensures.did 0 number))),
     )
@@ -92,6 +94,7 @@ returns-in-Torn-clause-talk g c =
     let before : Option (List ℕ) = g.K.Sink.written c.loop-count.output in
     let written : Option (List ℕ) = g.K.Sink.written c.serve_one.new.output in (
       record { log = items q.seen; claim = c.loop-count.worker.claim },
+      c.in-Torn.ensures.of.legal.guards,
       (ended_so (AnswersAndWorks f c.args.turns) _ _ _ _ _ _ _ None _ _ _ c.loop-count.invariant.so_far (torn c.in-Torn.held) c.loop-count-test.true
           (ended_at f c.args.turns p q c.loop-count.worker.claim known left before written (omega arith) quiet (torn c.in-Torn.held) (c.in-Torn.ensures.did 0 number))),
     )
@@ -109,6 +112,7 @@ returns-in-Refused-clause-talk g c =
     let before : Option (List ℕ) = g.K.Sink.written c.loop-count.output in
     let written : Option (List ℕ) = g.K.Sink.written c.serve_one.new.output in (
       record { log = items q.seen; claim = c.loop-count.worker.claim },
+      c.in-Refused.ensures.of.legal.guards,
       (ended_so (AnswersAndWorks f c.args.turns) _ _ _ _ _ _ _ None _ _ _ c.loop-count.invariant.so_far (refused c.in-Refused.fault) c.loop-count-test.true
           (ended_at f c.args.turns p q c.loop-count.worker.claim known left before written (omega arith) quiet (refused c.in-Refused.fault) (c.in-Refused.ensures.did 0 number))),
     )
@@ -126,6 +130,7 @@ returns-in-ReadFault-clause-talk g c =
     let before : Option (List ℕ) = g.K.Sink.written c.loop-count.output in
     let written : Option (List ℕ) = g.K.Sink.written c.serve_one.new.output in (
       record { log = items q.seen; claim = c.loop-count.worker.claim },
+      c.in-ReadFault.ensures.of.legal.guards,
       broke_reading (AnswersAndWorks f c.args.turns) _ _ _ _ _ _ _ None _ _ _ c.loop-count.invariant.so_far c.loop-count.invariant.few
           (unread_at f c.args.turns p q c.loop-count.worker.claim known left before written (omega arith) quiet (c.in-ReadFault.ensures.did 0 number)),
     )
@@ -142,11 +147,12 @@ returns-in-WriteFault-clause-talk g c =
     let left : Option (List ℕ) = prepend_known c.serve_one.new.inbox.bytes (g.S.Source.left c.serve_one.new.input) in
     let before : Option (List ℕ) = g.K.Sink.written c.loop-count.output in
     let written : Option (List ℕ) = g.K.Sink.written c.serve_one.new.output in
-    let after = broke_at f c.args.turns p q c.loop-count.worker.claim known left before written (omega arith) quiet (c.in-WriteFault.ensures.did 0 number) in
-    (after.0, broke (AnswersAndWorks f c.args.turns) _ _ _ _ _ _ _ _ _ _ _ c.loop-count.invariant.so_far _ c.loop-count-test.true after.1)
+    let after = broke_at f c.args.turns p q c.loop-count.worker.claim known left before written (omega arith) quiet c.in-WriteFault.ensures.of.legal.guards (c.in-WriteFault.ensures.did 0 number) in
+    (after.0, after.1, broke (AnswersAndWorks f c.args.turns) _ _ _ _ _ _ _ _ _ _ _ c.loop-count.invariant.so_far _ c.loop-count-test.true after.2)
 
 pub returns-clause-talk : goal.returns-clause-talk
 returns-clause-talk g c = (
   record { log = items c.loop-count.pass.view.seen; claim = c.loop-count.worker.claim },
+  c.loop-count.invariant.of.legal.guards,
   ended_spent _ _ _ (record { log = items c.loop-count.pass.view.seen; claim = c.loop-count.worker.claim }) (record { log = items c.loop-count.pass.view.seen; claim = c.loop-count.worker.claim }) _ _ _ None _ _ (g.K.Sink.written c.loop-count.output) c.loop-count.invariant.so_far (omega (arith, c.loop-count.invariant.few)),
 )

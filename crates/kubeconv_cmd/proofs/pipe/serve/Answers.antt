@@ -13,4 +13,4 @@ returns-clause-talk g c = λ b left.
     opened g.V.Versions.meaning c.in_ok-api.api c.in_ok-api.pass.view c.args.versions
     (record { boot = c.args.boot; told = g.C.Clock.told c.args.clock.now }) c.args.turns b
     (g.S.Source.left c.args.input.now) (g.K.Sink.written c.args.output.now) (g.K.Sink.written c.converse-end.new.output) c.converse-end.result talk.0
-    c.in_ok-api.ensures.base c.in_ok-api.ensures.new left talk.1
+    c.in_ok-api.ensures.base c.in_ok-api.ensures.new left talk.1 talk.2
