@@ -65,9 +65,9 @@ OWN_WORDS = {
     "turn_cell/specs/Turns": "What each call of the turn lock says: `Takes`, `Appends`, `Gives`, `IsNew`, `Meets`.",
     "call_texts/specs/Listing": "What is shown of a page, item by item, and the place behind it.",
     "http_routes/specs/Views": "What resources, actions, rows, pages and calls of the code are seen as.",
-    "kubeconv_cmd/specs/Listening": "What a line of `serve` tells, and what it wrote by its status, whatever failed.",
-    "kubeconv_cmd/specs/Serving": "What a line does (`Ran`), and what it is to serve the definition that two texts are.",
-    "kubeconv_cmd/specs/Beside": "What connections beside each other were answered, by one legal list (`RunsService`).",
+    "kubeconv_cmd/specs/Listening": "What a line of `serve` tells: the line that names a place (`Announced`).",
+    "kubeconv_cmd/specs/Serving": "What it is to serve the definition that two texts are (`Converses`), and to drill it.",
+    "kubeconv_cmd/specs/Beside": "What connections beside each other were answered, by one legal list (`ServesAll`).",
 }
 
 

@@ -1,6 +1,6 @@
--- A drill of the shared example, and what came of it.
-use Rattle.std.proofs.Common.{◌≡◌, ◌≢◌, ◌∙◌, ◌⊎◌, ℕ, List, Option, Result, Ok, Err, inl, inr, sym, subst, ap, arith}
-use Rattle.std.specs.Prelude.{IfOk, IfErr, OnOk}
+-- A drill of the shared example, whatever its texts.
+use Rattle.std.proofs.Common.{◌≡◌, ℕ, List, Result, Ok, Err, subst}
+use Rattle.std.specs.Prelude.{IfOk}
 use Rattle.kj_value.specs.Json.{Json}
 use Rattle.kj_value.specs.Reading.{Reads}
 use Rattle.kj_value.specs.declared.reading.TheConstants.{MAX_JSON_LEVELS}
@@ -13,15 +13,7 @@ use Rattle.crd_meaning.specs.Definition.{Definition}
 use Rattle.crd_versions.specs.Set.{definition_of}
 use Rattle.crd_versions.specs.declared.set.VersionSet.{VersionSet}
 use Rattle.drill_steps.specs.Drilling.{Tells, drilled}
-use Rattle.kubeconv_cmd.specs.Lines.{Line, drill}
-use Rattle.kubeconv_cmd.specs.Serving.{DrillsTexts, RanDrill, meaning_of}
-use Rattle.kubeconv_cmd.specs.Tasks.{Wrote}
-use Rattle.kubeconv_cmd.specs.Halts.{OnHalt, task_status}
-use Rattle.kubeconv_cmd.specs.declared.halt.Halt.{Halt}
-use Rattle.kubeconv_cmd.specs.declared.halt.Halt.TheVariants.{ReadFailed, WriteFailed, File, Input, NoMemory as Wanting}
-use Rattle.kubeconv_cmd.specs.declared.status.TheConstants.{DONE, BAD_WORDS, BAD_INPUT, READ_FAILED, REFUSED, WRITE_FAILED, NO_MEMORY}
-
--- ---- the example, whatever its texts
+use Rattle.kubeconv_cmd.specs.Serving.{DrillsTexts, meaning_of}
 
 abbrev pub OneReading : Type 0
 OneReading = (bytes : List ℕ) (m n : ℕ) (j k : Json) → Reads bytes m j → Reads bytes n k → j ≡ k
@@ -58,46 +50,3 @@ drills_texts (Ok t) crd rules start count d l loads is tells = record {
   tells = subst (λ (x : Definition). Tells (drilled (meaning_of x)) start count t.bytes) is tells;
 }
 drills_texts (Err e) crd rules start count d l loads is tells = tt
-
--- ---- the end of a line
-
--- the text was written, or memory was wanted
-pub ran_drill : (crd rules : List ℕ) (start count : ℕ) (before written : Option (List ℕ)) (writes : Type 0) (came : Result Unit Halt) (s : ℕ)
-    → OnOk came (Wrote (DrillsTexts crd rules start count) before written)
-    → IfErr came (OnHalt (record { reads = ⊥; writes = writes; file = λ _ _. ⊥; input = λ _. ⊥ })) → s ≡ task_status came → ¬ writes
-    → RanDrill crd rules start count before written s ⊎ (s ≡ NO_MEMORY)
-ran_drill crd rules start count before written writes (Ok u) s wrote cause is nw = inl (record { done = is; wrote = wrote })
-ran_drill crd rules start count before written writes (Err ReadFailed) s wrote cause is nw = absurd cause
-ran_drill crd rules start count before written writes (Err WriteFailed) s wrote cause is nw = absurd (nw cause)
-ran_drill crd rules start count before written writes (Err (File file why)) s wrote cause is nw = absurd cause
-ran_drill crd rules start count before written writes (Err (Input why)) s wrote cause is nw = absurd cause
-ran_drill crd rules start count before written writes (Err Wanting) s wrote cause is nw = inr is
-
--- it ends with one of three statuses
-pub drill_ends : (writes : Type 0) (came : Result Unit Halt) (s : ℕ) → IfErr came (OnHalt (record { reads = ⊥; writes = writes; file = λ _ _. ⊥; input = λ _. ⊥ }))
-    → s ≡ task_status came → (s ≡ DONE) ⊎ ((s ≡ WRITE_FAILED) ⊎ (s ≡ NO_MEMORY))
-drill_ends writes (Ok u) s cause is = inl is
-drill_ends writes (Err ReadFailed) s cause is = absurd cause
-drill_ends writes (Err WriteFailed) s cause is = inr (inl is)
-drill_ends writes (Err (File file why)) s cause is = absurd cause
-drill_ends writes (Err (Input why)) s cause is = absurd cause
-drill_ends writes (Err Wanting) s cause is = inr (inr is)
-
--- and with no other
-pub never_else : (s n : ℕ) → (s ≡ DONE) ⊎ ((s ≡ WRITE_FAILED) ⊎ (s ≡ NO_MEMORY)) → n ≢ DONE → n ≢ WRITE_FAILED → n ≢ NO_MEMORY → s ≡ n → ⊥
-never_else s n (inl e) d w m is = d (sym is ∙ e)
-never_else s n (inr (inl e)) d w m is = w (sym is ∙ e)
-never_else s n (inr (inr e)) d w m is = m (sym is ∙ e)
-
--- ---- lines
-
-pub third : (A B C : Type 0) → A ⊎ B → A ⊎ (C ⊎ B)
-third A B C (inl a) = inl a
-third A B C (inr b) = inr (inr b)
-
--- what holds of the numbers of a drill holds of those of its line
-pub of_line : (a b start count : ℕ) (P : ℕ → ℕ → Type 0) → drill a b ≡ drill start count → P a b → P start count
-of_line a b start count P is p =
-    let first : a ≡ start = cc in
-    let second : b ≡ count = cc in
-    subst (λ (x : ℕ). P x count) first (subst (λ (y : ℕ). P a y) second p)

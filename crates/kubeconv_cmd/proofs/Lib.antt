@@ -1,10 +1,8 @@
 pub mod LineWords
-pub mod Refusing
 pub mod Taking
 pub mod Alone
 pub mod Serving
-pub mod Ending
-pub mod TaskEnding
+pub mod Outcomes
 pub mod TaskLemmas
 pub mod DrillEnding
 pub mod ServeEnding

@@ -1,6 +1,6 @@
 -- What is known of a document, by steps.
-use Rattle.std.proofs.Common.{◌≡◌, ◌≢◌, ◌<◌, ◌≤◌, ℕ, List, length, Option, Result, Ok, Err, inr, sym, subst}
-use Rattle.std.specs.Prelude.{IfOk, IfErr, OnOk}
+use Rattle.std.proofs.Common.{◌≡◌, ◌≢◌, ◌<◌, ◌≤◌, ℕ, List, length, Option, Result, Ok, Err, sym, subst}
+use Rattle.std.specs.Prelude.{IfOk, IfErr}
 use Rattle.std.proofs.Math.Logic.{∥∥₁_elim}
 use Rattle.kj_value.specs.declared.txt.Txt.{Txt}
 use Rattle.crd_loading.specs.Load.{Loads}
@@ -13,15 +13,12 @@ use Rattle.api_calls.specs.Readings.{IsFaulty}
 use Rattle.api_calls.specs.declared.versions.TheConstants.{OBJECT_LEVELS}
 use Rattle.kubeconv_cmd.specs.Lines.{Task, convert, review}
 use Rattle.kubeconv_cmd.specs.Tasks.{IsVersionNamed, IsValueOf, AnswersDocument, RefusesDocument, unknown, long_document, faulty as faulty_document, long_review, no_review, AnswersTexts, RefusesTexts, Wrote, Broke, no_version, too_long, IsWithout, fault_words, not_review}
-use Rattle.kubeconv_cmd.specs.Ends.{OnRefused}
-use Rattle.kubeconv_cmd.specs.Halts.{OnUnread, Follows, OnHalt, NoValue, NoAnswer, long, faulty, none, Past, halt_of}
+use Rattle.kubeconv_cmd.specs.Halts.{OnUnread, Follows, OnHalt, NoValue, NoAnswer, long, faulty, none}
 use Rattle.kubeconv_cmd.specs.declared.input.TheConstants.{MOST_INPUT_BYTES}
 use Rattle.kubeconv_cmd.specs.declared.input.Unread.{Unread}
 use Rattle.kubeconv_cmd.specs.declared.input.Unread.TheVariants as unread
-use Rattle.kubeconv_cmd.specs.declared.stop.Stop.{Stop}
-use Rattle.kubeconv_cmd.specs.declared.stop.Stop.TheVariants as stops
 use Rattle.kubeconv_cmd.specs.declared.halt.Halt.{Halt}
-use Rattle.kubeconv_cmd.specs.declared.halt.Halt.TheVariants.{ReadFailed, WriteFailed, File, Input, NoMemory}
+use Rattle.kubeconv_cmd.specs.declared.halt.Halt.TheVariants.{ReadFailed, WriteFailed, Input, NoMemory}
 
 -- a contradiction from the mere fact that a definition was loaded
 pub from_loaded : (d : Definition) → ∥ IsLoaded d ∥₁ → (IsLoaded d → ⊥) → ⊥
@@ -29,32 +26,29 @@ from_loaded d l h = ∥∥₁_elim l (λ x y. absurd x) h
 
 -- ---- reasons that follow from others
 
-pub on_halt : (R S W X : Type 0) (F G : List ℕ → List ℕ → Type 0) (I J : List ℕ → Type 0) (h : Halt) → (R → S) → (W → X)
-    → ((file why : List ℕ) → F file why → G file why) → ((why : List ℕ) → I why → J why)
-    → OnHalt (record { reads = R; writes = W; file = F; input = I }) h → OnHalt (record { reads = S; writes = X; file = G; input = J }) h
-on_halt R S W X F G I J ReadFailed r w f i h = r h
-on_halt R S W X F G I J WriteFailed r w f i h = w h
-on_halt R S W X F G I J (File file why) r w f i h = f _ _ h
-on_halt R S W X F G I J (Input why) r w f i h = i _ h
-on_halt R S W X F G I J NoMemory r w f i h = tt
+pub on_halt : (R S W X : Type 0) (I J : List ℕ → Type 0) (h : Halt) → (R → S) → (W → X) → ((why : List ℕ) → I why → J why)
+    → OnHalt (record { reads = R; writes = W; input = I }) h → OnHalt (record { reads = S; writes = X; input = J }) h
+on_halt R S W X I J ReadFailed r w i h = r h
+on_halt R S W X I J WriteFailed r w i h = w h
+on_halt R S W X I J (Input why) r w i h = i _ h
+on_halt R S W X I J NoMemory r w i h = tt
 
-pub on_err : {T : Type 0} (R S W X : Type 0) (F G : List ℕ → List ℕ → Type 0) (I J : List ℕ → Type 0) (came : Result T Halt) → (R → S) → (W → X)
-    → ((file why : List ℕ) → F file why → G file why) → ((why : List ℕ) → I why → J why)
-    → IfErr came (OnHalt (record { reads = R; writes = W; file = F; input = I })) → IfErr came (OnHalt (record { reads = S; writes = X; file = G; input = J }))
-on_err R S W X F G I J (Ok t) r w f i h = tt
-on_err R S W X F G I J (Err e) r w f i h = on_halt R S W X F G I J e r w f i h
+pub on_err : {T : Type 0} (R S W X : Type 0) (I J : List ℕ → Type 0) (came : Result T Halt) → (R → S) → (W → X) → ((why : List ℕ) → I why → J why)
+    → IfErr came (OnHalt (record { reads = R; writes = W; input = I })) → IfErr came (OnHalt (record { reads = S; writes = X; input = J }))
+on_err R S W X I J (Ok t) r w i h = tt
+on_err R S W X I J (Err e) r w i h = on_halt R S W X I J e r w i h
 
 -- where the input alone may be refused
 pub only_input : (I J : List ℕ → Type 0) (h : Halt) → ((why : List ℕ) → I why → J why)
-    → OnHalt (record { reads = ⊥; writes = ⊥; file = λ _ _. ⊥; input = I }) h → OnHalt (record { reads = ⊥; writes = ⊥; file = λ _ _. ⊥; input = J }) h
-only_input I J h i p = on_halt ⊥ ⊥ ⊥ ⊥ (λ _ _. ⊥) (λ _ _. ⊥) I J h (λ x. x) (λ x. x) (λ f w x. x) i p
+    → OnHalt (record { reads = ⊥; writes = ⊥; input = I }) h → OnHalt (record { reads = ⊥; writes = ⊥; input = J }) h
+only_input I J h i p = on_halt ⊥ ⊥ ⊥ ⊥ I J h (λ x. x) (λ x. x) i p
 
 -- the input isn't had
 pub unread_halt : (P Q : Type 0) (I : List ℕ → Type 0) (fault : Unread) (h : Halt) → OnUnread P Q fault → Follows fault h → (Q → I too_long)
-    → OnHalt (record { reads = P; writes = ⊥; file = λ _ _. ⊥; input = I }) h
+    → OnHalt (record { reads = P; writes = ⊥; input = I }) h
 unread_halt P Q I unread.Failed h p is f = rw is p
 unread_halt P Q I unread.TooLong h q is f =
-    on_halt ⊥ P ⊥ ⊥ (λ _ _. ⊥) (λ _ _. ⊥) (λ (why : List ℕ). why ≡ too_long) I h (λ x. absurd x) (λ x. x) (λ f w x. x) (λ why e. subst I (sym e) (f q)) is
+    on_halt ⊥ P ⊥ ⊥ (λ (why : List ℕ). why ≡ too_long) I h (λ x. absurd x) (λ x. x) (λ why e. subst I (sym e) (f q)) is
 unread_halt P Q I unread.NoMemory h p is f = rw is tt
 
 -- ---- a conversion
@@ -102,25 +96,10 @@ of_texts crd rules l d t b text loads is h = record { loaded = l; loads = loads;
 pub refuses_texts : (crd rules : List ℕ) (l : LoadedView) (d : Definition) (t : Task) (b why : List ℕ) → Loads crd rules l → d ≡ set_of l → RefusesDocument d b t why → RefusesTexts crd rules t b why
 refuses_texts crd rules l d t b why loads is h = record { loaded = l; loads = loads; refuses = subst (λ (x : Definition). RefusesDocument x b t why) is h }
 
-pub wrote_texts : (crd rules : List ℕ) (l : LoadedView) (d : Definition) (t : Task) (b : List ℕ) (before written : Option (List ℕ)) (came : Result Unit Halt) → Loads crd rules l → d ≡ set_of l
-    → OnOk came (Wrote (AnswersDocument d t b) before written) → OnOk came (Wrote (AnswersTexts crd rules t b) before written)
-wrote_texts crd rules l d t b before written (Ok u) loads is h = record { text = h.text; is = of_texts crd rules l d t b h.text loads is h.is; wrote = h.wrote }
-wrote_texts crd rules l d t b before written (Err e) loads is h = tt
+pub wrote_texts : (crd rules : List ℕ) (l : LoadedView) (d : Definition) (t : Task) (b : List ℕ) (before written : Option (List ℕ)) → Loads crd rules l → d ≡ set_of l
+    → Wrote (AnswersDocument d t b) before written → Wrote (AnswersTexts crd rules t b) before written
+wrote_texts crd rules l d t b before written loads is h = record { text = h.text; is = of_texts crd rules l d t b h.text loads is h.is; wrote = h.wrote }
 
 pub broke_texts : (crd rules : List ℕ) (l : LoadedView) (d : Definition) (t : Task) (b : List ℕ) (before written : Option (List ℕ)) → Loads crd rules l → d ≡ set_of l
     → Broke (AnswersDocument d t b) before written → Broke (AnswersTexts crd rules t b) before written
 broke_texts crd rules l d t b before written loads is h = record { text = h.text; is = of_texts crd rules l d t b h.text loads is h.is; front = h.front }
-
-pub past : (P Q : Type 0) (came : Result Unit Halt) → P → Past P Q came
-past P Q (Ok u) p = p
-past P Q (Err ReadFailed) p = inr p
-past P Q (Err WriteFailed) p = p
-past P Q (Err (File file why)) p = tt
-past P Q (Err (Input why)) p = p
-past P Q (Err NoMemory) p = tt
-
-pub refused_file : (stop : Stop) (h : Halt) (F : List ℕ → List ℕ → Type 0) → h ≡ halt_of stop → OnRefused stop F
-    → OnHalt (record { reads = Unit {0}; writes = Unit {0}; file = F; input = λ _. Unit {0} }) h
-refused_file stops.ReadFailed h F is r = rw is tt
-refused_file (stops.Refused file why) h F is r = rw is r
-refused_file stops.NoMemory h F is r = rw is tt

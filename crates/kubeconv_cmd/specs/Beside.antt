@@ -1,5 +1,5 @@
 -- Connections that are answered beside each other.
-use Rattle.std.specs.Prelude.{◌≡◌, ◌≢◌, ◌<◌, ◌⊎◌, ℕ, List, length, Option, Some, IfSome}
+use Rattle.std.specs.Prelude.{◌≡◌, ◌⊎◌, ℕ, List, length, Option}
 use Rattle.kube_meta.specs.declared.limits.TheConstants.Limits.{STANDING}
 use Rattle.api_calls.specs.Item.{Logged}
 use Rattle.api_calls.specs.Legal.{IsLegal}
@@ -13,7 +13,6 @@ use Rattle.serve_spans.specs.Served.{Among, origins_of, HandsOutAll, AddsAll}
 use Rattle.serve_spans.specs.Spans.{Span, AllServed, AreApart}
 use Rattle.serve_many.specs.Answered.{IsAnswered}
 use Rattle.kubeconv_cmd.specs.Serving.{Start, front_of, served_meaning}
-use Rattle.kubeconv_cmd.specs.declared.status.TheConstants.{DONE, LISTEN_FAILED}
 
 -- there is no tool that could fail
 abbrev pub no_faults : NoTool → ℕ
@@ -41,12 +40,3 @@ pub record ServesAll (crd rules : List ℕ) (start : Start) (count : ℕ) (h0 ha
   pub loaded : LoadedView
   pub loads : Loads crd rules loaded
   pub answered : AnsweredAll (served_meaning loaded) start count h0 handed g0 given
-
--- A run of `serve` came to this status. `answered` says that so many connections were handed out and given back, `told` that it was told
--- where it listens, `rose` that the count of the ears' faults rose, and `untouched` that no connection was handed out.
-pub record RunsService (connections : Option ℕ) (answered : ℕ → Type 0) (told rose untouched : Type 0) (status : ℕ) : Type 0 where
-  -- as many as were asked for
-  pub done : status ≡ DONE → (count : ℕ) × (connections ≡ Some count) × answered count × told
-  -- it can't listen, or fewer came
-  pub failed : status ≡ LISTEN_FAILED → rose × (untouched ⊎ ((count : ℕ) × IfSome connections (λ n. count < n) × answered count × told))
-  pub others : status ≢ DONE → status ≢ LISTEN_FAILED → untouched

@@ -1,5 +1,6 @@
 -- For private clauses: what the code's own types stand for.
 use Rattle.std.specs.Prelude.{ℕ, List, codes, Result, Ok, Err}
+use Rattle.kj_value.specs.declared.error.NoMemory.{NoMemory}
 use Rattle.kubeconv_cmd.specs.declared.pipe.PipeEnd.{PipeEnd}
 use Rattle.kubeconv_cmd.specs.declared.stop.Why.{Why}
 use Rattle.kubeconv_cmd.specs.declared.stop.Why.TheVariants as whys
@@ -27,16 +28,19 @@ OnUnread stops.ReadFailed P = P
 OnUnread (stops.Refused file why) P = Unit {0}
 OnUnread stops.NoMemory P = Unit {0}
 
--- the status of a run that stopped, or of how its conversation ended
-abbrev pub status_at : Result PipeEnd Stop → ℕ
-status_at (Ok end) = pipe_status end
-status_at (Err stops.ReadFailed) = READ_FAILED
-status_at (Err (stops.Refused file why)) = REFUSED
-status_at (Err stops.NoMemory) = NO_MEMORY
+-- the status of a run without a definition
+abbrev pub stop_status : Stop → ℕ
+stop_status stops.ReadFailed = READ_FAILED
+stop_status (stops.Refused file why) = REFUSED
+stop_status stops.NoMemory = NO_MEMORY
 
 -- its error line
-abbrev pub line_at : Result PipeEnd Stop → List ℕ
-line_at (Ok end) = error_line (pipe_status end)
-line_at (Err stops.ReadFailed) = error_line READ_FAILED
-line_at (Err (stops.Refused file why)) = refusal_line file.now (why_text why)
-line_at (Err stops.NoMemory) = error_line NO_MEMORY
+abbrev pub stop_line : Stop → List ℕ
+stop_line stops.ReadFailed = error_line READ_FAILED
+stop_line (stops.Refused file why) = refusal_line file.now (why_text why)
+stop_line stops.NoMemory = error_line NO_MEMORY
+
+-- the status of how a conversation ended, where there was memory for one
+abbrev pub talk_status : Result PipeEnd NoMemory → ℕ
+talk_status (Ok end) = pipe_status end
+talk_status (Err e) = NO_MEMORY

@@ -1,5 +1,5 @@
 -- For private clauses: how a document came to no answer.
-use Rattle.std.specs.Prelude.{◌≡◌, ◌<◌, ◌≤◌, ◌⊎◌, ℕ, List, length, Result, Ok, Err}
+use Rattle.std.specs.Prelude.{◌≡◌, ◌<◌, ◌≤◌, ℕ, List, length, Result, Ok, Err}
 use Rattle.api_calls.specs.Meaning.{Fault}
 use Rattle.api_calls.specs.Readings.{IsFaulty}
 use Rattle.api_calls.specs.declared.versions.TheConstants.{OBJECT_LEVELS}
@@ -9,13 +9,10 @@ use Rattle.kubeconv_cmd.specs.Tasks.{IsWithout, fault_words, too_long, not_revie
 use Rattle.kubeconv_cmd.specs.declared.input.TheConstants.{MOST_INPUT_BYTES}
 use Rattle.kubeconv_cmd.specs.declared.input.Unread.{Unread}
 use Rattle.kubeconv_cmd.specs.declared.input.Unread.TheVariants as unread
-use Rattle.kubeconv_cmd.specs.declared.stop.Stop.{Stop}
-use Rattle.kubeconv_cmd.specs.declared.stop.Stop.TheVariants as stops
 use Rattle.kubeconv_cmd.specs.declared.halt.Halt.{Halt}
-use Rattle.kubeconv_cmd.specs.declared.halt.Halt.TheVariants.{ReadFailed, WriteFailed, File, Input, NoMemory}
-use Rattle.kubeconv_cmd.specs.declared.status.TheConstants.{DONE, REFUSED, BAD_INPUT, READ_FAILED, WRITE_FAILED, NO_MEMORY}
-use Rattle.kubeconv_cmd.specs.Status.{error_line, refusal_line, line_saying}
-use Rattle.kubeconv_cmd.specs.Ends.{why_text}
+use Rattle.kubeconv_cmd.specs.declared.halt.Halt.TheVariants.{ReadFailed, WriteFailed, Input, NoMemory}
+use Rattle.kubeconv_cmd.specs.declared.status.TheConstants.{DONE, BAD_INPUT, READ_FAILED, WRITE_FAILED, NO_MEMORY}
+use Rattle.kubeconv_cmd.specs.Status.{error_line, line_saying}
 
 -- where the input failed, P holds; where it is too long, Q does
 abbrev pub OnUnread : Type 0 → Type 0 → Unread → Type 0
@@ -23,17 +20,15 @@ OnUnread P Q unread.Failed = P
 OnUnread P Q unread.TooLong = Q
 OnUnread P Q unread.NoMemory = Unit {0}
 
--- what holds where reading or writing failed, of a file's name and why it is refused, and of why the input is
+-- what holds where reading or writing failed, and of why the input is refused
 pub record Reasons : Type 1 where
   pub reads : Type 0
   pub writes : Type 0
-  pub file : List ℕ → List ℕ → Type 0
   pub input : List ℕ → Type 0
 
 abbrev pub OnHalt : Reasons → Halt → Type 0
 OnHalt r ReadFailed = r.reads
 OnHalt r WriteFailed = r.writes
-OnHalt r (File file why) = r.file file.now (why_text why)
 OnHalt r (Input why) = r.input why.bytes
 OnHalt r NoMemory = Unit {0}
 
@@ -41,38 +36,14 @@ OnHalt r NoMemory = Unit {0}
 abbrev pub Unwritten : Type 0 → Halt → Type 0
 Unwritten P ReadFailed = P
 Unwritten P WriteFailed = Unit {0}
-Unwritten P (File file why) = P
 Unwritten P (Input why) = P
 Unwritten P NoMemory = P
-
--- where a file is refused, P holds
-abbrev pub OnFile : Type 0 → Halt → Type 0
-OnFile P ReadFailed = Unit {0}
-OnFile P WriteFailed = Unit {0}
-OnFile P (File file why) = P
-OnFile P (Input why) = Unit {0}
-OnFile P NoMemory = Unit {0}
-
--- where the files were had, P holds; where something couldn't be read, either that or Q does
-abbrev pub Past : Type 0 → Type 0 → Result Unit Halt → Type 0
-Past P Q (Ok u) = P
-Past P Q (Err ReadFailed) = Q ⊎ P
-Past P Q (Err WriteFailed) = P
-Past P Q (Err (File file why)) = Unit {0}
-Past P Q (Err (Input why)) = P
-Past P Q (Err NoMemory) = Unit {0}
-
-abbrev pub halt_of : Stop → Halt
-halt_of stops.ReadFailed = ReadFailed
-halt_of (stops.Refused file why) = File file why
-halt_of stops.NoMemory = NoMemory
 
 -- the status of a document's end
 abbrev pub task_status : Result Unit Halt → ℕ
 task_status (Ok u) = DONE
 task_status (Err ReadFailed) = READ_FAILED
 task_status (Err WriteFailed) = WRITE_FAILED
-task_status (Err (File file why)) = REFUSED
 task_status (Err (Input why)) = BAD_INPUT
 task_status (Err NoMemory) = NO_MEMORY
 
@@ -81,14 +52,13 @@ abbrev pub task_line : Result Unit Halt → List ℕ
 task_line (Ok u) = error_line DONE
 task_line (Err ReadFailed) = error_line READ_FAILED
 task_line (Err WriteFailed) = error_line WRITE_FAILED
-task_line (Err (File file why)) = refusal_line file.now (why_text why)
 task_line (Err (Input why)) = line_saying why.bytes
 task_line (Err NoMemory) = error_line NO_MEMORY
 
 -- how a document comes to no answer where the input isn't had
 abbrev pub Follows : Unread → Halt → Type 0
 Follows unread.Failed halt = halt ≡ ReadFailed
-Follows unread.TooLong halt = OnHalt (record { reads = ⊥; writes = ⊥; file = λ _ _. ⊥; input = λ why. why ≡ too_long }) halt
+Follows unread.TooLong halt = OnHalt (record { reads = ⊥; writes = ⊥; input = λ why. why ≡ too_long }) halt
 Follows unread.NoMemory halt = halt ≡ NoMemory
 
 -- why a document has no value at version v

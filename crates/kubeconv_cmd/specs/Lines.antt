@@ -47,13 +47,6 @@ named_in (task crd rules t) = from_files crd rules
 named_in (drill start count) = example
 named_in (serve s) = from_files s.crd s.rules
 
--- the line waits for no connections
-abbrev pub HearsNone : Line → Type 0
-HearsNone (pipe named turns) = Unit {0}
-HearsNone (task crd rules t) = Unit {0}
-HearsNone (drill start count) = Unit {0}
-HearsNone (serve s) = ⊥
-
 -- ---- options
 
 pub data Flag : Type 0 where

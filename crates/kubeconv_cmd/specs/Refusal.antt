@@ -67,10 +67,6 @@ RefusesNamed built_in crd rules name why = ⊥
 RefusesNamed example crd rules name why = ⊥
 RefusesNamed (from_files c r) crd rules name why = (which : Which) × (name ≡ file_of which c r) × IsFirstRefused crd rules which why
 
--- something of the texts is refused
-abbrev pub RefusesSome : Named → List ℕ → List ℕ → Type 0
-RefusesSome named crd rules = (name : List ℕ) × (why : List ℕ) × RefusesNamed named crd rules name why
-
 -- The texts are served: the files aren't too long, and load. What is built in always is, and so is the example.
 abbrev pub IsServed : Named → List ℕ → List ℕ → Type 0
 IsServed built_in crd rules = Unit {0}

@@ -16,22 +16,16 @@ use Rattle.crd_loading.specs.Load.{Loads}
 use Rattle.crd_loading.specs.View.{LoadedView}
 use Rattle.crd_loading.specs.Set.{set_of}
 use Rattle.http_wire.specs.Head.{Request}
-use Rattle.http_wire.specs.Stream.{End}
 use Rattle.http_wire.specs.declared.limits.TheConstants.{MOST_REQUESTS}
-use Rattle.http_front.specs.Link.{LinkBlames, Links}
+use Rattle.http_front.specs.Link.{LinkBlames, Links, UnlessUnwritten}
 use Rattle.http_front.specs.Replies.{Front, Replies}
-use Rattle.http_front.specs.Talk.{Conversation}
 use Rattle.http_front.specs.declared.link.End.{End as LinkEnd}
 use Rattle.http_front.specs.declared.link.End.TheVariants as links
 use Rattle.shared_api.specs.Steps.{IsToPrepare}
 use Rattle.kubeconv_cmd.specs.declared.pipe.PipeEnd.{PipeEnd}
 use Rattle.kubeconv_cmd.specs.declared.pipe.PipeEnd.TheVariants.{Closed, Torn, Refused, Spent, ReadFault, WriteFault}
-use Rattle.kubeconv_cmd.specs.Status.{status_of, pipe_status}
+use Rattle.kubeconv_cmd.specs.Status.{pipe_status}
 use Rattle.drill_steps.specs.Drilling.{Tells, drilled}
-use Rattle.kubeconv_cmd.specs.Lines.{Task, Line, pipe, task, drill, serve}
-use Rattle.kubeconv_cmd.specs.Listening.{RanService}
-use Rattle.kubeconv_cmd.specs.Tasks.{AnswersTexts, RefusesTexts, Wrote}
-use Rattle.kubeconv_cmd.specs.declared.status.TheConstants.{DONE, BAD_INPUT, REFUSED, READ_FAILED, NO_MEMORY}
 
 -- the number of the server's start, and the one stamp of the clock where the clock tells it
 pub record Start : Type 0 where
@@ -117,61 +111,25 @@ meaning_of d = loaded_meaning d (settings_of d.view)
 abbrev pub served_meaning : LoadedView → Meaning
 served_meaning l = meaning_of (set_of l)
 
--- The input was answered whole, beginning with nothing entered. What was entered is a legal list, and the status is that of the
--- input's end.
-pub record Answered (f : Front) (turns : ℕ) (input : List ℕ) (before written : Option (List ℕ)) (status : ℕ) : Type 0 where
-  pub end : End
-  pub after : At
-  pub is_legal : legal f.server.meaning f.server.limits after.log
-  pub conversation : Conversation (AnswersAndWorks f turns) MOST_REQUESTS opening after (Some input) before written end
-  pub is_status : status ≡ status_of end
-
--- the same by the definition and the rules that two texts are
-pub record ServesTexts (crd rules : List ℕ) (turns : ℕ) (start : Start) (input : List ℕ) (before written : Option (List ℕ)) (status : ℕ) : Type 0 where
-  pub loaded : LoadedView
-  pub loads : Loads crd rules loaded
-  pub answered : Answered (front_of (served_meaning loaded) start) turns input before written status
-
--- their conversation ended so, and the outside may have broken it off
+-- The input was answered to this end by the definition and the rules that two texts are.
 pub record Converses (crd rules : List ℕ) (turns : ℕ) (start : Start) (input : List ℕ) (before written : Option (List ℕ)) (end : PipeEnd) : Type 0 where
   pub loaded : LoadedView
   pub loads : Loads crd rules loaded
   pub conversed : Conversed (front_of (served_meaning loaded) start) turns input before written end
 
--- A conversation was held to this end, and the status is that of the end. A fault of the input has one cause, and one of the
--- output another.
-pub record WasHeld (converses : PipeEnd → Type 0) (reads writes : Type 0) (status : ℕ) : Type 0 where
+-- A conversation was held to this end, and the status is that of the end. A fault of the input has one cause, and one of the output
+-- another. Unless the output failed, what is written is handed on, also where the input failed.
+pub record WasHeld (converses : PipeEnd → Type 0) (reads writes handed_on : Type 0) (status : ℕ) : Type 0 where
   pub end : PipeEnd
   pub conversed : converses end
   pub blames : Blames end reads writes
+  pub hands_on : UnlessUnwritten (link_end end) handed_on
   pub is_status : status ≡ pipe_status end
 
--- no conversation was held: a file is refused, memory is wanted, or a file can't be read, which has a cause
-abbrev pub IsUnheld : Type 0 → ℕ → Type 0
-IsUnheld files status = (status ≡ REFUSED) ⊎ ((status ≡ NO_MEMORY) ⊎ ((status ≡ READ_FAILED) × files))
-
--- ---- a run of a line
-
--- A line of one document wrote the text that is written of the input, or the input is refused and nothing was written.
-pub data RanTask (crd rules : List ℕ) (t : Task) (input : List ℕ) (before written : Option (List ℕ)) (status : ℕ) : Type 0 where
-  answered : status ≡ DONE → Wrote (AnswersTexts crd rules t input) before written → RanTask crd rules t input before written status
-  refused : (why : List ℕ) → status ≡ BAD_INPUT → RefusesTexts crd rules t input why → written ≡ before → RanTask crd rules t input before written status
+-- ---- a drill
 
 -- the text tells of a drill of so many steps, drawn from the first number on, of the definition and the rules that two texts are
 pub record DrillsTexts (crd rules : List ℕ) (start count : ℕ) (text : List ℕ) : Type 0 where
   pub loaded : LoadedView
   pub loads : Loads crd rules loaded
   pub tells : Tells (drilled (served_meaning loaded)) start count text
-
--- A line of a drill wrote that text.
-pub record RanDrill (crd rules : List ℕ) (start count : ℕ) (before written : Option (List ℕ)) (status : ℕ) : Type 0 where
-  pub done : status ≡ DONE
-  pub wrote : Wrote (DrillsTexts crd rules start count) before written
-
--- What a line with the definition of these texts does with an input, where nothing fails: what is written behind what was, and
--- the status.
-abbrev pub Ran : Line → List ℕ → List ℕ → Start → List ℕ → Option (List ℕ) → Option (List ℕ) → ℕ → Type 0
-Ran (pipe named turns) crd rules start input before written status = ServesTexts crd rules turns start input before written status
-Ran (task c r t) crd rules start input before written status = RanTask crd rules t input before written status
-Ran (drill x n) crd rules start input before written status = RanDrill crd rules x n before written status
-Ran (serve s) crd rules start input before written status = RanService before written status

@@ -21,12 +21,10 @@ mod words;
 
 // The work of `pipe`.
 mod pipe;
-mod pipe_line;
 
 // The work of `convert` and `review`.
 mod halt;
 mod input;
-mod task_line;
 mod tasks;
 
 // The work of `drill`.
@@ -41,6 +39,7 @@ mod top;
 
 pub use input::MOST_INPUT_BYTES;
 pub use numbers::MOST_STEPS;
+pub use pipe::PipeEnd;
 pub use service::{MOST_CONNECTIONS, MOST_WORKERS, USUAL_WORKERS};
 pub use status::{
     BAD_INPUT, BAD_WORDS, CUT, DONE, LISTEN_FAILED, NO_MEMORY, READ_FAILED, REFUSED, TOO_MANY,

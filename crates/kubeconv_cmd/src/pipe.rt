@@ -7,7 +7,7 @@ ghost use Rattle.http_wire.specs.declared.limits.TheConstants.{MOST_REQUESTS};
 ghost use Rattle.turn_cell.specs.Views.{IsAlone};
 ghost use Rattle.shared_api.specs.Base.{server_of};
 ghost use Rattle.shared_api.specs.Passes.{IsOf};
-ghost use Rattle.http_front.specs.Link.{Links};
+ghost use Rattle.http_front.specs.Link.{Links, UnlessUnwritten};
 ghost use Rattle.http_front.specs.Steps.{IsSameBut};
 ghost use Rattle.kubeconv_cmd.specs.Serving.{At, AnswersAndWorks, Blames, Conversed, TakesTurns, front_of, link_end};
 
@@ -24,7 +24,7 @@ use std::sync::Wait;
 
 /// How a conversation ends.
 #[derive(Clone, Copy, Debug, PartialEq, Eq, Drop)]
-pub(crate) enum PipeEnd {
+pub enum PipeEnd {
     /// The input ended between two requests, or an answered request asked for closing.
     Closed,
     /// The input ended inside a request, of which so many bytes are held.
@@ -78,6 +78,7 @@ fn converse<V: Versions<Tool = NoTool> + Drop, R: Wait, S: Source, K: Sink, C: C
     ensures talk { (after : At) × legal (V.meaning api.now.base.versions) api.now.base.limits after.log × Links (AnswersAndWorks (record { server = server_of V.meaning api.now.base; told = C.told clock.now }) turns) MOST_REQUESTS ⊥ (link_end result)
         (record { log = items pass.old.view.seen; claim = worker.old.claim }) after (S.left input.old) (K.written output.old) (K.written output.new) }
     ensures blames { Blames result (Rose (S.faults input.old) (S.faults input.new)) (Rose (K.faults output.old) (K.faults output.new)) }
+    ensures flushed { UnlessUnwritten (link_end result) (K.flushed output.old ≡ K.written output.old → K.flushed output.new ≡ K.written output.new) }
 {
     for count in 0..MOST_REQUESTS {
         match serve_one(rt, alloc, api, pass, inbox, input, output, clock) {
@@ -112,6 +113,7 @@ pub(crate) fn serve<V: Versions<Tool = NoTool> + Drop, R: Wait, S: Source, K: Si
     ensures talk { (b : List ℕ) → S.left input.old ≡ Some b
         → IfOk result (Conversed (front_of (V.meaning versions) (record { boot = boot; told = C.told clock.now })) turns b (K.written output.old) (K.written output.new)) }
     ensures blames { IfOk result (λ end. Blames end (Rose (S.faults input.old) (S.faults input.new)) (Rose (K.faults output.old) (K.faults output.new))) }
+    ensures flushed { IfOk result (λ end. UnlessUnwritten (link_end end) (K.flushed output.old ≡ K.written output.old → K.flushed output.new ≡ K.written output.new)) }
     ensures untouched { OnErr result ((input.new ≡ input.old) × (output.new ≡ output.old)) }
 {
     let mut inbox = Inbox::open(alloc)?;

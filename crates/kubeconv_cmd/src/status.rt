@@ -5,13 +5,14 @@ ghost use Rattle.edge_io.specs.Causes.{HasCause, Rose};
 ghost use Rattle.edge_io.specs.Sends.{Sends};
 ghost use Rattle.kubeconv_cmd.specs.Status.{pipe_status, error_line as error_line_of, line_saying, refusal_line};
 ghost use Rattle.kubeconv_cmd.specs.Refusal.{blame_text};
-ghost use Rattle.kubeconv_cmd.specs.Ends.{line_at, status_at, why_text};
+ghost use Rattle.kubeconv_cmd.specs.Ends.{stop_line, stop_status, talk_status, why_text};
 ghost use Rattle.kubeconv_cmd.specs.Halts.{task_line, task_status};
 
 use crate::halt::Halt;
 use crate::pipe::PipeEnd;
 use crate::stop::{Stop, Why};
 use edge_io::{Failed, Sink, send};
+use kj_value::NoMemory;
 
 /// Done: of `pipe` the input was read to its end between two requests, or an answered request asked for closing.
 pub const DONE: u8 = 0;
@@ -168,8 +169,8 @@ pub fn ended<E: Sink>(errors: &mut E, status: u8) -> u8
     }
 }
 
-/// Ends a run at a file that is refused.
-pub(crate) fn refused<E: Sink>(errors: &mut E, file: &str, why: &Why) -> u8
+// Ends a run at a file that is refused.
+fn refused<E: Sink>(errors: &mut E, file: &str, why: &Why) -> u8
     ensures status { result ≡ REFUSED }
     ensures line { ¬ (Rose (E.faults errors.old) (E.faults errors.new))
         → E.written errors.new ≡ append_known (E.written errors.old) (refusal_line file.now (why_text why.now)) }
@@ -180,17 +181,28 @@ pub(crate) fn refused<E: Sink>(errors: &mut E, file: &str, why: &Why) -> u8
     }
 }
 
-/// Ends a run by how its conversation ended, or by why there was none.
-pub(crate) fn tell<E: Sink>(errors: &mut E, came: Result<PipeEnd, Stop<'_>>) -> u8
-    ensures status { result ≡ status_at came.entry }
+/// Ends a run by how its conversation ended, where there was memory for one.
+pub(crate) fn tell_pipe<E: Sink>(errors: &mut E, came: Result<PipeEnd, NoMemory>) -> u8
+    ensures status { result ≡ talk_status came }
     ensures line { ¬ (Rose (E.faults errors.old) (E.faults errors.new))
-        → E.written errors.new ≡ append_known (E.written errors.old) (line_at came.entry) }
+        → E.written errors.new ≡ append_known (E.written errors.old) (error_line_of result) }
 {
     match came {
         Ok(end) => ended(errors, status_of(end)),
-        Err(Stop::ReadFailed) => ended(errors, READ_FAILED),
-        Err(Stop::Refused { file, why }) => refused(errors, file, &why),
-        Err(Stop::NoMemory) => ended(errors, NO_MEMORY),
+        Err(_) => ended(errors, NO_MEMORY),
+    }
+}
+
+/// Ends a run that has no definition.
+pub(crate) fn tell_stop<E: Sink>(errors: &mut E, stop: Stop<'_>) -> u8
+    ensures status { result ≡ stop_status stop.entry }
+    ensures line { ¬ (Rose (E.faults errors.old) (E.faults errors.new))
+        → E.written errors.new ≡ append_known (E.written errors.old) (stop_line stop.entry) }
+{
+    match stop {
+        Stop::ReadFailed => ended(errors, READ_FAILED),
+        Stop::Refused { file, why } => refused(errors, file, &why),
+        Stop::NoMemory => ended(errors, NO_MEMORY),
     }
 }
 
@@ -207,16 +219,15 @@ fn bad_input<E: Sink>(errors: &mut E, why: &str) -> u8
 }
 
 /// Ends a run by what came of its document.
-pub(crate) fn tell_task<E: Sink>(errors: &mut E, came: Result<(), Halt<'_>>) -> u8
-    ensures status { result ≡ task_status came.entry }
+pub(crate) fn tell_task<E: Sink>(errors: &mut E, came: Result<(), Halt>) -> u8
+    ensures status { result ≡ task_status came }
     ensures line { ¬ (Rose (E.faults errors.old) (E.faults errors.new))
-        → E.written errors.new ≡ append_known (E.written errors.old) (task_line came.entry) }
+        → E.written errors.new ≡ append_known (E.written errors.old) (task_line came) }
 {
     match came {
         Ok(()) => ended(errors, DONE),
         Err(Halt::ReadFailed) => ended(errors, READ_FAILED),
         Err(Halt::WriteFailed) => ended(errors, WRITE_FAILED),
-        Err(Halt::File { file, why }) => refused(errors, file, &why),
         Err(Halt::Input { why }) => bad_input(errors, why.as_str()),
         Err(Halt::NoMemory) => ended(errors, NO_MEMORY),
     }

@@ -31,8 +31,8 @@ use review_batch::{ReviewFault, answer};
 use std::alloc::Global;
 
 // The input is refused, for this reason.
-fn refused<'a>(alloc: Global, why: &str) -> Halt<'a>
-    ensures { OnHalt (record { reads = ⊥; writes = ⊥; file = λ _ _. ⊥; input = λ text. text ≡ why.now }) result }
+fn refused(alloc: Global, why: &str) -> Halt
+    ensures { OnHalt (record { reads = ⊥; writes = ⊥; input = λ text. text ≡ why.now }) result }
 {
     match Txt::of(alloc, why) {
         Ok(why) => Halt::Input { why },
@@ -42,8 +42,8 @@ fn refused<'a>(alloc: Global, why: &str) -> Halt<'a>
 
 // There is no version of this name.
 #[tactic(auto, unfolding(crate::specs::Tasks::no_version))]
-fn no_version<'a>(alloc: Global, name: &str) -> Halt<'a>
-    ensures { OnHalt (record { reads = ⊥; writes = ⊥; file = λ _ _. ⊥; input = λ text. text ≡ no_version_text name.now }) result }
+fn no_version(alloc: Global, name: &str) -> Halt
+    ensures { OnHalt (record { reads = ⊥; writes = ⊥; input = λ text. text ≡ no_version_text name.now }) result }
 {
     match format!(in alloc; "no version {name}") {
         Ok(why) => Halt::Input {
@@ -55,8 +55,8 @@ fn no_version<'a>(alloc: Global, name: &str) -> Halt<'a>
 
 // The input is no review of a request: something else stands at the path.
 #[tactic(auto, unfolding(crate::specs::Tasks::not_review))]
-fn not_review<'a>(alloc: Global, path: &str) -> Halt<'a>
-    ensures { OnHalt (record { reads = ⊥; writes = ⊥; file = λ _ _. ⊥; input = λ text. text ≡ not_review_text path.now }) result }
+fn not_review(alloc: Global, path: &str) -> Halt
+    ensures { OnHalt (record { reads = ⊥; writes = ⊥; input = λ text. text ≡ not_review_text path.now }) result }
 {
     match format!(in alloc; "NotReview {path}") {
         Ok(why) => Halt::Input {
@@ -68,8 +68,8 @@ fn not_review<'a>(alloc: Global, path: &str) -> Halt<'a>
 
 // A field of the document breaks a rule.
 #[tactic(auto, unfolding(crate::specs::Tasks::fault_words))]
-fn broken<'a>(alloc: Global, cause: &Cause) -> Halt<'a>
-    ensures { (name : List ℕ) → OnHalt (record { reads = ⊥; writes = ⊥; file = λ _ _. ⊥; input = λ text. text ≡ fault_words (invalid name (cause_of cause.now)) }) result }
+fn broken(alloc: Global, cause: &Cause) -> Halt
+    ensures { (name : List ℕ) → OnHalt (record { reads = ⊥; writes = ⊥; input = λ text. text ≡ fault_words (invalid name (cause_of cause.now)) }) result }
 {
     let field = cause.field.as_str();
     let word = cause.rule.word();
@@ -82,19 +82,18 @@ fn broken<'a>(alloc: Global, cause: &Cause) -> Halt<'a>
 }
 
 // The text of a document's value at a version.
-fn convert_document<'a>(
+fn convert_document(
     alloc: Global,
     versions: &VersionSet,
     to: u8,
     document: JVal,
-) -> Result<Txt, Halt<'a>>
+) -> Result<Txt, Halt>
     requires known { to < count_of (definition_of versions.now) }
     requires levels { depth (json document) ≤ object_levels }
     ensures value { IfOk result (λ t. (k : Json) × IsConverted (definition_of versions.now) (json document) to k × (t.bytes ≡ text_of k)) }
     ensures none { IfErr result (OnHalt (record {
       reads = ⊥;
       writes = ⊥;
-      file = λ _ _. ⊥;
       input = λ text. (f : Fault) × IsWithout (definition_of versions.now) to (json document) f × (text ≡ fault_words f);
     })) }
 {
@@ -112,18 +111,12 @@ fn convert_document<'a>(
 }
 
 // The text of the value of the document that the bytes are.
-fn convert_bytes<'a>(
-    alloc: Global,
-    versions: &VersionSet,
-    to: u8,
-    bytes: &[u8],
-) -> Result<Txt, Halt<'a>>
+fn convert_bytes(alloc: Global, versions: &VersionSet, to: u8, bytes: &[u8]) -> Result<Txt, Halt>
     requires known { to < count_of (definition_of versions.now) }
     ensures value { IfOk result (λ t. IsValueOf (definition_of versions.now) to bytes.now t.bytes) }
     ensures none { IfErr result (OnHalt (record {
       reads = ⊥;
       writes = ⊥;
-      file = λ _ _. ⊥;
       input = λ text. (f : Fault) × IsFaulty bytes.now object_levels (IsWithout (definition_of versions.now) to) f × (text ≡ fault_words f);
     })) }
 {
@@ -137,12 +130,11 @@ fn convert_bytes<'a>(
 }
 
 // The response to the review that the bytes are.
-fn answer_bytes<'a>(alloc: Global, versions: &VersionSet, bytes: &[u8]) -> Result<Txt, Halt<'a>>
+fn answer_bytes(alloc: Global, versions: &VersionSet, bytes: &[u8]) -> Result<Txt, Halt>
     ensures answered { IfOk result (λ t. IsAnswer (definition_of versions.now) bytes.now t.bytes) }
     ensures none { IfErr result (OnHalt (record {
       reads = ⊥;
       writes = ⊥;
-      file = λ _ _. ⊥;
       input = λ text. (path : List ℕ) × IsNoRequest bytes.now path × (text ≡ not_review_text path);
     })) }
 {
@@ -155,7 +147,7 @@ fn answer_bytes<'a>(alloc: Global, versions: &VersionSet, bytes: &[u8]) -> Resul
 
 // The input isn't had.
 #[tactic(auto, unfolding(crate::specs::Tasks::too_long))]
-fn unread<'a>(alloc: Global, fault: Unread) -> Halt<'a>
+fn unread(alloc: Global, fault: Unread) -> Halt
     ensures { Follows fault result }
 {
     match fault {
@@ -166,12 +158,12 @@ fn unread<'a>(alloc: Global, fault: Unread) -> Halt<'a>
 }
 
 // The text that is written of the input by a conversion.
-fn convert_input<'a, S: Source>(
+fn convert_input<S: Source>(
     alloc: Global,
     versions: &VersionSet,
     to: u8,
     input: &mut S,
-) -> Result<Txt, Halt<'a>>
+) -> Result<Txt, Halt>
     requires known { to < count_of (definition_of versions.now) }
     ensures value { (b : List ℕ) → S.left input.old ≡ Some b
         → IfOk result (λ t. (length b ≤ MOST_INPUT_BYTES) × IsValueOf (definition_of versions.now) to b t.bytes) }
@@ -179,10 +171,9 @@ fn convert_input<'a, S: Source>(
         → IfErr result (OnHalt (record {
           reads = Rose (S.faults input.old) (S.faults input.new);
           writes = ⊥;
-          file = λ _ _. ⊥;
           input = NoValue (definition_of versions.now) to b;
         })) }
-    ensures cause { IfErr result (OnHalt (record { reads = Rose (S.faults input.old) (S.faults input.new); writes = ⊥; file = λ _ _. ⊥; input = λ _. Unit {0} })) }
+    ensures cause { IfErr result (OnHalt (record { reads = Rose (S.faults input.old) (S.faults input.new); writes = ⊥; input = λ _. Unit {0} })) }
     ensures end { OnOk result (IsAtEnd (S.left input.new)) }
 {
     match read_input(alloc, input) {
@@ -192,21 +183,16 @@ fn convert_input<'a, S: Source>(
 }
 
 // The text that is written of the input by the answer to a review.
-fn review_input<'a, S: Source>(
-    alloc: Global,
-    versions: &VersionSet,
-    input: &mut S,
-) -> Result<Txt, Halt<'a>>
+fn review_input<S: Source>(alloc: Global, versions: &VersionSet, input: &mut S) -> Result<Txt, Halt>
     ensures answered { (b : List ℕ) → S.left input.old ≡ Some b
         → IfOk result (λ t. (length b ≤ MOST_INPUT_BYTES) × IsAnswer (definition_of versions.now) b t.bytes) }
     ensures none { (b : List ℕ) → S.left input.old ≡ Some b
         → IfErr result (OnHalt (record {
           reads = Rose (S.faults input.old) (S.faults input.new);
           writes = ⊥;
-          file = λ _ _. ⊥;
           input = NoAnswer b;
         })) }
-    ensures cause { IfErr result (OnHalt (record { reads = Rose (S.faults input.old) (S.faults input.new); writes = ⊥; file = λ _ _. ⊥; input = λ _. Unit {0} })) }
+    ensures cause { IfErr result (OnHalt (record { reads = Rose (S.faults input.old) (S.faults input.new); writes = ⊥; input = λ _. Unit {0} })) }
     ensures end { OnOk result (IsAtEnd (S.left input.new)) }
 {
     match read_input(alloc, input) {
@@ -216,22 +202,21 @@ fn review_input<'a, S: Source>(
 }
 
 // The text that is written of the input. Whether there is a version of the name is asked before anything is read.
-fn answer_input<'a, S: Source>(
+fn answer_input<S: Source>(
     alloc: Global,
     versions: &VersionSet,
     task: Task<'_>,
     input: &mut S,
-) -> Result<Txt, Halt<'a>>
+) -> Result<Txt, Halt>
     ensures answered { (b : List ℕ) → S.left input.old ≡ Some b
         → IfOk result (λ t. AnswersDocument (definition_of versions.now) (task_of task.entry) b t.bytes) }
     ensures none { (b : List ℕ) → S.left input.old ≡ Some b
         → IfErr result (OnHalt (record {
           reads = Rose (S.faults input.old) (S.faults input.new);
           writes = ⊥;
-          file = λ _ _. ⊥;
           input = RefusesDocument (definition_of versions.now) b (task_of task.entry);
         })) }
-    ensures cause { IfErr result (OnHalt (record { reads = Rose (S.faults input.old) (S.faults input.new); writes = ⊥; file = λ _ _. ⊥; input = λ _. Unit {0} })) }
+    ensures cause { IfErr result (OnHalt (record { reads = Rose (S.faults input.old) (S.faults input.new); writes = ⊥; input = λ _. Unit {0} })) }
     ensures end { OnOk result (IsAtEnd (S.left input.new)) }
 {
     match task {
@@ -263,26 +248,24 @@ pub(crate) fn write_line<K: Sink>(output: &mut K, text: &str) -> Result<(), Fail
 }
 
 /// Does the task with the input, and writes its one line.
-pub(crate) fn do_task<'a, S: Source, K: Sink>(
+pub(crate) fn do_task<S: Source, K: Sink>(
     alloc: Global,
     versions: &VersionSet,
     task: Task<'_>,
     input: &mut S,
     output: &mut K,
-) -> Result<(), Halt<'a>>
+) -> Result<(), Halt>
     ensures wrote { (b : List ℕ) → S.left input.old ≡ Some b
         → OnOk result (Wrote (AnswersDocument (definition_of versions.now) (task_of task.entry) b) (K.written output.old) (K.written output.new)) }
     ensures failed { (b : List ℕ) → S.left input.old ≡ Some b
         → IfErr result (OnHalt (record {
           reads = Rose (S.faults input.old) (S.faults input.new);
           writes = Broke (AnswersDocument (definition_of versions.now) (task_of task.entry) b) (K.written output.old) (K.written output.new);
-          file = λ _ _. ⊥;
           input = RefusesDocument (definition_of versions.now) b (task_of task.entry);
         })) }
     ensures cause { IfErr result (OnHalt (record {
       reads = Rose (S.faults input.old) (S.faults input.new);
       writes = Rose (K.faults output.old) (K.faults output.new);
-      file = λ _ _. ⊥;
       input = λ _. Unit {0};
     })) }
     ensures silent { IfErr result (Unwritten (output.new ≡ output.old)) }

@@ -1,28 +1,19 @@
 //! The top call.
-ghost use Rattle.std.specs.Prelude.{◌≡◌, ◌≢◌, ◌⊎◌, ◌↔◌, ℕ, List, Some};
-ghost use Rattle.std.specs.Io.KnownBytes.{append_known, IsAtEnd};
+ghost use Rattle.std.specs.Prelude.{◌≡◌, ◌≢◌, ◌↔◌, ℕ, List};
+ghost use Rattle.std.specs.Io.KnownBytes.{append_known};
 ghost use Rattle.edge_io.specs.Causes.{Rose};
-ghost use Rattle.http_wire.specs.Head.{Request};
-ghost use Rattle.http_wire.specs.Stream.{End, Asks};
-ghost use Rattle.http_wire.specs.declared.limits.TheConstants.{MOST_REQUESTS};
-ghost use Rattle.kubeconv_cmd.specs.declared.pipe.PipeEnd.TheVariants.{ReadFault as ReadFaulted, WriteFault as WriteFaulted};
-ghost use Rattle.kubeconv_cmd.specs.Lines.{Named, Task as TaskView, Line, Service, pipe, task as task_line, drill as drill_line, serve, HearsNone, IsLine, Texts, named_in};
-ghost use Rattle.kubeconv_cmd.specs.Listening.{Announced, SaysOfService};
-ghost use Rattle.kubeconv_cmd.specs.Beside.{RunsService, ServesAll};
-ghost use Rattle.kubeconv_cmd.specs.Tasks.{AnswersTexts, Wrote, Broke, RefusesTexts};
-ghost use Rattle.kubeconv_cmd.specs.Serving.{DrillsTexts, Ran, Converses, WasHeld, IsUnheld};
-ghost use Rattle.kubeconv_cmd.specs.Refusal.{RefusesNamed, RefusesSome, IsServed};
-ghost use Rattle.kubeconv_cmd.specs.Status.{status_of, error_line, line_saying, refusal_line};
+ghost use Rattle.kubeconv_cmd.specs.Lines.{Line, IsLine};
+ghost use Rattle.kubeconv_cmd.specs.Outcome.{Outcome};
+ghost use Rattle.kubeconv_cmd.specs.Status.{error_line};
 ghost use Rattle.kubeconv_cmd.specs.Given.{line_of};
 
-use crate::drill_line::run_drill;
-use crate::pipe_line::run_pipe;
-use crate::serve_line::run_serve;
-use crate::status::{
-    BAD_INPUT, BAD_WORDS, DONE, LISTEN_FAILED, NO_MEMORY, READ_FAILED, REFUSED, WRITE_FAILED, ended,
-};
-use crate::task_line::run_task;
-use crate::words::{Command, Words, command_of};
+use crate::drill_line::do_drill;
+use crate::loading::load_named;
+use crate::pipe::serve;
+use crate::serve_line::{serve_set, tell_served};
+use crate::status::{BAD_INPUT, BAD_WORDS, REFUSED, ended, tell_pipe, tell_stop, tell_task};
+use crate::tasks::do_task;
+use crate::words::{Command, Named, Words, command_of};
 use edge_io::{Clock, Ears, Files, Sink, Source};
 use std::alloc::Global;
 use std::sync::Wait;
@@ -51,80 +42,77 @@ fn run_command<
     clock: &C,
     boot: u64,
 ) -> u8
-    ensures talk { (line : Line) (crd rules b : List ℕ) → line_of command.entry ≡ line → Texts (F.file files.old) (named_in line) crd rules → S.left input.old ≡ Some b
-        → ¬ (Rose (F.faults files.old) (F.faults files.new)) → ¬ (Rose (S.faults input.old) (S.faults input.new)) → ¬ (Rose (K.faults output.old) (K.faults output.new))
-        → Ran line crd rules (record { boot = boot; told = C.told clock.now }) b (K.written output.old) (K.written output.new) result
-        ⊎ (((result ≡ REFUSED) × RefusesSome (named_in line) crd rules) ⊎ (result ≡ NO_MEMORY)) }
-    ensures held { (named : Named) (turns : ℕ) → line_of command.entry ≡ pipe named turns
-        → WasHeld (λ end. (crd rules b : List ℕ) → Texts (F.file files.old) named crd rules → S.left input.old ≡ Some b
-        → Converses crd rules turns (record { boot = boot; told = C.told clock.now }) b (K.written output.old) (K.written output.new) end)
-        (Rose (S.faults input.old) (S.faults input.new)) (Rose (K.faults output.old) (K.faults output.new)) result
-        ⊎ (IsUnheld (Rose (F.faults files.old) (F.faults files.new)) result × (input.new ≡ input.old) × (output.new ≡ output.old)) }
-    ensures exact { (named : Named) (turns : ℕ) (crd rules b : List ℕ) (requests : List Request) (end : End) → line_of command.entry ≡ pipe named turns → Texts (F.file files.old) named crd rules → S.left input.old ≡ Some b
-        → ¬ (Rose (F.faults files.old) (F.faults files.new)) → ¬ (Rose (S.faults input.old) (S.faults input.new)) → ¬ (Rose (K.faults output.old) (K.faults output.new))
-        → IsServed named crd rules → Asks MOST_REQUESTS b requests end → (result ≡ status_of end) ⊎ (result ≡ NO_MEMORY) }
-    ensures refused { (line : Line) (crd rules name why : List ℕ) → line_of command.entry ≡ line → Texts (F.file files.old) (named_in line) crd rules
-        → ¬ (Rose (F.faults files.old) (F.faults files.new)) → RefusesNamed (named_in line) crd rules name why → (result ≡ REFUSED) ⊎ (result ≡ NO_MEMORY) }
-    ensures refusal { (line : Line) → line_of command.entry ≡ line → result ≡ REFUSED
-        → (name : List ℕ) × (why : List ℕ) × ((crd rules : List ℕ) → Texts (F.file files.old) (named_in line) crd rules → RefusesNamed (named_in line) crd rules name why)
-        × (¬ (Rose (E.faults errors.old) (E.faults errors.new)) → E.written errors.new ≡ append_known (E.written errors.old) (refusal_line name why)) }
-    ensures unread { (named : Named) (turns : ℕ) (crd rules b : List ℕ) → line_of command.entry ≡ pipe named turns → Texts (F.file files.old) named crd rules → S.left input.old ≡ Some b → result ≡ READ_FAILED
-        → (Rose (F.faults files.old) (F.faults files.new) × (input.new ≡ input.old) × (output.new ≡ output.old))
-        ⊎ (Rose (S.faults input.old) (S.faults input.new)
-        × Converses crd rules turns (record { boot = boot; told = C.told clock.now }) b (K.written output.old) (K.written output.new) ReadFaulted) }
-    ensures unwritten { (named : Named) (turns : ℕ) (crd rules b : List ℕ) → line_of command.entry ≡ pipe named turns → Texts (F.file files.old) named crd rules → S.left input.old ≡ Some b → result ≡ WRITE_FAILED
-        → Converses crd rules turns (record { boot = boot; told = C.told clock.now }) b (K.written output.old) (K.written output.new) WriteFaulted }
-    ensures wrote { (c r crd rules b : List ℕ) (t : TaskView) → line_of command.entry ≡ task_line c r t → Texts (F.file files.old) (named_in (task_line c r t)) crd rules → S.left input.old ≡ Some b
-        → result ≡ DONE → Wrote (AnswersTexts crd rules t b) (K.written output.old) (K.written output.new) }
-    ensures whole { (c r : List ℕ) (t : TaskView) → line_of command.entry ≡ task_line c r t → result ≡ DONE
-        → IsAtEnd (S.left input.new) × (K.flushed output.new ≡ K.written output.new) }
-    ensures broke { (c r crd rules b : List ℕ) (t : TaskView) → line_of command.entry ≡ task_line c r t → Texts (F.file files.old) (named_in (task_line c r t)) crd rules → S.left input.old ≡ Some b
-        → result ≡ WRITE_FAILED → Broke (AnswersTexts crd rules t b) (K.written output.old) (K.written output.new) }
-    ensures silent { (c r : List ℕ) (t : TaskView) → line_of command.entry ≡ task_line c r t → result ≢ DONE → result ≢ WRITE_FAILED → output.new ≡ output.old }
-    ensures bad_input { (c r : List ℕ) (t : TaskView) → line_of command.entry ≡ task_line c r t → result ≡ BAD_INPUT
-        → (why : List ℕ) × ((crd rules b : List ℕ) → Texts (F.file files.old) (named_in (task_line c r t)) crd rules → S.left input.old ≡ Some b → RefusesTexts crd rules t b why)
-        × (¬ (Rose (E.faults errors.old) (E.faults errors.new)) → E.written errors.new ≡ append_known (E.written errors.old) (line_saying why)) }
-    ensures drilled { (start count : ℕ) (crd rules : List ℕ) → line_of command.entry ≡ (drill_line start count) → Texts (F.file files.old) (named_in (drill_line start count)) crd rules → result ≡ DONE
-        → Wrote (DrillsTexts crd rules start count) (K.written output.old) (K.written output.new) }
-    ensures drill_whole { (start count : ℕ) → line_of command.entry ≡ (drill_line start count) → result ≡ DONE → K.flushed output.new ≡ K.written output.new }
-    ensures drill_broke { (start count : ℕ) (crd rules : List ℕ) → line_of command.entry ≡ (drill_line start count) → Texts (F.file files.old) (named_in (drill_line start count)) crd rules → result ≡ WRITE_FAILED
-        → Broke (DrillsTexts crd rules start count) (K.written output.old) (K.written output.new) }
-    ensures drill_silent { (start count : ℕ) → line_of command.entry ≡ (drill_line start count) → result ≢ DONE → result ≢ WRITE_FAILED → output.new ≡ output.old }
-    ensures drill_ends { (start count : ℕ) → line_of command.entry ≡ (drill_line start count)
-        → ((result ≡ DONE) ⊎ ((result ≡ WRITE_FAILED) ⊎ (result ≡ NO_MEMORY))) × (files.new ≡ files.old) × (input.new ≡ input.old) }
-    ensures serves { (s : Service) → line_of command.entry ≡ (serve s)
-        → RunsService s.connections
-        (λ count. (crd rules : List ℕ) → Texts (F.file files.old) (named_in (serve s)) crd rules
-        → ServesAll crd rules (record { boot = boot; told = C.told clock.now }) count (A.origins ears.old) (A.origins ears.new) (A.returned ears.old) (A.returned ears.new))
-        (Announced (K.written output.old) (K.written output.new) (K.flushed output.new)) (Rose (A.faults ears.old) (A.faults ears.new))
-        ((A.origins ears.new ≡ A.origins ears.old) × (A.returned ears.new ≡ A.returned ears.old)) result }
-    ensures ears { (line : Line) → line_of command.entry ≡ line → HearsNone line → ears.new ≡ ears.old }
-    ensures says { (s : Service) → line_of command.entry ≡ (serve s) → SaysOfService (K.written output.old) (K.written output.new) result }
-    ensures no_input { (s : Service) → line_of command.entry ≡ (serve s) → (input.new ≡ input.old) × (result ≢ BAD_INPUT) }
-    ensures ears_fault { result ≡ LISTEN_FAILED → Rose (A.faults ears.old) (A.faults ears.new) }
-    ensures no_task { (named : Named) (turns : ℕ) → line_of command.entry ≡ pipe named turns → result ≢ BAD_INPUT }
-    ensures read_fault { result ≡ READ_FAILED → Rose (F.faults files.old) (F.faults files.new) ⊎ Rose (S.faults input.old) (S.faults input.new) }
-    ensures write_fault { result ≡ WRITE_FAILED → Rose (K.faults output.old) (K.faults output.new) }
-    ensures words { result ≢ BAD_WORDS }
-    ensures memory { (line : Line) → line_of command.entry ≡ line → HearsNone line → result ≡ NO_MEMORY → output.new ≡ output.old }
-    ensures unread_memory { (named : Named) (turns : ℕ) → line_of command.entry ≡ pipe named turns → result ≡ NO_MEMORY → input.new ≡ input.old }
-    ensures unserved { result ≡ REFUSED → (input.new ≡ input.old) × (output.new ≡ output.old) }
+    ensures outcome { Outcome (record {
+      file = F.file files.old;
+      start = record { boot = boot; told = C.told clock.now };
+      input = S.left input.old;
+      left = S.left input.new;
+      written_before = K.written output.old;
+      written = K.written output.new;
+      flushed_before = K.flushed output.old;
+      flushed = K.flushed output.new;
+      said_before = E.written errors.old;
+      said = E.written errors.new;
+      handed_before = A.origins ears.old;
+      handed = A.origins ears.new;
+      returned_before = A.returned ears.old;
+      returned = A.returned ears.new;
+      files_faults_before = F.faults files.old;
+      files_faults = F.faults files.new;
+      input_faults_before = S.faults input.old;
+      input_faults = S.faults input.new;
+      output_faults_before = K.faults output.old;
+      output_faults = K.faults output.new;
+      errors_faults_before = E.faults errors.old;
+      errors_faults = E.faults errors.new;
+      ears_faults_before = A.faults ears.old;
+      ears_faults = A.faults ears.new;
+      files_before = files.old;
+      files = files.new;
+      source_before = input.old;
+      source = input.new;
+      sink_before = output.old;
+      sink = output.new;
+      ears_before = ears.old;
+      ears = ears.new;
+    }) (line_of command.entry) result }
     ensures errors { result ≢ REFUSED → result ≢ BAD_INPUT → ¬ (Rose (E.faults errors.old) (E.faults errors.new))
         → E.written errors.new ≡ append_known (E.written errors.old) (error_line result) }
     ensures kept { (name : List ℕ) → F.file files.new name ≡ F.file files.old name }
 {
     match command {
-        Command::Pipe { named, turns } => {
-            run_pipe(
-                rt, alloc, named, files, input, output, errors, clock, boot, turns,
-            )
-        }
+        Command::Pipe { named, turns } => match load_named(alloc, files, named) {
+            Ok(versions) => {
+                let came = serve(rt, alloc, versions, input, output, clock, boot, turns);
+                tell_pipe(errors, came)
+            }
+            Err(stop) => tell_stop(errors, stop),
+        },
         Command::Task { crd, rules, task } => {
-            run_task(alloc, crd, rules, task, files, input, output, errors)
+            match load_named(alloc, files, Named::FromFiles { crd, rules }) {
+                Ok(versions) => {
+                    let came = do_task(alloc, &versions, task, input, output);
+                    tell_task(errors, came)
+                }
+                Err(stop) => tell_stop(errors, stop),
+            }
         }
-        Command::Drill { start, count } => run_drill(rt, alloc, start, count, output, errors),
+        Command::Drill { start, count } => {
+            let came = do_drill(rt, alloc, start, count, output);
+            tell_task(errors, came)
+        }
         Command::Serve(service) => {
-            run_serve(rt, alloc, service, files, output, errors, ears, clock, boot)
+            let named = Named::FromFiles {
+                crd: service.crd,
+                rules: service.rules,
+            };
+            match load_named(alloc, files, named) {
+                Ok(versions) => {
+                    let came = serve_set(rt, alloc, versions, service, output, ears, clock, boot);
+                    tell_served(errors, came)
+                }
+                Err(stop) => tell_stop(errors, stop),
+            }
         }
     }
 }
@@ -169,6 +157,9 @@ fn run_command<
 /// `NotText`, or the path of what is refused, which is empty for the whole file, and a word. That of 4 says `TooLong`, `no version
 /// NAME`, `NotReview PATH`, `NotJson`, `TooDeep`, `NotWhole`, `NotObject`, or the field of the document and the rule that it breaks. A failed
 /// write of the line changes no status.
+///
+/// Where all that stood on `output` before was handed on, so is all that stands on it at the end of a line but `serve`, unless `output`
+/// failed.
 pub fn run<
     R: Threads + Wait + time::Clock + Sync,
     F: Files,
@@ -189,84 +180,46 @@ pub fn run<
     clock: &C,
     boot: u64,
 ) -> u8
-    // What was written is what the line does with the bytes of the input, by the definition that the two texts are, and the status
-    // is that of its end; or something of the texts is refused.
-    ensures talk { (line : Line) (crd rules b : List ℕ) → IsLine words.now line → Texts (F.file files.old) (named_in line) crd rules → S.left input.old ≡ Some b
-        → ¬ (Rose (F.faults files.old) (F.faults files.new)) → ¬ (Rose (S.faults input.old) (S.faults input.new)) → ¬ (Rose (K.faults output.old) (K.faults output.new))
-        → Ran line crd rules (record { boot = boot; told = C.told clock.now }) b (K.written output.old) (K.written output.new) result
-        ⊎ (((result ≡ REFUSED) × RefusesSome (named_in line) crd rules) ⊎ (result ≡ NO_MEMORY)) }
-    // Whatever the outside did, a conversation was held to some end, and the status is that of the end; or none was held, and
-    // nothing was read of the input or written.
-    ensures held { (named : Named) (turns : ℕ) → IsLine words.now (pipe named turns)
-        → WasHeld (λ end. (crd rules b : List ℕ) → Texts (F.file files.old) named crd rules → S.left input.old ≡ Some b
-        → Converses crd rules turns (record { boot = boot; told = C.told clock.now }) b (K.written output.old) (K.written output.new) end)
-        (Rose (S.faults input.old) (S.faults input.new)) (Rose (K.faults output.old) (K.faults output.new)) result
-        ⊎ (IsUnheld (Rose (F.faults files.old) (F.faults files.new)) result × (input.new ≡ input.old) × (output.new ≡ output.old)) }
-    // Where the texts load, the status is that of the one end of the input, whatever was written.
-    ensures exact { (named : Named) (turns : ℕ) (crd rules b : List ℕ) (requests : List Request) (end : End) → IsLine words.now (pipe named turns) → Texts (F.file files.old) named crd rules → S.left input.old ≡ Some b
-        → ¬ (Rose (F.faults files.old) (F.faults files.new)) → ¬ (Rose (S.faults input.old) (S.faults input.new)) → ¬ (Rose (K.faults output.old) (K.faults output.new))
-        → IsServed named crd rules → Asks MOST_REQUESTS b requests end → (result ≡ status_of end) ⊎ (result ≡ NO_MEMORY) }
-    // Where something of the texts is refused, nothing is served.
-    ensures refused { (line : Line) (crd rules name why : List ℕ) → IsLine words.now line → Texts (F.file files.old) (named_in line) crd rules
-        → ¬ (Rose (F.faults files.old) (F.faults files.new)) → RefusesNamed (named_in line) crd rules name why → (result ≡ REFUSED) ⊎ (result ≡ NO_MEMORY) }
-    // A status of 3 has the error line of something that is refused.
-    ensures refusal { (line : Line) → IsLine words.now line → result ≡ REFUSED
-        → (name : List ℕ) × (why : List ℕ) × ((crd rules : List ℕ) → Texts (F.file files.old) (named_in line) crd rules → RefusesNamed (named_in line) crd rules name why)
-        × (¬ (Rose (E.faults errors.old) (E.faults errors.new)) → E.written errors.new ≡ append_known (E.written errors.old) (refusal_line name why)) }
-    // A fault of reading is one of the files, with nothing read or written, or comes behind the answers to the first requests;
-    // one of writing comes behind those and a front of one more response.
-    ensures unread { (named : Named) (turns : ℕ) (crd rules b : List ℕ) → IsLine words.now (pipe named turns) → Texts (F.file files.old) named crd rules → S.left input.old ≡ Some b → result ≡ READ_FAILED
-        → (Rose (F.faults files.old) (F.faults files.new) × (input.new ≡ input.old) × (output.new ≡ output.old))
-        ⊎ (Rose (S.faults input.old) (S.faults input.new)
-        × Converses crd rules turns (record { boot = boot; told = C.told clock.now }) b (K.written output.old) (K.written output.new) ReadFaulted) }
-    ensures unwritten { (named : Named) (turns : ℕ) (crd rules b : List ℕ) → IsLine words.now (pipe named turns) → Texts (F.file files.old) named crd rules → S.left input.old ≡ Some b → result ≡ WRITE_FAILED
-        → Converses crd rules turns (record { boot = boot; told = C.told clock.now }) b (K.written output.old) (K.written output.new) WriteFaulted }
-    // Whatever the outside did, at 0 a line of one document has read the whole input, and wrote the whole text of it and handed it
-    // on; at 6 a front of the text; and at each other status nothing.
-    ensures wrote { (c r crd rules b : List ℕ) (t : TaskView) → IsLine words.now (task_line c r t) → Texts (F.file files.old) (named_in (task_line c r t)) crd rules → S.left input.old ≡ Some b
-        → result ≡ DONE → Wrote (AnswersTexts crd rules t b) (K.written output.old) (K.written output.new) }
-    ensures whole { (c r : List ℕ) (t : TaskView) → IsLine words.now (task_line c r t) → result ≡ DONE
-        → IsAtEnd (S.left input.new) × (K.flushed output.new ≡ K.written output.new) }
-    ensures broke { (c r crd rules b : List ℕ) (t : TaskView) → IsLine words.now (task_line c r t) → Texts (F.file files.old) (named_in (task_line c r t)) crd rules → S.left input.old ≡ Some b
-        → result ≡ WRITE_FAILED → Broke (AnswersTexts crd rules t b) (K.written output.old) (K.written output.new) }
-    ensures silent { (c r : List ℕ) (t : TaskView) → IsLine words.now (task_line c r t) → result ≢ DONE → result ≢ WRITE_FAILED → output.new ≡ output.old }
-    // A status of 4 has the error line of what is refused of the input, and comes of such a line alone.
-    ensures bad_input { (c r : List ℕ) (t : TaskView) → IsLine words.now (task_line c r t) → result ≡ BAD_INPUT
-        → (why : List ℕ) × ((crd rules b : List ℕ) → Texts (F.file files.old) (named_in (task_line c r t)) crd rules → S.left input.old ≡ Some b → RefusesTexts crd rules t b why)
-        × (¬ (Rose (E.faults errors.old) (E.faults errors.new)) → E.written errors.new ≡ append_known (E.written errors.old) (line_saying why)) }
-    // Whatever the outside did, at 0 a drill wrote the whole text that is told of it and handed it on, at 6 a front of it, and else
-    // nothing; and it touches no file and no input.
-    ensures drilled { (start count : ℕ) (crd rules : List ℕ) → IsLine words.now (drill_line start count) → Texts (F.file files.old) (named_in (drill_line start count)) crd rules → result ≡ DONE
-        → Wrote (DrillsTexts crd rules start count) (K.written output.old) (K.written output.new) }
-    ensures drill_whole { (start count : ℕ) → IsLine words.now (drill_line start count) → result ≡ DONE → K.flushed output.new ≡ K.written output.new }
-    ensures drill_broke { (start count : ℕ) (crd rules : List ℕ) → IsLine words.now (drill_line start count) → Texts (F.file files.old) (named_in (drill_line start count)) crd rules → result ≡ WRITE_FAILED
-        → Broke (DrillsTexts crd rules start count) (K.written output.old) (K.written output.new) }
-    ensures drill_silent { (start count : ℕ) → IsLine words.now (drill_line start count) → result ≢ DONE → result ≢ WRITE_FAILED → output.new ≡ output.old }
-    ensures drill_ends { (start count : ℕ) → IsLine words.now (drill_line start count)
-        → ((result ≡ DONE) ⊎ ((result ≡ WRITE_FAILED) ⊎ (result ≡ NO_MEMORY))) × (files.new ≡ files.old) × (input.new ≡ input.old) }
-    // Whatever the outside did, where connections were handed out a line of `serve` had told where it listens, and they were answered by
-    // one history and given back, as many as were asked for at 0 and fewer at 8; at each other status none was handed out.
-    ensures serves { (s : Service) → IsLine words.now (serve s)
-        → RunsService s.connections
-        (λ count. (crd rules : List ℕ) → Texts (F.file files.old) (named_in (serve s)) crd rules
-        → ServesAll crd rules (record { boot = boot; told = C.told clock.now }) count (A.origins ears.old) (A.origins ears.new) (A.returned ears.old) (A.returned ears.new))
-        (Announced (K.written output.old) (K.written output.new) (K.flushed output.new)) (Rose (A.faults ears.old) (A.faults ears.new))
-        ((A.origins ears.new ≡ A.origins ears.old) × (A.returned ears.new ≡ A.returned ears.old)) result }
-    // The other lines ask nothing of the ears.
-    ensures ears { (line : Line) → IsLine words.now line → HearsNone line → ears.new ≡ ears.old }
-    // At 0 it wrote the line that names a place, at 6 a front of it, at 3 and 5 nothing, at 7 and 8 the line or nothing; and it ends with no
-    // other status. It reads no input.
-    ensures says { (s : Service) → IsLine words.now (serve s) → SaysOfService (K.written output.old) (K.written output.new) result }
-    ensures no_input { (s : Service) → IsLine words.now (serve s) → (input.new ≡ input.old) × (result ≢ BAD_INPUT) }
-    ensures ears_fault { result ≡ LISTEN_FAILED → Rose (A.faults ears.old) (A.faults ears.new) }
-    ensures no_task { (named : Named) (turns : ℕ) → IsLine words.now (pipe named turns) → result ≢ BAD_INPUT }
-    ensures read_fault { result ≡ READ_FAILED → Rose (F.faults files.old) (F.faults files.new) ⊎ Rose (S.faults input.old) (S.faults input.new) }
-    ensures write_fault { result ≡ WRITE_FAILED → Rose (K.faults output.old) (K.faults output.new) }
+    // Whatever the outside does, a line of the program comes to one of its outcomes.
+    ensures outcome { (line : Line) → IsLine words.now line → Outcome (record {
+      file = F.file files.old;
+      start = record { boot = boot; told = C.told clock.now };
+      input = S.left input.old;
+      left = S.left input.new;
+      written_before = K.written output.old;
+      written = K.written output.new;
+      flushed_before = K.flushed output.old;
+      flushed = K.flushed output.new;
+      said_before = E.written errors.old;
+      said = E.written errors.new;
+      handed_before = A.origins ears.old;
+      handed = A.origins ears.new;
+      returned_before = A.returned ears.old;
+      returned = A.returned ears.new;
+      files_faults_before = F.faults files.old;
+      files_faults = F.faults files.new;
+      input_faults_before = S.faults input.old;
+      input_faults = S.faults input.new;
+      output_faults_before = K.faults output.old;
+      output_faults = K.faults output.new;
+      errors_faults_before = E.faults errors.old;
+      errors_faults = E.faults errors.new;
+      ears_faults_before = A.faults ears.old;
+      ears_faults = A.faults ears.new;
+      files_before = files.old;
+      files = files.new;
+      source_before = input.old;
+      source = input.new;
+      sink_before = output.old;
+      sink = output.new;
+      ears_before = ears.old;
+      ears = ears.new;
+    }) line result }
+    ensures is_line { result ≢ BAD_WORDS → (line : Line) × IsLine words.now line }
+    // The words are no line exactly at 2, and then nothing is touched but the error stream.
     ensures words_refused { (result ≡ BAD_WORDS) ↔ ((line : Line) → IsLine words.now line → ⊥) }
-    ensures memory { (line : Line) → IsLine words.now line → HearsNone line → result ≡ NO_MEMORY → output.new ≡ output.old }
-    ensures unread_memory { (named : Named) (turns : ℕ) → IsLine words.now (pipe named turns) → result ≡ NO_MEMORY → input.new ≡ input.old }
-    ensures unserved { result ≡ REFUSED → (input.new ≡ input.old) × (output.new ≡ output.old) }
     ensures unused { result ≡ BAD_WORDS → (files.new ≡ files.old) × (input.new ≡ input.old) × (output.new ≡ output.old) × (ears.new ≡ ears.old) }
+    // Each status but 3 and 4 puts its line on the error stream, and no run changes a file.
     ensures errors { result ≢ REFUSED → result ≢ BAD_INPUT → ¬ (Rose (E.faults errors.old) (E.faults errors.new))
         → E.written errors.new ≡ append_known (E.written errors.old) (error_line result) }
     ensures kept { (name : List ℕ) → F.file files.new name ≡ F.file files.old name }

@@ -1,24 +1,28 @@
 -- A worker's item moves only numbers, and a marked migration is of the storage version.
-use Rattle.std.proofs.Common.{◌≡◌, ◌∙◌, refl, sym, ap, subst, inl, inr, ℕ, List, [], ◌∷◌, ◌++◌, Option, None, Some, length, append_assoc}
-use Rattle.std.specs.Prelude.{◌⊎◌}
+use Rattle.std.proofs.Common.{◌≡◌, ◌∙◌, ◌+◌, refl, sym, ap, subst, inl, inr, ℕ, Bool, true, false, List, [], ◌∷◌, ◌++◌, Option, None, Some, length, append_assoc}
+use Rattle.std.specs.Prelude.{◌⊎◌, if◌then◌else◌}
 use Rattle.std.specs.Ordering.{match_ordering}
 use Rattle.std.specs.declared.cmp.Ordering.{Ordering}
 use Rattle.std.specs.declared.cmp.Ordering.TheVariants.{Less, Equal, Greater}
 use Rattle.kube_meta.specs.Key.{KeyView, key_cmp}
 use Rattle.kube_meta.specs.KeyOrder.{key_cmp_one}
-use Rattle.kube_meta.specs.Plan.{Migration, running}
+use Rattle.kube_meta.specs.Plan.{Migration, running, may_claim, is_done}
 use Rattle.kube_meta.specs.declared.limits.Limits.{Limits}
+use Rattle.api_calls.specs.Calls.{Server}
+use Rattle.api_calls.specs.Ends.{claimed, enters, finished, grown, idle, says}
 use Rattle.api_calls.specs.GrowthLaws.{legal-front, state-more}
 use Rattle.api_calls.specs.Item.{Create, Replace, Mark, Release, Touch, Delete, SetVersions, Trim, StartMigration, MarkSucceeded, Claim, RangeDone, GiveBack, Item, Logged, entry, items, note}
 use Rattle.api_calls.specs.Laws.{KeepsStorage}
 use Rattle.api_calls.specs.Legal.{Each, MaySucceed, legal}
 use Rattle.api_calls.specs.Meaning.{Meaning}
-use Rattle.api_calls.specs.Objects.{Stored, moved, updated}
-use Rattle.api_calls.specs.State.{State, effect, next_number, opening, state, target_of}
+use Rattle.api_calls.specs.Objects.{Stored, elsewhere, moved, updated}
+use Rattle.api_calls.specs.State.{State, effect, next_number, opening, revision, state, target_of}
+use Rattle.api_calls.specs.Work.{Turn, Work, idle_turn, whole_turn, work_of, work_turn}
 use Rattle.api_calls.proofs.Parts.{legal_from-append}
 use Rattle.api_calls.proofs.Standing.{succeeded-all}
-use Rattle.serve_spans.specs.Owners.{At, IsWork, Within}
+use Rattle.serve_spans.specs.Owners.{At, IsWork, IsWorkIf, Within}
 use Rattle.serve_spans.specs.Spans.{Span}
+use Rattle.kubeconv_cmd.specs.Serving.{At as Place, TakesTurn, turn_at}
 use Rattle.serve_laws.specs.Moves.{AreMoved, MovesNumbers}
 
 unmoved : (k : Option KeyView) (es : List Stored) → AreMoved k es es
@@ -71,3 +75,40 @@ stands-in m limits log before after later l is =
     let parts = legal_from-append m limits 2 (opening m) before (entry MarkSucceeded ∷ after) front in
     let may : MaySucceed (state m before) = parts.1.0 in
     (may.migration, may.runs, may.target, λ keeps. succeeded-all m limits before after may.migration front may.runs keeps)
+
+-- ---- a turn between two requests
+
+choose : (a b : Bool) (x y z : Turn) → IsWorkIf x.decision.item → IsWorkIf y.decision.item → IsWorkIf z.decision.item
+    → IsWorkIf (if a then x else if b then y else z).decision.item
+choose true b x y z p q r = p
+choose false true x y z p q r = q
+choose false false x y z p q r = r
+
+idle_work : (n : ℕ) (s : State) (m : Option Migration) → IsWorkIf (idle_turn n s m).decision.item
+idle_work n s None = tt
+idle_work n s (Some m) =
+    let x : Turn = record { decision = enters claimed (note (Claim (s.plan.last + 1))); claim = Some (s.plan.last + 1) } in
+    let y : Turn = record { decision = enters (finished n) (entry MarkSucceeded); claim = None } in
+    let z : Turn = record { decision = says idle; claim = None } in
+    choose (may_claim s.plan) (is_done s.plan) x y z tt tt tt
+
+turn_work : (n : ℕ) (w : Work) (o : Option Stored) → IsWorkIf (work_turn n w o).decision.item
+turn_work n w None = tt
+turn_work n w (Some e) = tt
+
+whole_work : (n : ℕ) (s : State) (o : Option Work) → IsWorkIf (whole_turn n s o).decision.item
+whole_work n s None = idle_work n s (running s.migrations)
+whole_work n s (Some w) = turn_work n w (elsewhere w.span w.target s.objects)
+
+stays : (s : State) → MovesNumbers s s
+stays s = record { key = None; objects = unmoved None s.objects; flags = refl; stored = refl }
+
+grows-moved : (m : Meaning) (log : List Item) (i : Option Item) → IsWorkIf i → MovesNumbers (state m log) (state m (grown log i))
+grows-moved m log None w = stays (state m log)
+grows-moved m log (Some i) w = subst (λ (s : State). MovesNumbers (state m log) s) (sym (state-more m log i)) (worked (next_number log) i (state m log) w)
+
+-- a turn is as it is decided, or nothing changes
+pub turn-moves : (s : Server) (p q : Place) → TakesTurn s p q → MovesNumbers (state s.meaning p.log) (state s.meaning q.log)
+turn-moves s p q (inl is) = subst (λ (r : Place). MovesNumbers (state s.meaning p.log) (state s.meaning r.log)) (sym is)
+    (grows-moved s.meaning p.log (turn_at s p).decision.item (whole_work (revision p.log + 1) (state s.meaning p.log) (work_of p.claim (state s.meaning p.log))))
+turn-moves s p q (inr same) = subst (λ (r : Place). MovesNumbers (state s.meaning p.log) (state s.meaning r.log)) (sym same.1) (stays (state s.meaning p.log))

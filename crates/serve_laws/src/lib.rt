@@ -1,5 +1,6 @@
-//! What holds of the one list by which the connections of a line of `serve` were answered: the workers beside them move nothing
-//! but resource versions, and behind a migration that succeeded no object stands elsewhere until the storage version changes.
+//! What holds of the one list by which the connections of a line of `serve` were answered, or the input of a line of `pipe`: the
+//! workers move nothing but resource versions, and behind a migration that succeeded no object stands elsewhere until the storage
+//! version changes.
 //!
 //! Each law is the contract of a function that does nothing. It knows nothing of how connections are served.
 #![tactic(auto)]
@@ -12,8 +13,10 @@ ghost use Rattle.api_calls.specs.Legal.{Each};
 ghost use Rattle.api_calls.specs.State.{state};
 ghost use Rattle.edge_io.specs.Connections.{Ending, Origin};
 ghost use Rattle.serve_spans.specs.Owners.{Within};
+ghost use Rattle.crd_loading.specs.View.{LoadedView};
 ghost use Rattle.kubeconv_cmd.specs.Beside.{ServesAll};
-ghost use Rattle.kubeconv_cmd.specs.Serving.{Start, served_meaning};
+ghost use Rattle.kubeconv_cmd.specs.Serving.{At, Converses, Start, TakesTurn, front_of, served_meaning};
+ghost use Rattle.kubeconv_cmd.specs.declared.pipe.PipeEnd.{PipeEnd};
 ghost use Rattle.serve_laws.specs.Moves.{MovesNumbers};
 
 /// What is entered beside the connections of a line of `serve` is a worker's, and moves the resource version of one object at
@@ -34,4 +37,20 @@ pub fn stands_at_the_target()
         → items s.answered.log ≡ before ++ entry MarkSucceeded ∷ (after ++ later)
         → (m : Migration) × (running (state (served_meaning s.loaded) before).migrations ≡ Some m) × (m.target ≡ (state (served_meaning s.loaded) before).flags.storage)
         × (Each (KeepsStorage m.target) after → Each (λ e. e.at ≡ m.target) (state (served_meaning s.loaded) (before ++ entry MarkSucceeded ∷ after)).objects) }
+{}
+
+/// Each turn of the worker of a line of `pipe` moves the resource version of one object at most, as a worker beside connections does.
+pub fn turns_move_only_numbers()
+    ensures { (loaded : LoadedView) (start : Start) (p q : At) → TakesTurn (front_of (served_meaning loaded) start).server p q
+        → MovesNumbers (state (served_meaning loaded) p.log) (state (served_meaning loaded) q.log) }
+{}
+
+/// A migration that is marked Succeeded between the requests of a line of `pipe` is of the storage version, and from then on each object
+/// stands there until the storage version changes.
+pub fn pipe_stands_at_the_target()
+    ensures { (crd rules : List ℕ) (turns : ℕ) (start : Start) (input : List ℕ) (w0 written : Option (List ℕ)) (end : PipeEnd)
+        → (c : Converses crd rules turns start input w0 written end) (before after later : List Item)
+        → c.conversed.0.log ≡ before ++ entry MarkSucceeded ∷ (after ++ later)
+        → (m : Migration) × (running (state (served_meaning c.loaded) before).migrations ≡ Some m) × (m.target ≡ (state (served_meaning c.loaded) before).flags.storage)
+        × (Each (KeepsStorage m.target) after → Each (λ e. e.at ≡ m.target) (state (served_meaning c.loaded) (before ++ entry MarkSucceeded ∷ after)).objects) }
 {}

@@ -16,6 +16,7 @@ loop-count-init g c = record {
   of = c.requires.of;
   so_far = so_far_from _ _ _ _ _ c.requires.empty;
   same = refl;
+  flushed = λ first. first;
   few = omega arith;
   read_later = omega arith;
   write_later = omega arith;
@@ -39,6 +40,7 @@ loop-count-preserved g c =
           (answered_and_worked f c.args.turns p q c.loop-count.worker.claim known left before written (omega arith) quiet false _ (c.in-Answered.ensures.did 0 number) c.take_turns.ensures.took);
       same = same_on c.args.pass.now.view c.serve_one.new.pass.view c.take_turns.new.pass.view
           (same_on c.args.pass.now.view c.loop-count.pass.view c.serve_one.new.pass.view c.loop-count.invariant.same c.in-Answered.ensures.same) c.take_turns.ensures.same;
+      flushed = λ first. c.in-Answered.ensures.flushed;
       few = omega arith;
       read_later = omega (arith, c.in-Answered.ensures.read_later, c.loop-count.invariant.read_later);
       write_later = omega (arith, c.in-Answered.ensures.write_later, c.loop-count.invariant.write_later);
@@ -156,3 +158,21 @@ returns-clause-talk g c = (
   c.loop-count.invariant.of.legal.guards,
   ended_spent _ _ _ (record { log = items c.loop-count.pass.view.seen; claim = c.loop-count.worker.claim }) (record { log = items c.loop-count.pass.view.seen; claim = c.loop-count.worker.claim }) _ _ _ None _ _ (g.K.Sink.written c.loop-count.output) c.loop-count.invariant.so_far (omega (arith, c.loop-count.invariant.few)),
 )
+
+pub returns-in-Last-clause-flushed : goal.returns-in-Last-clause-flushed
+returns-in-Last-clause-flushed g c = λ first. c.in-Last.ensures.flushed
+
+pub returns-in-Refused-clause-flushed : goal.returns-in-Refused-clause-flushed
+returns-in-Refused-clause-flushed g c = λ first. c.in-Refused.ensures.flushed
+
+pub returns-in-Closed-clause-flushed : goal.returns-in-Closed-clause-flushed
+returns-in-Closed-clause-flushed g c = λ first. rw c.in-Closed.ensures.flushed (c.loop-count.invariant.flushed first)
+
+pub returns-in-Torn-clause-flushed : goal.returns-in-Torn-clause-flushed
+returns-in-Torn-clause-flushed g c = λ first. rw c.in-Torn.ensures.flushed (c.loop-count.invariant.flushed first)
+
+pub returns-in-ReadFault-clause-flushed : goal.returns-in-ReadFault-clause-flushed
+returns-in-ReadFault-clause-flushed g c = λ first. rw c.in-ReadFault.ensures.flushed (c.loop-count.invariant.flushed first)
+
+pub returns-clause-flushed : goal.returns-clause-flushed
+returns-clause-flushed g c = c.loop-count.invariant.flushed

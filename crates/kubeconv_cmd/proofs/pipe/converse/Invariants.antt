@@ -16,6 +16,7 @@ invariant-loop-count g l = record {
       (record { log = items l.initial.pass.view.seen; claim = l.initial.worker.claim }) (record { log = items l.pass.view.seen; claim = l.worker.claim }) l.count
       (g.S.Source.left l.initial.input) (prepend_known l.inbox.bytes (g.S.Source.left l.input)) (g.K.Sink.written l.initial.output) (g.K.Sink.written l.output);
   same : IsSameBut l.initial.pass.view l.pass.view;
+  flushed : g.K.Sink.flushed l.initial.output ≡ g.K.Sink.written l.initial.output → g.K.Sink.flushed l.output ≡ g.K.Sink.written l.output;
   few : l.count ≤ MOST_REQUESTS;
   read_later : g.S.Source.faults l.initial.input ≤ g.S.Source.faults l.input;
   write_later : g.K.Sink.faults l.initial.output ≤ g.K.Sink.faults l.output;

@@ -18,15 +18,15 @@ returns-in-Some-clause-none g c = λ b left.
     let d = definition_of c.args.versions.now in
     let is : IsVersionNamed d c.in-Convert.to.now c.in-Some.version = record { known = c.in-Some.ensures.0; named = c.in-Some.ensures.1 } in
     let rose = Rose (g.S.Source.faults c.args.input.now) (g.S.Source.faults c.convert_input.new.input) in
-    rw c.in-Convert.is (on_err rose rose ⊥ ⊥ (λ _ _. ⊥) (λ _ _. ⊥) (NoValue d c.in-Some.version b) (RefusesDocument d b (convert c.in-Convert.to.now)) c.convert_input.result
-    (λ x. x) (λ x. x) (λ f w x. x) (λ why h. no_value d c.in-Convert.to.now c.in-Some.version b why is h) (c.convert_input.ensures.none b left))
+    rw c.in-Convert.is (on_err rose rose ⊥ ⊥ (NoValue d c.in-Some.version b) (RefusesDocument d b (convert c.in-Convert.to.now)) c.convert_input.result
+    (λ x. x) (λ x. x) (λ why h. no_value d c.in-Convert.to.now c.in-Some.version b why is h) (c.convert_input.ensures.none b left))
 
 pub returns-in-None-clause-none : goal.returns-in-None-clause-none
 returns-in-None-clause-none g c = λ b left.
     let d = definition_of c.args.versions.now in
     let rose = Rose (g.S.Source.faults c.args.input.now) (g.S.Source.faults c.args.input.now) in
-    rw c.in-Convert.is (on_halt ⊥ rose ⊥ ⊥ (λ _ _. ⊥) (λ _ _. ⊥) (λ (why : List ℕ). why ≡ no_version c.in-Convert.to.now) (RefusesDocument d b (convert c.in-Convert.to.now)) c.no_version.result
-    (λ x. absurd x) (λ x. x) (λ f w x. x) (λ why e. unknown_version d c.in-Convert.to.now b why c.in-None.ensures e) c.no_version.ensures)
+    rw c.in-Convert.is (on_halt ⊥ rose ⊥ ⊥ (λ (why : List ℕ). why ≡ no_version c.in-Convert.to.now) (RefusesDocument d b (convert c.in-Convert.to.now)) c.no_version.result
+    (λ x. absurd x) (λ x. x) (λ why e. unknown_version d c.in-Convert.to.now b why c.in-None.ensures e) c.no_version.ensures)
 
 pub returns-in-Review-clause-answered : goal.returns-in-Review-clause-answered
 returns-in-Review-clause-answered g c = λ b left.
@@ -36,5 +36,5 @@ pub returns-in-Review-clause-none : goal.returns-in-Review-clause-none
 returns-in-Review-clause-none g c = λ b left.
     let d = definition_of c.args.versions.now in
     let rose = Rose (g.S.Source.faults c.args.input.now) (g.S.Source.faults c.review_input.new.input) in
-    rw c.in-Review.is (on_err rose rose ⊥ ⊥ (λ _ _. ⊥) (λ _ _. ⊥) (NoAnswer b) (RefusesDocument d b review) c.review_input.result
-    (λ x. x) (λ x. x) (λ f w x. x) (λ why h. no_answer d b why h) (c.review_input.ensures.none b left))
+    rw c.in-Review.is (on_err rose rose ⊥ ⊥ (NoAnswer b) (RefusesDocument d b review) c.review_input.result
+    (λ x. x) (λ x. x) (λ why h. no_answer d b why h) (c.review_input.ensures.none b left))

@@ -14,8 +14,8 @@ use Rattle.kubeconv_cmd.proofs.tasks.convert_bytes.Goals as goal
 pub returns-in-Ok-clause-none : goal.returns-in-Ok-clause-none
 returns-in-Ok-clause-none c =
     let d = definition_of c.args.versions.now in
-    on_err ⊥ ⊥ ⊥ ⊥ (λ _ _. ⊥) (λ _ _. ⊥) (λ (text : List ℕ). (f : Fault) × IsWithout d c.args.to (json c.in-Ok.document) f × (text ≡ fault_words f)) (λ (text : List ℕ). (f : Fault) × IsFaulty c.args.bytes.now OBJECT_LEVELS (IsWithout d c.args.to) f × (text ≡ fault_words f)) c.convert_document.result
-    (λ x. x) (λ x. x) (λ f w x. x) (λ text h. (h.0, record { finding = finding.value (json c.in-Ok.document); finds = c.in-Ok.ensures.ok; follows = h.1 }, h.2)) c.convert_document.ensures.none
+    on_err ⊥ ⊥ ⊥ ⊥ (λ (text : List ℕ). (f : Fault) × IsWithout d c.args.to (json c.in-Ok.document) f × (text ≡ fault_words f)) (λ (text : List ℕ). (f : Fault) × IsFaulty c.args.bytes.now OBJECT_LEVELS (IsWithout d c.args.to) f × (text ≡ fault_words f)) c.convert_document.result
+    (λ x. x) (λ x. x) (λ text h. (h.0, record { finding = finding.value (json c.in-Ok.document); finds = c.in-Ok.ensures.ok; follows = h.1 }, h.2)) c.convert_document.ensures.none
 
 pub returns-in-Err-NotJson-clause-none : goal.returns-in-Err-NotJson-clause-none
 unfolding fault_words

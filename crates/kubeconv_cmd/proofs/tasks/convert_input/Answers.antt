@@ -25,5 +25,5 @@ returns-in-Ok-clause-none g c = λ b left.
     let rose = Rose (g.S.Source.faults c.args.input.now) (g.S.Source.faults c.read_input.new.input) in
     let is : c.deref.result.now ≡ b = c.deref.ensures.value ∙ c.in-Ok.ensures.whole b left in
     let short : length c.deref.result.now ≤ MOST_INPUT_BYTES = rw c.deref.ensures.value c.in-Ok.ensures.short in
-    on_err ⊥ rose ⊥ ⊥ (λ _ _. ⊥) (λ _ _. ⊥) (λ (text : List ℕ). (f : Fault) × IsFaulty c.deref.result.now OBJECT_LEVELS (IsWithout (definition_of c.args.versions.now) c.args.to) f × (text ≡ fault_words f)) (NoValue (definition_of c.args.versions.now) c.args.to b) c.convert_bytes.result
-    (λ x. absurd x) (λ x. x) (λ f w x. x) (λ why h. faulty_at (definition_of c.args.versions.now) c.args.to c.deref.result.now b why is short h) c.convert_bytes.ensures.none
+    on_err ⊥ rose ⊥ ⊥ (λ (text : List ℕ). (f : Fault) × IsFaulty c.deref.result.now OBJECT_LEVELS (IsWithout (definition_of c.args.versions.now) c.args.to) f × (text ≡ fault_words f)) (NoValue (definition_of c.args.versions.now) c.args.to b) c.convert_bytes.result
+    (λ x. absurd x) (λ x. x) (λ why h. faulty_at (definition_of c.args.versions.now) c.args.to c.deref.result.now b why is short h) c.convert_bytes.ensures.none

@@ -22,5 +22,5 @@ returns-in-Ok-clause-none g c = λ b left.
     let rose = Rose (g.S.Source.faults c.args.input.now) (g.S.Source.faults c.read_input.new.input) in
     let is : c.deref.result.now ≡ b = c.deref.ensures.value ∙ c.in-Ok.ensures.whole b left in
     let short : length c.deref.result.now ≤ MOST_INPUT_BYTES = rw c.deref.ensures.value c.in-Ok.ensures.short in
-    on_err ⊥ rose ⊥ ⊥ (λ _ _. ⊥) (λ _ _. ⊥) (λ (text : List ℕ). (path : List ℕ) × IsNoRequest c.deref.result.now path × (text ≡ not_review path)) (NoAnswer b) c.answer_bytes.result
-    (λ x. absurd x) (λ x. x) (λ f w x. x) (λ why h. no_review_at c.deref.result.now b why is short h) c.answer_bytes.ensures.none
+    on_err ⊥ rose ⊥ ⊥ (λ (text : List ℕ). (path : List ℕ) × IsNoRequest c.deref.result.now path × (text ≡ not_review path)) (NoAnswer b) c.answer_bytes.result
+    (λ x. absurd x) (λ x. x) (λ why h. no_review_at c.deref.result.now b why is short h) c.answer_bytes.ensures.none

@@ -1,147 +1,107 @@
-use Rattle.std.proofs.Common.{◌≡◌, ◌∙◌, ◌⊎◌, ℕ, List, Some, ap, sym, subst, arith}
+use Rattle.std.proofs.Common.{◌≡◌, ℕ, List, refl, ap, subst}
 use Rattle.std.specs.Io.KnownBytes.{append_known}
-use Rattle.edge_io.specs.Causes.{Rose}
-use Rattle.kubeconv_cmd.specs.Lines.{Named, Task, Line, Service, pipe, task, drill, serve, from_files, HearsNone, named_in, Texts}
-use Rattle.kubeconv_cmd.specs.Listening.{Announced, SaysOfService}
-use Rattle.kubeconv_cmd.specs.Beside.{RunsService, ServesAll}
-use Rattle.kubeconv_cmd.specs.Tasks.{RefusesTexts, Wrote, Broke}
-use Rattle.kubeconv_cmd.specs.Serving.{Ran, Converses, DrillsTexts, WasHeld, IsUnheld}
-use Rattle.kubeconv_cmd.specs.Refusal.{RefusesNamed, RefusesSome}
-use Rattle.kubeconv_cmd.specs.Status.{refusal_line, line_saying}
-use Rattle.kubeconv_cmd.specs.Given.{line_of, named_of, service_of, task_of}
-use Rattle.kubeconv_cmd.specs.declared.status.TheConstants.{REFUSED, NO_MEMORY}
-use Rattle.kubeconv_cmd.specs.declared.pipe.PipeEnd.TheVariants.{ReadFault as ReadFaulted, WriteFault as WriteFaulted}
-use Rattle.kubeconv_cmd.proofs.ServeEnding.{of_pipe, of_task}
-use Rattle.kubeconv_cmd.proofs.DrillEnding.{third, never_else, of_line}
+use Rattle.crd_versions.specs.Set.{definition_of}
+use Rattle.kubeconv_cmd.specs.Given.{named_of, task_of}
+use Rattle.kubeconv_cmd.specs.Lines.{from_files}
+use Rattle.kubeconv_cmd.specs.Outcome.{unserved, unloaded_task, unloaded_service}
+use Rattle.kubeconv_cmd.proofs.Serving.{converses_at}
+use Rattle.kubeconv_cmd.proofs.Outcomes.{stopped_so, stopped_line, pipe_outcome, task_outcome, tasks_line, drill_outcome, serve_outcome}
 use Rattle.kubeconv_cmd.proofs.top.run_command.Goals as goal
 
-pub returns-in-Task-clause-talk : goal.returns-in-Task-clause-talk
-returns-in-Task-clause-talk g c = λ line k r b is texts left nf nr nw.
-    let e : task c.in-Task.crd.now c.in-Task.rules.now (task_of c.in-Task.task) ≡ line = sym (ap line_of c.in-Task.is) ∙ is in
-    subst (λ (x : Line). Texts (g.F.Files.file c.args.files.now) (named_in x) k r
-    → Ran x k r (record { boot = c.args.boot; told = g.C.Clock.told c.args.clock.now }) b (g.K.Sink.written c.args.output.now) (g.K.Sink.written c.run_task.new.output) c.run_task.result
-    ⊎ (((c.run_task.result ≡ REFUSED) × RefusesSome (named_in x) k r) ⊎ (c.run_task.result ≡ NO_MEMORY))) e
-    (λ t. c.run_task.ensures.ran k r b t left nf nr nw) texts
+pub returns-in-Ok-clause-outcome : goal.returns-in-Ok-clause-outcome
+returns-in-Ok-clause-outcome g c =
+    rw c.in-Pipe.is (
+      pipe_outcome _ (named_of c.in-Pipe.named) c.in-Pipe.turns c.serve-came.result c.tell_pipe.result
+          c.in-Ok.ensures.served
+          (λ crd rules b texts known.
+          let found = c.in-Ok.ensures.loaded crd rules texts in
+          converses_at c.serve-came.result crd rules c.in-Pipe.turns (record { boot = c.args.boot; told = g.C.Clock.told c.args.clock.now }) b
+          (g.K.Sink.written c.args.output.now) (g.K.Sink.written c.serve-came.new.output) (definition_of c.in-Ok.versions) found.0 found.1 found.2 (c.serve-came.ensures.talk b known))
+          c.serve-came.ensures.blames c.serve-came.ensures.flushed c.serve-came.ensures.untouched
+          (λ e. (ap g.K.Sink.written e, ap g.K.Sink.flushed e)) c.tell_pipe.ensures.status,
+      refl,
+    )
 
-pub returns-in-Task-clause-refused : goal.returns-in-Task-clause-refused
-returns-in-Task-clause-refused g c = λ line k r name why is texts nf bad.
-    let e : task c.in-Task.crd.now c.in-Task.rules.now (task_of c.in-Task.task) ≡ line = sym (ap line_of c.in-Task.is) ∙ is in
-    subst (λ (x : Line). Texts (g.F.Files.file c.args.files.now) (named_in x) k r → RefusesNamed (named_in x) k r name why
-    → (c.run_task.result ≡ REFUSED) ⊎ (c.run_task.result ≡ NO_MEMORY)) e
-    (λ t h. c.run_task.ensures.refused k r name why t nf h) texts bad
+pub returns-in-Err-clause-outcome : goal.returns-in-Err-clause-outcome
+returns-in-Err-clause-outcome g c =
+    rw c.in-Pipe.is (
+      unserved (stopped_so _ (named_of c.in-Pipe.named) c.in-Err.stop c.tell_stop.result c.in-Err.ensures.refused c.in-Err.ensures.cause c.tell_stop.ensures.status c.tell_stop.ensures.line) refl (refl, refl, refl),
+      refl,
+    )
 
-pub returns-in-Task-clause-refusal : goal.returns-in-Task-clause-refusal
-returns-in-Task-clause-refusal g c = λ line is bad.
-    let e : task c.in-Task.crd.now c.in-Task.rules.now (task_of c.in-Task.task) ≡ line = sym (ap line_of c.in-Task.is) ∙ is in
-    subst (λ (x : Line). (name : List ℕ) × (why : List ℕ) × ((crd rules : List ℕ) → Texts (g.F.Files.file c.args.files.now) (named_in x) crd rules → RefusesNamed (named_in x) crd rules name why)
-    × (¬ (Rose (g.E.Sink.faults c.args.errors.now) (g.E.Sink.faults c.run_task.new.errors)) → g.E.Sink.written c.run_task.new.errors ≡ append_known (g.E.Sink.written c.args.errors.now) (refusal_line name why))) e
-    (c.run_task.ensures.refusal bad)
+pub returns-in-Err-clause-errors : goal.returns-in-Err-clause-errors
+returns-in-Err-clause-errors g c =
+    λ other input ne.
+    subst (λ (text : List ℕ). g.E.Sink.written c.tell_stop.new.errors ≡ append_known (g.E.Sink.written c.args.errors.now) text)
+    (stopped_line c.in-Err.stop c.tell_stop.result c.tell_stop.ensures.status other) (c.tell_stop.ensures.line ne)
 
-pub returns-in-Drill-clause-talk : goal.returns-in-Drill-clause-talk
-returns-in-Drill-clause-talk g c = λ line k r b is texts left nf nr nw.
-    let e : drill c.in-Drill.start c.in-Drill.count ≡ line = sym (ap line_of c.in-Drill.is) ∙ is in
-    subst (λ (x : Line). Texts (g.F.Files.file c.args.files.now) (named_in x) k r
-    → Ran x k r (record { boot = c.args.boot; told = g.C.Clock.told c.args.clock.now }) b (g.K.Sink.written c.args.output.now) (g.K.Sink.written c.run_drill.new.output) c.run_drill.result
-    ⊎ (((c.run_drill.result ≡ REFUSED) × RefusesSome (named_in x) k r) ⊎ (c.run_drill.result ≡ NO_MEMORY))) e
-    (λ t. third _ _ _ (c.run_drill.ensures.ran k r t.0 t.1 nw)) texts
+pub returns-in-Ok-load_named-clause-outcome : goal.returns-in-Ok-load_named-clause-outcome
+returns-in-Ok-load_named-clause-outcome g c =
+    rw c.in-Task.is (
+      task_outcome _ (from_files c.in-Task.crd.now c.in-Task.rules.now) (task_of c.in-Task.task) (definition_of c.in-Ok-load_named.versions) c.do_task-came.result c.tell_task.result
+          c.in-Ok-load_named.ensures.served c.in-Ok-load_named.ensures.loaded
+          c.do_task-came.ensures.wrote c.do_task-came.ensures.failed c.do_task-came.ensures.cause c.do_task-came.ensures.silent
+          (λ e. (ap g.K.Sink.written e, ap g.K.Sink.flushed e)) c.do_task-came.ensures.end c.do_task-came.ensures.flushed
+          c.tell_task.ensures.status c.tell_task.ensures.line,
+      refl,
+    )
 
-pub returns-in-Drill-clause-refused : goal.returns-in-Drill-clause-refused
-returns-in-Drill-clause-refused g c = λ line k r name why is texts nf bad.
-    let e : drill c.in-Drill.start c.in-Drill.count ≡ line = sym (ap line_of c.in-Drill.is) ∙ is in
-    absurd (subst (λ (x : Line). RefusesNamed (named_in x) k r name why) (sym e) bad)
+pub returns-in-Ok-load_named-clause-errors : goal.returns-in-Ok-load_named-clause-errors
+returns-in-Ok-load_named-clause-errors g c =
+    λ other input ne.
+    subst (λ (text : List ℕ). g.E.Sink.written c.tell_task.new.errors ≡ append_known (g.E.Sink.written c.args.errors.now) text)
+    (tasks_line c.do_task-came.result c.tell_task.result c.tell_task.ensures.status input) (c.tell_task.ensures.line ne)
 
-pub returns-in-Drill-clause-refusal : goal.returns-in-Drill-clause-refusal
-returns-in-Drill-clause-refusal g c = λ line is bad.
-    absurd (never_else c.run_drill.result REFUSED c.run_drill.ensures.ends (λ e. omega (arith, e)) (λ e. omega (arith, e)) (λ e. omega (arith, e)) bad)
+pub returns-in-Err-load_named-clause-outcome : goal.returns-in-Err-load_named-clause-outcome
+returns-in-Err-load_named-clause-outcome g c =
+    rw c.in-Task.is (
+      unloaded_task (stopped_so _ (from_files c.in-Task.crd.now c.in-Task.rules.now) c.in-Err-load_named.stop c.tell_stop-in-Err-load_named.result c.in-Err-load_named.ensures.refused c.in-Err-load_named.ensures.cause c.tell_stop-in-Err-load_named.ensures.status c.tell_stop-in-Err-load_named.ensures.line) refl (refl, refl, refl),
+      refl,
+    )
 
-pub returns-in-Drill-clause-drilled : goal.returns-in-Drill-clause-drilled
-returns-in-Drill-clause-drilled g c = λ start count k r is texts e.
-    of_line c.in-Drill.start c.in-Drill.count start count (λ (x n : ℕ). Wrote (DrillsTexts k r x n) (g.K.Sink.written c.args.output.now) (g.K.Sink.written c.run_drill.new.output))
-    (sym (ap line_of c.in-Drill.is) ∙ is) (c.run_drill.ensures.wrote k r texts.0 texts.1 e)
+pub returns-in-Err-load_named-clause-errors : goal.returns-in-Err-load_named-clause-errors
+returns-in-Err-load_named-clause-errors g c =
+    λ other input ne.
+    subst (λ (text : List ℕ). g.E.Sink.written c.tell_stop-in-Err-load_named.new.errors ≡ append_known (g.E.Sink.written c.args.errors.now) text)
+    (stopped_line c.in-Err-load_named.stop c.tell_stop-in-Err-load_named.result c.tell_stop-in-Err-load_named.ensures.status other) (c.tell_stop-in-Err-load_named.ensures.line ne)
 
-pub returns-in-Drill-clause-drill_broke : goal.returns-in-Drill-clause-drill_broke
-returns-in-Drill-clause-drill_broke g c = λ start count k r is texts e.
-    of_line c.in-Drill.start c.in-Drill.count start count (λ (x n : ℕ). Broke (DrillsTexts k r x n) (g.K.Sink.written c.args.output.now) (g.K.Sink.written c.run_drill.new.output))
-    (sym (ap line_of c.in-Drill.is) ∙ is) (c.run_drill.ensures.broke k r texts.0 texts.1 e)
+pub returns-in-Drill-clause-outcome : goal.returns-in-Drill-clause-outcome
+returns-in-Drill-clause-outcome g c =
+    rw c.in-Drill.is (
+      drill_outcome _ c.in-Drill.start c.in-Drill.count c.do_drill-came.result c.tell_task-in-Drill.result
+          (λ crd rules texts. c.do_drill-came.ensures.wrote crd rules texts.0 texts.1) (λ crd rules texts. c.do_drill-came.ensures.failed crd rules texts.0 texts.1)
+          c.do_drill-came.ensures.cause c.do_drill-came.ensures.silent
+          (λ e. (ap g.K.Sink.written e, ap g.K.Sink.flushed e)) c.do_drill-came.ensures.flushed c.tell_task-in-Drill.ensures.status,
+      refl,
+      refl,
+      refl,
+    )
 
-pub returns-in-Serve-clause-talk : goal.returns-in-Serve-clause-talk
-returns-in-Serve-clause-talk g c = λ line k r b is texts left nf nr nw.
-    let e : serve (service_of c.in-Serve.service) ≡ line = sym (ap line_of c.in-Serve.is) ∙ is in
-    subst (λ (x : Line). Texts (g.F.Files.file c.args.files.now) (named_in x) k r
-    → Ran x k r (record { boot = c.args.boot; told = g.C.Clock.told c.args.clock.now }) b (g.K.Sink.written c.args.output.now) (g.K.Sink.written c.run_serve.new.output) c.run_serve.result
-    ⊎ (((c.run_serve.result ≡ REFUSED) × RefusesSome (named_in x) k r) ⊎ (c.run_serve.result ≡ NO_MEMORY))) e
-    (λ t. c.run_serve.ensures.talk k r t nf nw) texts
+pub returns-in-Drill-clause-errors : goal.returns-in-Drill-clause-errors
+returns-in-Drill-clause-errors g c =
+    λ other input ne.
+    subst (λ (text : List ℕ). g.E.Sink.written c.tell_task-in-Drill.new.errors ≡ append_known (g.E.Sink.written c.args.errors.now) text)
+    (tasks_line c.do_drill-came.result c.tell_task-in-Drill.result c.tell_task-in-Drill.ensures.status input) (c.tell_task-in-Drill.ensures.line ne)
 
-pub returns-in-Serve-clause-refused : goal.returns-in-Serve-clause-refused
-returns-in-Serve-clause-refused g c = λ line k r name why is texts nf bad.
-    let e : serve (service_of c.in-Serve.service) ≡ line = sym (ap line_of c.in-Serve.is) ∙ is in
-    subst (λ (x : Line). Texts (g.F.Files.file c.args.files.now) (named_in x) k r → RefusesNamed (named_in x) k r name why
-    → (c.run_serve.result ≡ REFUSED) ⊎ (c.run_serve.result ≡ NO_MEMORY)) e
-    (λ t h. c.run_serve.ensures.refused k r name why t nf h) texts bad
+pub returns-in-Ok-load_named-2-clause-outcome : goal.returns-in-Ok-load_named-2-clause-outcome
+returns-in-Ok-load_named-2-clause-outcome g c =
+    rw c.in-Serve.is (
+      serve_outcome _ (from_files c.in-Serve.service.crd.now c.in-Serve.service.rules.now) c.in-Serve.service.connections (definition_of c.in-Ok-load_named-2.versions) c.serve_set-came.result c.tell_served.result
+          c.in-Ok-load_named-2.ensures.served c.in-Ok-load_named-2.ensures.loaded
+          c.serve_set-came.ensures.done c.serve_set-came.ensures.told c.serve_set-came.ensures.silent c.serve_set-came.ensures.unheard
+          c.serve_set-came.ensures.untold c.serve_set-came.ensures.untouched c.tell_served.ensures.status,
+      refl,
+    )
 
-pub returns-in-Serve-clause-refusal : goal.returns-in-Serve-clause-refusal
-returns-in-Serve-clause-refusal g c = λ line is bad.
-    let e : serve (service_of c.in-Serve.service) ≡ line = sym (ap line_of c.in-Serve.is) ∙ is in
-    subst (λ (x : Line). (name : List ℕ) × (why : List ℕ) × ((crd rules : List ℕ) → Texts (g.F.Files.file c.args.files.now) (named_in x) crd rules → RefusesNamed (named_in x) crd rules name why)
-    × (¬ (Rose (g.E.Sink.faults c.args.errors.now) (g.E.Sink.faults c.run_serve.new.errors)) → g.E.Sink.written c.run_serve.new.errors ≡ append_known (g.E.Sink.written c.args.errors.now) (refusal_line name why))) e
-    (c.run_serve.ensures.refusal bad)
+pub returns-in-Err-load_named-2-clause-outcome : goal.returns-in-Err-load_named-2-clause-outcome
+returns-in-Err-load_named-2-clause-outcome g c =
+    rw c.in-Serve.is (
+      unloaded_service (stopped_so _ (from_files c.in-Serve.service.crd.now c.in-Serve.service.rules.now) c.in-Err-load_named-2.stop c.tell_stop-in-Err-load_named-2.result c.in-Err-load_named-2.ensures.refused c.in-Err-load_named-2.ensures.cause c.tell_stop-in-Err-load_named-2.ensures.status c.tell_stop-in-Err-load_named-2.ensures.line) (refl, refl, refl) (refl, refl),
+      refl,
+    )
 
-pub returns-in-Serve-clause-serves : goal.returns-in-Serve-clause-serves
-returns-in-Serve-clause-serves g c = λ s is.
-    let e : serve (service_of c.in-Serve.service) ≡ serve s = sym (ap line_of c.in-Serve.is) ∙ is in
-    let same : service_of c.in-Serve.service ≡ s = cc in
-    subst (λ (x : Service). RunsService x.connections
-    (λ count. (crd rules : List ℕ) → Texts (g.F.Files.file c.args.files.now) (from_files x.crd x.rules) crd rules
-    → ServesAll crd rules (record { boot = c.args.boot; told = g.C.Clock.told c.args.clock.now }) count (g.A.Ears.origins c.args.ears.now) (g.A.Ears.origins c.run_serve.new.ears) (g.A.Ears.returned c.args.ears.now) (g.A.Ears.returned c.run_serve.new.ears))
-    (Announced (g.K.Sink.written c.args.output.now) (g.K.Sink.written c.run_serve.new.output) (g.K.Sink.flushed c.run_serve.new.output)) (Rose (g.A.Ears.faults c.args.ears.now) (g.A.Ears.faults c.run_serve.new.ears))
-    ((g.A.Ears.origins c.run_serve.new.ears ≡ g.A.Ears.origins c.args.ears.now) × (g.A.Ears.returned c.run_serve.new.ears ≡ g.A.Ears.returned c.args.ears.now)) c.run_serve.result) same
-    c.run_serve.ensures.serves
-
-pub returns-in-Serve-clause-ears : goal.returns-in-Serve-clause-ears
-returns-in-Serve-clause-ears g c = λ line is none.
-    let e : serve (service_of c.in-Serve.service) ≡ line = sym (ap line_of c.in-Serve.is) ∙ is in
-    absurd (subst (λ (x : Line). HearsNone x) (sym e) none)
-
-pub returns-in-Serve-clause-memory : goal.returns-in-Serve-clause-memory
-returns-in-Serve-clause-memory g c = λ line is none wanted.
-    let e : serve (service_of c.in-Serve.service) ≡ line = sym (ap line_of c.in-Serve.is) ∙ is in
-    absurd (subst (λ (x : Line). HearsNone x) (sym e) none)
-
-pub returns-in-Pipe-clause-talk : goal.returns-in-Pipe-clause-talk
-returns-in-Pipe-clause-talk g c = λ line k r b is texts left nf nr nw.
-    let e : pipe (named_of c.in-Pipe.named) c.in-Pipe.turns ≡ line = sym (ap line_of c.in-Pipe.is) ∙ is in
-    subst (λ (x : Line). Texts (g.F.Files.file c.args.files.now) (named_in x) k r
-    → Ran x k r (record { boot = c.args.boot; told = g.C.Clock.told c.args.clock.now }) b (g.K.Sink.written c.args.output.now) (g.K.Sink.written c.run_pipe.new.output) c.run_pipe.result
-    ⊎ (((c.run_pipe.result ≡ REFUSED) × RefusesSome (named_in x) k r) ⊎ (c.run_pipe.result ≡ NO_MEMORY))) e
-    (λ t. c.run_pipe.ensures.talk k r b t left nf nr nw) texts
-
-pub returns-in-Pipe-clause-held : goal.returns-in-Pipe-clause-held
-returns-in-Pipe-clause-held g c = λ named turns is.
-    of_pipe (named_of c.in-Pipe.named) named c.in-Pipe.turns turns
-    (λ (n : Named) (t : ℕ). WasHeld (λ end. (k r b : List ℕ) → Texts (g.F.Files.file c.args.files.now) n k r → g.S.Source.left c.args.input.now ≡ Some b
-    → Converses k r t (record { boot = c.args.boot; told = g.C.Clock.told c.args.clock.now }) b (g.K.Sink.written c.args.output.now) (g.K.Sink.written c.run_pipe.new.output) end) (Rose (g.S.Source.faults c.args.input.now) (g.S.Source.faults c.run_pipe.new.input)) (Rose (g.K.Sink.faults c.args.output.now) (g.K.Sink.faults c.run_pipe.new.output)) c.run_pipe.result
-    ⊎ (IsUnheld (Rose (g.F.Files.faults c.args.files.now) (g.F.Files.faults c.run_pipe.new.files)) c.run_pipe.result × (c.run_pipe.new.input ≡ c.args.input.now) × (c.run_pipe.new.output ≡ c.args.output.now)))
-    (sym (ap line_of c.in-Pipe.is) ∙ is) c.run_pipe.ensures.held
-
-pub returns-in-Pipe-clause-unread : goal.returns-in-Pipe-clause-unread
-returns-in-Pipe-clause-unread g c = λ named turns k r b is texts left bad.
-    of_pipe (named_of c.in-Pipe.named) named c.in-Pipe.turns turns
-    (λ (n : Named) (t : ℕ). Texts (g.F.Files.file c.args.files.now) n k r → ((Rose (g.F.Files.faults c.args.files.now) (g.F.Files.faults c.run_pipe.new.files)) × (c.run_pipe.new.input ≡ c.args.input.now) × (c.run_pipe.new.output ≡ c.args.output.now))
-    ⊎ ((Rose (g.S.Source.faults c.args.input.now) (g.S.Source.faults c.run_pipe.new.input)) × Converses k r t (record { boot = c.args.boot; told = g.C.Clock.told c.args.clock.now }) b (g.K.Sink.written c.args.output.now) (g.K.Sink.written c.run_pipe.new.output) ReadFaulted))
-    (sym (ap line_of c.in-Pipe.is) ∙ is) (λ h. c.run_pipe.ensures.unread k r b h left bad) texts
-
-pub returns-in-Pipe-clause-unwritten : goal.returns-in-Pipe-clause-unwritten
-returns-in-Pipe-clause-unwritten g c = λ named turns k r b is texts left bad.
-    of_pipe (named_of c.in-Pipe.named) named c.in-Pipe.turns turns
-    (λ (n : Named) (t : ℕ). Texts (g.F.Files.file c.args.files.now) n k r → Converses k r t (record { boot = c.args.boot; told = g.C.Clock.told c.args.clock.now }) b (g.K.Sink.written c.args.output.now) (g.K.Sink.written c.run_pipe.new.output) WriteFaulted)
-    (sym (ap line_of c.in-Pipe.is) ∙ is) (λ h. c.run_pipe.ensures.unwritten k r b h left bad) texts
-
-pub returns-in-Task-clause-bad_input : goal.returns-in-Task-clause-bad_input
-returns-in-Task-clause-bad_input g c = λ d s t is bad.
-    of_task c.in-Task.crd.now d c.in-Task.rules.now s (task_of c.in-Task.task) t
-    (λ (x y : List ℕ) (z : Task). (why : List ℕ) × ((k r b : List ℕ) → Texts (g.F.Files.file c.args.files.now) (from_files x y) k r → g.S.Source.left c.args.input.now ≡ Some b → RefusesTexts k r z b why)
-    × (¬ (Rose (g.E.Sink.faults c.args.errors.now) (g.E.Sink.faults c.run_task.new.errors)) → g.E.Sink.written c.run_task.new.errors ≡ append_known (g.E.Sink.written c.args.errors.now) (line_saying why)))
-    (sym (ap line_of c.in-Task.is) ∙ is) (c.run_task.ensures.bad_input bad)
-
-pub returns-in-Task-clause-ears_fault : goal.returns-in-Task-clause-ears_fault
-returns-in-Task-clause-ears_fault g c = λ bad. absurd (c.run_task.ensures.no_ears bad)
+pub returns-in-Err-load_named-2-clause-errors : goal.returns-in-Err-load_named-2-clause-errors
+returns-in-Err-load_named-2-clause-errors g c =
+    λ other input ne.
+    subst (λ (text : List ℕ). g.E.Sink.written c.tell_stop-in-Err-load_named-2.new.errors ≡ append_known (g.E.Sink.written c.args.errors.now) text)
+    (stopped_line c.in-Err-load_named-2.stop c.tell_stop-in-Err-load_named-2.result c.tell_stop-in-Err-load_named-2.ensures.status other) (c.tell_stop-in-Err-load_named-2.ensures.line ne)

@@ -1,0 +1,184 @@
+-- What a run of each line comes to, from what its parts came to.
+use Rattle.std.proofs.Common.{◌≡◌, ◌≢◌, ◌<◌, ◌⊎◌, ℕ, List, Option, Some, Result, Ok, Err, inl, inr, ap, sym, subst, arith}
+use Rattle.std.specs.Prelude.{IfOk, IfErr, OnOk, OnErr, IfSome}
+use Rattle.std.specs.Io.KnownBytes.{IsAtEnd}
+use Rattle.kj_value.specs.declared.error.NoMemory.{NoMemory}
+use Rattle.crd_loading.specs.Load.{Loads}
+use Rattle.crd_loading.specs.Set.{set_of}
+use Rattle.crd_loading.specs.View.{LoadedView}
+use Rattle.crd_meaning.specs.Definition.{Definition}
+use Rattle.kubeconv_cmd.specs.Lines.{Named, example, Task, Line, pipe, task, drill, serve}
+use Rattle.kubeconv_cmd.specs.Listening.{Told, ToldSome, Announced}
+use Rattle.kubeconv_cmd.specs.Beside.{ServesAll}
+use Rattle.kubeconv_cmd.specs.Tasks.{AnswersDocument, RefusesDocument, Wrote, Broke}
+use Rattle.http_front.specs.Link.{UnlessUnwritten}
+use Rattle.kubeconv_cmd.specs.Serving.{Blames, Converses, DrillsTexts, link_end}
+use Rattle.kubeconv_cmd.specs.Refusal.{RefusesNamed}
+use Rattle.kubeconv_cmd.specs.Status.{error_line, pipe_status}
+use Rattle.kubeconv_cmd.specs.Outcome.{World, OfTexts, OfInput, HasLoaded, HasHandedOn, Says, IsSilent, HearsNobody, AnswersSo, Stopped, unreadable, refused, wanting, PipeOutcome, talked, unserved, TaskOutcome, wrote_line, broke_line, refused_input, unread_input, wanting_task, unloaded_task, DrillOutcome, wrote_drill, broke_drill, wanting_drill, ServeOutcome, answered, answered_fewer, unheard, untold, wanting_service, unloaded_service, Outcome, FilesFail, InputFails, OutputFails, EarsFail, InputStays, OutputStays}
+use Rattle.kubeconv_cmd.specs.Ends.{OnRefused, OnUnread, stop_status, stop_line, talk_status, why_text}
+use Rattle.kubeconv_cmd.specs.Halts.{OnHalt, Unwritten, task_status, task_line}
+use Rattle.kubeconv_cmd.specs.Served.{OnUnheard, UnlessUnheard, OnUntold, Silent, served_status}
+use Rattle.kubeconv_cmd.specs.declared.pipe.PipeEnd.{PipeEnd}
+use Rattle.kubeconv_cmd.specs.declared.pipe.PipeEnd.TheVariants.{Closed, Torn, Refused, Spent, ReadFault, WriteFault}
+use Rattle.kubeconv_cmd.specs.declared.stop.Stop.{Stop}
+use Rattle.kubeconv_cmd.specs.declared.stop.Stop.TheVariants as stops
+use Rattle.kubeconv_cmd.specs.declared.halt.Halt.{Halt}
+use Rattle.kubeconv_cmd.specs.declared.halt.Halt.TheVariants as halts
+use Rattle.kubeconv_cmd.specs.declared.serve_line.Unserved.{Unserved}
+use Rattle.kubeconv_cmd.specs.declared.serve_line.Unserved.TheVariants as ends
+use Rattle.kubeconv_cmd.specs.declared.status.TheConstants.{BAD_WORDS, REFUSED, BAD_INPUT, LISTEN_FAILED}
+use Rattle.kubeconv_cmd.proofs.TaskLemmas.{wrote_texts, broke_texts, refuses_texts}
+
+-- what a line comes to is what an equal line does
+pub at_line : {F S K A : Type 0} (w : World F S K A) (a b : Line) (s : ℕ) → a ≡ b → Outcome w a s → Outcome w b s
+at_line w a b s is out = subst (λ (l : Line). Outcome w l s) is out
+
+-- the texts that the files tell are a loaded definition
+abbrev pub Found : {F S K A : Type 0} → World F S K A → Named → Definition → Type 0
+Found w named d = OfTexts w named (λ crd rules. (l : LoadedView) × Loads crd rules l × (d ≡ set_of l))
+
+-- on an output that stays as it was nothing is written, and nothing handed on
+abbrev pub StaysSilent : {F S K A : Type 0} → World F S K A → Type 0
+StaysSilent w = (OutputStays w) → (w.written ≡ w.written_before) × (w.flushed ≡ w.flushed_before)
+
+silent_so : {F S K A : Type 0} (w : World F S K A) → (OutputStays w) → StaysSilent w → IsSilent w
+silent_so w stays same = (stays, (same stays).0, (same stays).1)
+
+-- ---- no definition
+
+pub stopped_so : {F S K A : Type 0} (w : World F S K A) (named : Named) (stop : Stop) (s : ℕ) → OfTexts w named (λ crd rules. OnRefused stop (RefusesNamed named crd rules)) → OnUnread stop (FilesFail w)
+    → s ≡ stop_status stop → Says w (stop_line stop) → Stopped w named s
+stopped_so w named stops.ReadFailed s bad fails is says = unreadable is fails
+stopped_so w named (stops.Refused file why) s bad fails is says = refused is (record { name = file.now; why = why_text why; refuses = bad; says = says })
+stopped_so w named stops.NoMemory s bad fails is says = wanting is
+
+pub stopped_line : (stop : Stop) (s : ℕ) → s ≡ stop_status stop → s ≢ REFUSED → stop_line stop ≡ error_line s
+stopped_line stops.ReadFailed s is other = ap error_line (sym is)
+stopped_line (stops.Refused file why) s is other = absurd (other is)
+stopped_line stops.NoMemory s is other = ap error_line (sym is)
+
+-- ---- `pipe`
+
+pub pipe_outcome : {F S K A : Type 0} (w : World F S K A) (named : Named) (turns : ℕ) (came : Result PipeEnd NoMemory) (s : ℕ) → HasLoaded w named
+    → OfInput w named (λ crd rules b. IfOk came (Converses crd rules turns w.start b w.written_before w.written))
+    → IfOk came (λ end. Blames end (InputFails w) (OutputFails w)) → IfOk came (λ end. UnlessUnwritten (link_end end) (HasHandedOn w))
+    → OnErr came ((InputStays w) × (OutputStays w)) → StaysSilent w
+    → s ≡ talk_status came → PipeOutcome w named turns s
+pipe_outcome w named turns (Ok end) s loaded talk blames flushed untouched same is =
+    talked loaded (record { end = end; conversed = talk; blames = blames; hands_on = flushed; is_status = is })
+pipe_outcome w named turns (Err e) s loaded talk blames flushed untouched same is = unserved (wanting is) untouched.0 (silent_so w untouched.1 same)
+
+-- ---- `convert` and `review`
+
+pub task_outcome : {F S K A : Type 0} (w : World F S K A) (named : Named) (t : Task) (d : Definition) (came : Result Unit Halt) (s : ℕ) → HasLoaded w named → Found w named d
+    → ((b : List ℕ) → w.input ≡ Some b → OnOk came (Wrote (AnswersDocument d t b) w.written_before w.written))
+    → ((b : List ℕ) → w.input ≡ Some b → IfErr came (OnHalt (record { reads = (InputFails w); writes = Broke (AnswersDocument d t b) w.written_before w.written; input = RefusesDocument d b t })))
+    → IfErr came (OnHalt (record { reads = (InputFails w); writes = (OutputFails w); input = λ _. Unit {0} }))
+    → IfErr came (Unwritten (OutputStays w)) → StaysSilent w
+    → OnOk came (IsAtEnd w.left) → OnOk came (w.flushed ≡ w.written)
+    → s ≡ task_status came → Says w (task_line came) → TaskOutcome w named t s
+task_outcome w named t d (Ok u) s loaded found wrote failed cause silent same end flushed is says =
+    wrote_line is loaded (λ crd rules b texts known. let f = found crd rules texts in wrote_texts crd rules f.0 d t b w.written_before w.written f.1 f.2 (wrote b known)) end flushed
+task_outcome w named t d (Err halts.ReadFailed) s loaded found wrote failed cause silent same end flushed is says = unread_input is cause loaded (silent_so w silent same)
+task_outcome w named t d (Err halts.WriteFailed) s loaded found wrote failed cause silent same end flushed is says =
+    broke_line is cause loaded (λ crd rules b texts known. let f = found crd rules texts in broke_texts crd rules f.0 d t b w.written_before w.written f.1 f.2 (failed b known))
+task_outcome w named t d (Err (halts.Input why)) s loaded found wrote failed cause silent same end flushed is says =
+    refused_input why.bytes is loaded (λ crd rules b texts known. let f = found crd rules texts in refuses_texts crd rules f.0 d t b why.bytes f.1 f.2 (failed b known)) says (silent_so w silent same)
+task_outcome w named t d (Err halts.NoMemory) s loaded found wrote failed cause silent same end flushed is says = wanting_task is (silent_so w silent same)
+
+pub tasks_line : (came : Result Unit Halt) (s : ℕ) → s ≡ task_status came → s ≢ BAD_INPUT → task_line came ≡ error_line s
+tasks_line (Ok u) s is other = ap error_line (sym is)
+tasks_line (Err halts.ReadFailed) s is other = ap error_line (sym is)
+tasks_line (Err halts.WriteFailed) s is other = ap error_line (sym is)
+tasks_line (Err (halts.Input why)) s is other = absurd (other is)
+tasks_line (Err halts.NoMemory) s is other = ap error_line (sym is)
+
+-- ---- `drill`
+
+pub drill_outcome : {F S K A : Type 0} (w : World F S K A) (start count : ℕ) (came : Result Unit Halt) (s : ℕ)
+    → OfTexts w example (λ crd rules. OnOk came (Wrote (DrillsTexts crd rules start count) w.written_before w.written))
+    → OfTexts w example (λ crd rules. IfErr came (OnHalt (record { reads = ⊥; writes = Broke (DrillsTexts crd rules start count) w.written_before w.written; input = λ _. ⊥ })))
+    → IfErr came (OnHalt (record { reads = ⊥; writes = (OutputFails w); input = λ _. ⊥ }))
+    → IfErr came (Unwritten (OutputStays w)) → StaysSilent w → OnOk came (w.flushed ≡ w.written)
+    → s ≡ task_status came → DrillOutcome w start count s
+drill_outcome w start count (Ok u) s wrote failed cause silent same flushed is = wrote_drill is wrote flushed
+drill_outcome w start count (Err halts.ReadFailed) s wrote failed cause silent same flushed is = absurd cause
+drill_outcome w start count (Err halts.WriteFailed) s wrote failed cause silent same flushed is = broke_drill is cause failed
+drill_outcome w start count (Err (halts.Input why)) s wrote failed cause silent same flushed is = absurd cause
+drill_outcome w start count (Err halts.NoMemory) s wrote failed cause silent same flushed is = wanting_drill is (silent_so w silent same)
+
+-- ---- `serve`
+
+-- the texts that a definition is of were served so
+abbrev pub ServesSet : {F S K A : Type 0} → World F S K A → Definition → ℕ → Type 0
+ServesSet w d count = (crd rules : List ℕ) (l : LoadedView) → Loads crd rules l → d ≡ set_of l
+    → ServesAll crd rules w.start count w.handed_before w.handed w.returned_before w.returned
+
+serves_so : {F S K A : Type 0} (w : World F S K A) (named : Named) (d : Definition) (count : ℕ) → Found w named d → ServesSet w d count → AnswersSo w named count
+serves_so w named d count found serves crd rules texts = let f = found crd rules texts in serves crd rules f.0 f.1 f.2
+
+heard_fewer : {F S K A : Type 0} (w : World F S K A) (named : Named) (connections : Option ℕ) (d : Definition) (s : ℕ) → HasLoaded w named → Found w named d → s ≡ LISTEN_FAILED → (EarsFail w)
+    → (w.written ≡ w.written_before) ⊎ Told w.written_before w.written
+    → HearsNobody w ⊎ ((count : ℕ) × IfSome connections (λ n. count < n) × ServesSet w d count × Announced w.written_before w.written w.flushed)
+    → ServeOutcome w named connections s
+heard_fewer w named connections d s loaded found is fails silent (inl nobody) = unheard is fails loaded silent nobody
+heard_fewer w named connections d s loaded found is fails silent (inr f) = answered_fewer f.0 is fails f.1 loaded f.3 (serves_so w named d f.0 found f.2)
+
+pub serve_outcome : {F S K A : Type 0} (w : World F S K A) (named : Named) (connections : Option ℕ) (d : Definition) (came : Result Unit Unserved) (s : ℕ) → HasLoaded w named → Found w named d
+    → OnOk came ((count : ℕ) × (connections ≡ Some count) × ServesSet w d count) → OnOk came (Announced w.written_before w.written w.flushed)
+    → IfErr came (Silent (w.written ≡ w.written_before) (ToldSome w.written_before w.written) (Told w.written_before w.written))
+    → IfErr came (OnUnheard ((EarsFail w) × (HearsNobody w ⊎ ((count : ℕ) × IfSome connections (λ n. count < n) × ServesSet w d count × Announced w.written_before w.written w.flushed))))
+    → IfErr came (OnUntold (OutputFails w)) → IfErr came (UnlessUnheard (HearsNobody w))
+    → s ≡ served_status came → ServeOutcome w named connections s
+serve_outcome w named connections d (Ok u) s loaded found done told silent fewer front untouched is = answered done.0 is done.1 loaded told (serves_so w named d done.0 found done.2)
+serve_outcome w named connections d (Err ends.NotListening) s loaded found done told silent fewer front untouched is =
+    heard_fewer w named connections d s loaded found is fewer.0 silent fewer.1
+serve_outcome w named connections d (Err ends.WriteFailed) s loaded found done told silent fewer front untouched is = untold is front loaded silent untouched
+serve_outcome w named connections d (Err ends.NoMemory) s loaded found done told silent fewer front untouched is = wanting_service is silent untouched
+
+-- ---- no line ends as words do that are no line
+
+never_stopped : {F S K A : Type 0} (w : World F S K A) (named : Named) (s : ℕ) → Stopped w named s → s ≡ BAD_WORDS → ⊥
+never_stopped w named s (unreadable is fails) e = omega (arith, is, e)
+never_stopped w named s (refused is blames) e = omega (arith, is, e)
+never_stopped w named s (wanting is) e = omega (arith, is, e)
+
+never_talked : (end : PipeEnd) (s : ℕ) → s ≡ pipe_status end → s ≡ BAD_WORDS → ⊥
+never_talked Closed s is e = omega (arith, is, e)
+never_talked (Torn held) s is e = omega (arith, is, e)
+never_talked (Refused f) s is e = omega (arith, is, e)
+never_talked Spent s is e = omega (arith, is, e)
+never_talked ReadFault s is e = omega (arith, is, e)
+never_talked WriteFault s is e = omega (arith, is, e)
+
+never_piped : {F S K A : Type 0} (w : World F S K A) (named : Named) (turns s : ℕ) → PipeOutcome w named turns s → s ≡ BAD_WORDS → ⊥
+never_piped w named turns s (talked loaded held) e = never_talked held.end s held.is_status e
+never_piped w named turns s (unserved stopped input output) e = never_stopped w named s stopped e
+
+never_tasked : {F S K A : Type 0} (w : World F S K A) (named : Named) (t : Task) (s : ℕ) → TaskOutcome w named t s → s ≡ BAD_WORDS → ⊥
+never_tasked w named t s (wrote_line is loaded wrote end flushed) e = omega (arith, is, e)
+never_tasked w named t s (broke_line is fails loaded broke) e = omega (arith, is, e)
+never_tasked w named t s (refused_input why is loaded bad says silent) e = omega (arith, is, e)
+never_tasked w named t s (unread_input is fails loaded silent) e = omega (arith, is, e)
+never_tasked w named t s (wanting_task is silent) e = omega (arith, is, e)
+never_tasked w named t s (unloaded_task stopped input output) e = never_stopped w named s stopped e
+
+never_drilled : {F S K A : Type 0} (w : World F S K A) (start count s : ℕ) → DrillOutcome w start count s → s ≡ BAD_WORDS → ⊥
+never_drilled w start count s (wrote_drill is wrote flushed) e = omega (arith, is, e)
+never_drilled w start count s (broke_drill is fails broke) e = omega (arith, is, e)
+never_drilled w start count s (wanting_drill is silent) e = omega (arith, is, e)
+
+never_served : {F S K A : Type 0} (w : World F S K A) (named : Named) (connections : Option ℕ) (s : ℕ) → ServeOutcome w named connections s → s ≡ BAD_WORDS → ⊥
+never_served w named connections s (answered count is all loaded told serves) e = omega (arith, is, e)
+never_served w named connections s (answered_fewer count is fails few loaded told serves) e = omega (arith, is, e)
+never_served w named connections s (unheard is fails loaded told nobody) e = omega (arith, is, e)
+never_served w named connections s (untold is fails loaded told nobody) e = omega (arith, is, e)
+never_served w named connections s (wanting_service is told nobody) e = omega (arith, is, e)
+never_served w named connections s (unloaded_service stopped silent nobody) e = never_stopped w named s stopped e
+
+pub never_bad_words : {F S K A : Type 0} (w : World F S K A) (line : Line) (s : ℕ) → Outcome w line s → s ≡ BAD_WORDS → ⊥
+never_bad_words w (pipe named turns) s out e = never_piped w named turns s out.0 e
+never_bad_words w (task c r t) s out e = never_tasked w _ t s out.0 e
+never_bad_words w (drill start count) s out e = never_drilled w start count s out.0 e
+never_bad_words w (serve v) s out e = never_served w _ v.connections s out.0 e

@@ -1,0 +1,200 @@
+-- What a run of a line comes to, whatever the outside does: by cases on the line, and on how it ended. A new line is a new case.
+use Rattle.std.specs.Prelude.{◌≡◌, ◌<◌, ◌⊎◌, ℕ, List, Option, Some, IfSome}
+use Rattle.std.specs.Io.KnownBytes.{append_known, IsAtEnd}
+use Rattle.edge_io.specs.Causes.{Rose}
+use Rattle.edge_io.specs.Connections.{Origin, Ending}
+use Rattle.kubeconv_cmd.specs.Lines.{Named, from_files, example, Task, Line, pipe, task, drill, serve, Texts}
+use Rattle.kubeconv_cmd.specs.Listening.{Told, ToldSome, Announced}
+use Rattle.kubeconv_cmd.specs.Beside.{ServesAll}
+use Rattle.kubeconv_cmd.specs.Tasks.{AnswersTexts, RefusesTexts, Wrote, Broke}
+use Rattle.kubeconv_cmd.specs.Serving.{Start, Converses, DrillsTexts, WasHeld}
+use Rattle.kubeconv_cmd.specs.Refusal.{RefusesNamed, IsServed}
+use Rattle.kubeconv_cmd.specs.Status.{line_saying, refusal_line}
+use Rattle.kubeconv_cmd.specs.declared.status.TheConstants.{DONE, REFUSED, BAD_INPUT, READ_FAILED, WRITE_FAILED, NO_MEMORY, LISTEN_FAILED}
+
+-- ---- the outside
+
+-- The outside as a run found it, and as the run left it. F, S, K and A are the states that files, an input, an output and ears can
+-- be in. Where the outside doesn't tell what a file holds, or bytes, or connections, there is none.
+pub record World (F S K A : Type 0) : Type 0 where
+  -- what the files hold, which no run changes
+  pub file : List ℕ → Option (List ℕ)
+  pub start : Start
+  -- the bytes of the input, and what the run left of them
+  pub input : Option (List ℕ)
+  pub left : Option (List ℕ)
+  -- what was written on the output, and what of that was handed on
+  pub written_before : Option (List ℕ)
+  pub written : Option (List ℕ)
+  pub flushed_before : Option (List ℕ)
+  pub flushed : Option (List ℕ)
+  -- what was written on the error stream
+  pub said_before : Option (List ℕ)
+  pub said : Option (List ℕ)
+  -- the connections that the ears had handed out, and those that they had got back
+  pub handed_before : Option (List Origin)
+  pub handed : Option (List Origin)
+  pub returned_before : Option (List Ending)
+  pub returned : Option (List Ending)
+  -- how often each had failed
+  pub files_faults_before : ℕ
+  pub files_faults : ℕ
+  pub input_faults_before : ℕ
+  pub input_faults : ℕ
+  pub output_faults_before : ℕ
+  pub output_faults : ℕ
+  pub errors_faults_before : ℕ
+  pub errors_faults : ℕ
+  pub ears_faults_before : ℕ
+  pub ears_faults : ℕ
+  -- the state of each
+  pub files_before : F
+  pub files : F
+  pub source_before : S
+  pub source : S
+  pub sink_before : K
+  pub sink : K
+  pub ears_before : A
+  pub ears : A
+
+-- it failed during the run: the count of its faults rose
+abbrev pub FilesFail : {F S K A : Type 0} → World F S K A → Type 0
+FilesFail w = Rose w.files_faults_before w.files_faults
+
+abbrev pub InputFails : {F S K A : Type 0} → World F S K A → Type 0
+InputFails w = Rose w.input_faults_before w.input_faults
+
+abbrev pub OutputFails : {F S K A : Type 0} → World F S K A → Type 0
+OutputFails w = Rose w.output_faults_before w.output_faults
+
+abbrev pub ErrorsFail : {F S K A : Type 0} → World F S K A → Type 0
+ErrorsFail w = Rose w.errors_faults_before w.errors_faults
+
+abbrev pub EarsFail : {F S K A : Type 0} → World F S K A → Type 0
+EarsFail w = Rose w.ears_faults_before w.ears_faults
+
+-- the run left it as it was
+abbrev pub FilesStay : {F S K A : Type 0} → World F S K A → Type 0
+FilesStay w = w.files ≡ w.files_before
+
+abbrev pub InputStays : {F S K A : Type 0} → World F S K A → Type 0
+InputStays w = w.source ≡ w.source_before
+
+abbrev pub OutputStays : {F S K A : Type 0} → World F S K A → Type 0
+OutputStays w = w.sink ≡ w.sink_before
+
+abbrev pub EarsStay : {F S K A : Type 0} → World F S K A → Type 0
+EarsStay w = w.ears ≡ w.ears_before
+
+-- P holds of the two texts of the definition that the line names, where the files tell them
+abbrev pub OfTexts : {F S K A : Type 0} → World F S K A → Named → (List ℕ → List ℕ → Type 0) → Type 0
+OfTexts w named P = (crd rules : List ℕ) → Texts w.file named crd rules → P crd rules
+
+-- P holds of these and of the bytes of the input, where the input tells them too
+abbrev pub OfInput : {F S K A : Type 0} → World F S K A → Named → (List ℕ → List ℕ → List ℕ → Type 0) → Type 0
+OfInput w named P = (crd rules b : List ℕ) → Texts w.file named crd rules → w.input ≡ Some b → P crd rules b
+
+-- the two texts are a definition, and it was loaded
+abbrev pub HasLoaded : {F S K A : Type 0} → World F S K A → Named → Type 0
+HasLoaded w named = OfTexts w named (λ crd rules. IsServed named crd rules)
+
+-- this was written on the error stream, unless that failed
+abbrev pub Says : {F S K A : Type 0} → World F S K A → List ℕ → Type 0
+Says w line = ¬ (ErrorsFail w) → w.said ≡ append_known w.said_before line
+
+-- what is written on the output is handed on, if what had been written before was
+abbrev pub HasHandedOn : {F S K A : Type 0} → World F S K A → Type 0
+HasHandedOn w = w.flushed_before ≡ w.written_before → w.flushed ≡ w.written
+
+-- nothing was written on the output, and nothing handed on
+abbrev pub IsSilent : {F S K A : Type 0} → World F S K A → Type 0
+IsSilent w = (OutputStays w) × (w.written ≡ w.written_before) × (w.flushed ≡ w.flushed_before)
+
+-- no connection was handed out, and none was given back
+abbrev pub HearsNobody : {F S K A : Type 0} → World F S K A → Type 0
+HearsNobody w = (w.handed ≡ w.handed_before) × (w.returned ≡ w.returned_before)
+
+-- ---- no definition
+
+-- something of a file is refused, and the error line names the file and says why
+pub record BlamesFile {F S K A : Type 0} (w : World F S K A) (named : Named) : Type 0 where
+  pub name : List ℕ
+  pub why : List ℕ
+  pub refuses : OfTexts w named (λ crd rules. RefusesNamed named crd rules name why)
+  pub says : Says w (refusal_line name why)
+
+-- Why the line did nothing: a file couldn't be read, something of one is refused, or memory was wanted, for the definition or for
+-- what works by it.
+pub data Stopped {F S K A : Type 0} (w : World F S K A) (named : Named) (status : ℕ) : Type 0 where
+  unreadable : status ≡ READ_FAILED → (FilesFail w) → Stopped w named status
+  refused : status ≡ REFUSED → BlamesFile w named → Stopped w named status
+  wanting : status ≡ NO_MEMORY → Stopped w named status
+
+-- ---- each line
+
+pub data PipeOutcome {F S K A : Type 0} (w : World F S K A) (named : Named) (turns status : ℕ) : Type 0 where
+  -- a conversation was held to some end
+  talked : HasLoaded w named
+      → WasHeld (λ end. OfInput w named (λ crd rules b. Converses crd rules turns w.start b w.written_before w.written end)) (InputFails w) (OutputFails w) (HasHandedOn w) status
+      → PipeOutcome w named turns status
+  -- none was: nothing was read of the input, and nothing written
+  unserved : Stopped w named status → (InputStays w) → IsSilent w → PipeOutcome w named turns status
+
+pub data TaskOutcome {F S K A : Type 0} (w : World F S K A) (named : Named) (t : Task) (status : ℕ) : Type 0 where
+  -- the whole input was read, and its line was written and handed on
+  wrote_line : status ≡ DONE → HasLoaded w named → OfInput w named (λ crd rules b. Wrote (AnswersTexts crd rules t b) w.written_before w.written)
+      → IsAtEnd w.left → w.flushed ≡ w.written → TaskOutcome w named t status
+  -- a front of its line was written, and then the output failed
+  broke_line : status ≡ WRITE_FAILED → (OutputFails w) → HasLoaded w named → OfInput w named (λ crd rules b. Broke (AnswersTexts crd rules t b) w.written_before w.written)
+      → TaskOutcome w named t status
+  -- the input is refused, and the error line says why
+  refused_input : (why : List ℕ) → status ≡ BAD_INPUT → HasLoaded w named → OfInput w named (λ crd rules b. RefusesTexts crd rules t b why)
+      → Says w (line_saying why) → IsSilent w → TaskOutcome w named t status
+  -- the input couldn't be read
+  unread_input : status ≡ READ_FAILED → (InputFails w) → HasLoaded w named → IsSilent w → TaskOutcome w named t status
+  -- memory was wanted for the input or for its line
+  wanting_task : status ≡ NO_MEMORY → IsSilent w → TaskOutcome w named t status
+  -- nothing was read of the input
+  unloaded_task : Stopped w named status → (InputStays w) → IsSilent w → TaskOutcome w named t status
+
+pub data DrillOutcome {F S K A : Type 0} (w : World F S K A) (start count status : ℕ) : Type 0 where
+  -- what is told of the drill was written and handed on
+  wrote_drill : status ≡ DONE → OfTexts w example (λ crd rules. Wrote (DrillsTexts crd rules start count) w.written_before w.written) → w.flushed ≡ w.written
+      → DrillOutcome w start count status
+  -- a front of that was written, and then the output failed
+  broke_drill : status ≡ WRITE_FAILED → (OutputFails w) → OfTexts w example (λ crd rules. Broke (DrillsTexts crd rules start count) w.written_before w.written)
+      → DrillOutcome w start count status
+  wanting_drill : status ≡ NO_MEMORY → IsSilent w → DrillOutcome w start count status
+
+-- so many connections were handed out, answered by one history and given back
+abbrev pub AnswersSo : {F S K A : Type 0} → World F S K A → Named → ℕ → Type 0
+AnswersSo w named count = OfTexts w named (λ crd rules. ServesAll crd rules w.start count w.handed_before w.handed w.returned_before w.returned)
+
+-- nothing was written, or it was told where connections come
+abbrev pub MayHaveTold : {F S K A : Type 0} → World F S K A → Type 0
+MayHaveTold w = (w.written ≡ w.written_before) ⊎ Told w.written_before w.written
+
+pub data ServeOutcome {F S K A : Type 0} (w : World F S K A) (named : Named) (connections : Option ℕ) (status : ℕ) : Type 0 where
+  -- it was told where connections come, and then as many were answered as were asked for
+  answered : (count : ℕ) → status ≡ DONE → connections ≡ Some count → HasLoaded w named → Announced w.written_before w.written w.flushed → AnswersSo w named count
+      → ServeOutcome w named connections status
+  -- it was told, and fewer were answered than were asked for, as no further one could be had
+  answered_fewer : (count : ℕ) → status ≡ LISTEN_FAILED → (EarsFail w) → IfSome connections (λ n. count < n) → HasLoaded w named
+      → Announced w.written_before w.written w.flushed → AnswersSo w named count → ServeOutcome w named connections status
+  -- nobody can listen at the place, or no connection could be had
+  unheard : status ≡ LISTEN_FAILED → (EarsFail w) → HasLoaded w named → MayHaveTold w → HearsNobody w → ServeOutcome w named connections status
+  -- a front of where connections come was written, and then the output failed
+  untold : status ≡ WRITE_FAILED → (OutputFails w) → HasLoaded w named → ToldSome w.written_before w.written → HearsNobody w → ServeOutcome w named connections status
+  -- memory was wanted before any connection came
+  wanting_service : status ≡ NO_MEMORY → MayHaveTold w → HearsNobody w → ServeOutcome w named connections status
+  unloaded_service : Stopped w named status → IsSilent w → HearsNobody w → ServeOutcome w named connections status
+
+-- ---- any line
+
+-- The run of the line came to this status. `serve` reads no input, and the other lines ask nothing of the ears; a drill reads no file
+-- either, and no input.
+abbrev pub Outcome : {F S K A : Type 0} → World F S K A → Line → ℕ → Type 0
+Outcome w (pipe named turns) status = PipeOutcome w named turns status × (EarsStay w)
+Outcome w (task c r t) status = TaskOutcome w (from_files c r) t status × (EarsStay w)
+Outcome w (drill start count) status = DrillOutcome w start count status × (FilesStay w) × (InputStays w) × (EarsStay w)
+Outcome w (serve s) status = ServeOutcome w (from_files s.crd s.rules) s.connections status × (InputStays w)

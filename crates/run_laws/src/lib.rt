@@ -1,0 +1,11 @@
+//! What follows of a run's outcome: by the line, by the status, and where nothing fails.
+//!
+//! Each law is the contract of a function that does nothing. Its premise is an `Outcome`, which `run` of `kubeconv_cmd` says of each
+//! line that its words are. It knows nothing of how a run comes to its outcome.
+#![tactic(auto)]
+
+pub mod any_line;
+pub mod drill;
+pub mod pipe;
+pub mod serve;
+pub mod task;
