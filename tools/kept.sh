@@ -1,11 +1,12 @@
-# Which program stands for the sources of this checkout. `kubeconv`, `.ci/run` and tools/build.py read these functions; `top` is the
-# checkout's folder. What is kept stands in `out/`, which git passes over:
+# Which program stands for the sources of this checkout. `kubeconv`, `explain`, `.ci/run` and tools/build.py read these functions; `top` is
+# the checkout's folder. What is kept stands in `out/`, which git passes over:
 #
 #     out/sources        the sums of all sources and of those that are compiled (src/, crates.txt), and the folders that they stand in.
 #                        Its time is that before the first of them was read
 #     out/paths          the files and folders that were summed
 #     out/proved/SUM     the program that was proved of the sources of this sum
 #     out/compiled/SUM   the program that was compiled of the sources of this sum, and not proved
+#     out/explain/..     the same two folders of the program explain
 #
 # A name holds a whole program or none, since it is put there by `mv`; and a program is found by the sum of its sources alone.
 kept=$top/out whole=''
@@ -58,23 +59,25 @@ sum_sources() {
     [ "$summed" -eq 0 ] && read_sums
 }
 
-# Whether a program of a kind, `proved` or `compiled`, stands for the sources that were summed. Its path is `program`.
+# Whether a program of a kind stands for the sources that were summed: `proved` or `compiled`, with the other program's name before it,
+# as in `explain/proved`. Its path is `program`.
 stands() {
     [ -n "${whole-}" ] || are_summed || sum_sources || return 1
     case $1 in
-    proved) program=$kept/proved/$whole ;;
-    *) program=$kept/compiled/$own ;;
+    *proved) program=$kept/$1/$whole ;;
+    *) program=$kept/$1/$own ;;
     esac
     [ -x "$program" ]
 }
 
-# Finds the `program` that stands for the sources as they are: the one that is proved, or else the one that is compiled.
+# Finds the `program` that stands for the sources as they are: the one that is proved, or else the one that is compiled. What stands
+# before their kinds, as `explain/`, may be given.
 find_program() {
     are_summed || sum_sources || return 1
     is_proved=yes
-    stands proved && return
+    stands "${1-}proved" && return
     is_proved=''
-    stands compiled
+    stands "${1-}compiled"
 }
 
 # Begins a build: sums the sources, and copies the sums to a file, to be told to `keep` at the end.
@@ -82,7 +85,7 @@ begin() {
     sum_sources && cp -p "$kept/sources" "$1"
 }
 
-# Keeps a program, as `proved` or as `compiled`, for the sources that it was made of, where none of them changed since `begin`.
+# Keeps a program of a kind for the sources that it was made of, where none of them changed since `begin`.
 keep() {
     of_kind=$1 made=$2 begun=$3
     if ! is_unchanged_since "$begun" || ! sum_sources || ! cmp -s "$begun" "$kept/sources"; then

@@ -1,0 +1,108 @@
+#!/usr/bin/env python3
+"""Finds all faults of a definition and its rules, each with how it is mended.
+
+    python3 tools/find_faults.py CRD RULES
+
+CRD and RULES are files of JSON. It prints a list of objects as JSON, in the order in which loading looks: `file`, which is crd or rules,
+`path` and `word`, as loading has them, and `says`. ./explain hands the list to the program `explain`, which loads the two files: it tells
+a fault only where loading does, and the one that loading tells first. So nothing that is proved rests on this search.
+"""
+import json
+import sys
+
+from document_faults import definition_faults, rules_faults
+from fault_texts import Faults, Unwhole, inside, list_at
+from fit_faults import fit_faults
+from schemas import Schema
+
+MOST_BYTES = 4_000_000
+
+
+def whole(text):
+    """A whole number of 64 bits, or the mark of another one."""
+    return int(text) if text != "-0" and -(2**63) <= int(text) < 2**63 else Unwhole()
+
+
+def no_number(text):
+    raise json.JSONDecodeError(f"{text} is no JSON", text, 0)
+
+
+def unwhole_places(value, path=""):
+    """The paths of the numbers that aren't whole."""
+    if isinstance(value, Unwhole):
+        yield path
+    if isinstance(value, list):
+        for i, it in enumerate(value):
+            yield from unwhole_places(it, f"{path}[{i}]")
+    if isinstance(value, dict):
+        for name, it in value.items():
+            yield from unwhole_places(it, inside(path, name))
+
+
+def document(faults, text):
+    """A text as a document, or nothing where it is none, which is told."""
+    try:
+        value = json.loads(text, parse_int=whole, parse_float=lambda _: Unwhole(), parse_constant=no_number)
+    except json.JSONDecodeError as e:
+        where = f"line {e.lineno}, column {max(e.colno, 1)}"
+        faults.tell("", "NotJson", f"the text stops being JSON at {where}; YAML is turned into JSON by tools/yaml2json.py")
+        return None
+    places = list(unwhole_places(value))
+    for path in places:
+        why = "has a fraction or an exponent, or is beyond 64 bits; write it as a whole number, or as a text"
+        faults.tell("", "NotWhole", f"the number at `{path}` {why}")
+    return None if places else value
+
+
+def spokes_faults(faults, versions, rules):
+    """The faults of each spoke's rules, of a definition and rules that have none by themselves."""
+    schemas = {v["name"]: Schema(v["schema"]["openAPIV3Schema"], is_root=True) for v in versions}
+    hub = rules["hub"]
+    for name, schema in schemas.items():
+        if name != hub:
+            fit_faults(faults, [name, hub], rules["spokes"].get(name, []), [schema, schemas[hub]])
+
+
+def find(crd_text, rules_text):
+    """All faults of two texts."""
+    faults = Faults()
+    crd = document(faults, crd_text)
+    if faults.found:
+        return faults.found
+    definition_faults(faults, crd)
+    is_sound = not faults.found
+    faults.file = "rules"
+    before = len(faults.found)
+    rules = document(faults, rules_text)
+    if len(faults.found) > before:
+        return faults.found if is_sound else faults.found[:before]
+    versions = list_at(crd, "spec", "versions")
+    if versions:
+        rules_faults(faults, versions, rules)
+    if not faults.found:
+        spokes_faults(faults, versions, rules)
+    return faults.found
+
+
+def text_of(path):
+    with open(path, encoding="utf-8", newline="") as file:
+        return file.read()
+
+
+def main(crd, rules):
+    try:
+        found = find(text_of(crd), text_of(rules))
+    except (OSError, UnicodeDecodeError, RecursionError):
+        # (the program tells what can't be read, and what is too deep)
+        found = []
+    data = json.dumps(found, ensure_ascii=False).encode("utf-8", "replace")
+    while len(data) > MOST_BYTES:
+        found = found[: len(found) // 2]
+        data = json.dumps(found, ensure_ascii=False).encode("utf-8", "replace")
+    sys.stdout.buffer.write(data + b"\n")
+
+
+if __name__ == "__main__":
+    if len(sys.argv) != 3:
+        sys.exit("find_faults.py: CRD RULES")
+    main(*sys.argv[1:])
