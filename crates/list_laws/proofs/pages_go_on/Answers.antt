@@ -1,0 +1,11 @@
+use Rattle.list_laws.proofs.Pages.{behind, front_of, rises}
+use Rattle.list_laws.proofs.pages_go_on.Goals as goal
+
+pub returns-clause-front : goal.returns-clause-front
+returns-clause-front g c = λ it limits log r l. front_of (g.V.Means.meaning it) limits log r l
+
+pub returns-clause-rising : goal.returns-clause-rising
+returns-clause-rising g c = λ it limits log r l. rises (g.V.Means.meaning it) limits log r l
+
+pub returns-clause-behind : goal.returns-clause-behind
+returns-clause-behind g c = λ it limits log ns after r limit front rest e l is. behind (g.V.Means.meaning it) limits log ns after r limit front rest e l is
