@@ -1,0 +1,5 @@
+pub mod Bodies
+mod Unique
+mod Codings
+pub mod Heads
+pub mod Handing
