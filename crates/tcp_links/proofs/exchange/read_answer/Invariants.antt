@@ -1,0 +1,10 @@
+use Rattle.std.proofs.Common.{◌≤◌, ◌-◌, length}
+use Rattle.tcp_links.specs.declared.limits.TheConstants.{MOST_ANSWER_BYTES}
+use Rattle.tcp_links.proofs.exchange.read_answer.Given as goal
+
+-- what was read isn't too long
+abbrev pub invariant-loop-piece : goal.invariant-loop-piece
+invariant-loop-piece g l = length l.answer.items ≤ MOST_ANSWER_BYTES
+
+abbrev pub decreases-loop-piece : goal.decreases-loop-piece
+decreases-loop-piece g l = MOST_ANSWER_BYTES - length l.answer.items
