@@ -1,6 +1,6 @@
 //! Tests in threads, and with a run for each place of an input: of the turn lock (`turns`), of many connections over a small definition
-//! (`connections`), and of the program over a line of `serve` (`beside`) and over inputs of `pipe` (`splits`), both by `running`. The
-//! last two can't be cases of `program_tests`.
+//! (`connections`), and of the program over a line of `serve` (`beside`; over TCP `over_tcp`) and over inputs of `pipe` (`splits`), all by
+//! `running`. The last three can't be cases of `program_tests`.
 //!
 //! It has no code of its own.
 #![tactic(auto)]
@@ -9,6 +9,8 @@
 mod beside;
 #[cfg(test)]
 mod connections;
+#[cfg(test)]
+mod over_tcp;
 #[cfg(test)]
 mod running;
 #[cfg(test)]

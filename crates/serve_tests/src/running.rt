@@ -85,12 +85,18 @@ fn sinks(alloc: Global) -> Result<(MemSink, MemSink), Fail> {
     }
 }
 
-fn sink(alloc: Global, room: usize) -> Result<MemSink, Fail> {
+pub(crate) fn sink(alloc: Global, room: usize) -> Result<MemSink, Fail> {
     Ok(MemSink::new(alloc, room, Vec::new(alloc))?)
 }
 
 // What stands in the sinks behind a run.
-fn ran_of(alloc: Global, status: u8, output: &MemSink, errors: &MemSink) -> Result<Ran, Fail> {
+fn ran_of(
+    alloc: Global,
+    status: Result<u8, Fail>,
+    output: &MemSink,
+    errors: &MemSink,
+) -> Result<Ran, Fail> {
+    let status = status?;
     let output = output.bytes().to_vec(alloc)?;
     let errors = errors.bytes().to_vec(alloc)?;
     Ok(Ran {
@@ -100,7 +106,55 @@ fn ran_of(alloc: Global, status: u8, output: &MemSink, errors: &MemSink) -> Resu
     })
 }
 
-// Runs a line over a source and ears, where the files `crd.json` and `rules.json` hold the definition that is built in.
+// The status of a line over a source, sinks and ears, where the files `crd.json` and `rules.json` hold the definition that is built in.
+pub(crate) fn status_of_line<
+    R: Threads + Wait + time::Clock + Sync,
+    S: Source,
+    K: Sink,
+    E: Sink,
+    A: Ears + Place + Send,
+>(
+    rt: &R,
+    alloc: Global,
+    line: &str,
+    source: &mut S,
+    output: &mut K,
+    errors: &mut E,
+    ears: &mut A,
+) -> Result<u8, Fail> {
+    let words = words_of(alloc, line)?;
+    let status = status_of_words(rt, alloc, &words, source, output, errors, ears);
+    drop(words);
+    status
+}
+
+fn status_of_words<
+    R: Threads + Wait + time::Clock + Sync,
+    S: Source,
+    K: Sink,
+    E: Sink,
+    A: Ears + Place + Send,
+>(
+    rt: &R,
+    alloc: Global,
+    words: &Words,
+    source: &mut S,
+    output: &mut K,
+    errors: &mut E,
+    ears: &mut A,
+) -> Result<u8, Fail> {
+    let mut files = built_in_files(alloc)?;
+    let clock = FixedClock::new(Stamp {
+        text: *b"2024-01-02T03:04:05Z",
+    });
+    let status = status_of(
+        rt, alloc, words, &mut files, source, output, errors, ears, &clock,
+    );
+    drop(files);
+    Ok(status)
+}
+
+// Runs a line over a source and ears.
 pub(crate) fn run_line<R: Threads + Wait + time::Clock + Sync, S: Source, A: Ears + Place + Send>(
     rt: &R,
     alloc: Global,
@@ -108,48 +162,8 @@ pub(crate) fn run_line<R: Threads + Wait + time::Clock + Sync, S: Source, A: Ear
     source: &mut S,
     ears: &mut A,
 ) -> Result<Ran, Fail> {
-    let words = words_of(alloc, line)?;
-    let ran = run_words(rt, alloc, &words, source, ears);
-    drop(words);
-    ran
-}
-
-fn run_words<R: Threads + Wait + time::Clock + Sync, S: Source, A: Ears + Place + Send>(
-    rt: &R,
-    alloc: Global,
-    words: &Words,
-    source: &mut S,
-    ears: &mut A,
-) -> Result<Ran, Fail> {
-    let mut files = built_in_files(alloc)?;
-    let ran = run_over(rt, alloc, words, &mut files, source, ears);
-    drop(files);
-    ran
-}
-
-fn run_over<R: Threads + Wait + time::Clock + Sync, S: Source, A: Ears + Place + Send>(
-    rt: &R,
-    alloc: Global,
-    words: &Words,
-    files: &mut MemFiles,
-    source: &mut S,
-    ears: &mut A,
-) -> Result<Ran, Fail> {
     let (mut output, mut errors) = sinks(alloc)?;
-    let clock = FixedClock::new(Stamp {
-        text: *b"2024-01-02T03:04:05Z",
-    });
-    let status = status_of(
-        rt,
-        alloc,
-        words,
-        files,
-        source,
-        &mut output,
-        &mut errors,
-        ears,
-        &clock,
-    );
+    let status = status_of_line(rt, alloc, line, source, &mut output, &mut errors, ears);
     let ran = ran_of(alloc, status, &output, &errors);
     drop(output);
     drop(errors);

@@ -10,21 +10,22 @@ use std::test::*;
 use std::thread::Threads;
 use std::time::Clock;
 
-const POST: &str =
+pub(crate) const POST: &str =
     "POST /apis/example.com/v1beta1/namespaces/default/crontabs HTTP/1.1\r\nContent-Length: 99\r\n\r\n{\"apiVersion\":\"example.com/v1beta1\",\"kind\":\"CronTab\",\"metadata\":{\"name\":\"a\"},\"address\":\"localhost\"}";
 
-const GET: &str = "GET /apis/example.com/v1/namespaces/default/crontabs/a HTTP/1.1\r\n\r\n";
+pub(crate) const GET: &str =
+    "GET /apis/example.com/v1/namespaces/default/crontabs/a HTTP/1.1\r\n\r\n";
 
-const CREATED: &str =
+pub(crate) const CREATED: &str =
     "HTTP/1.1 201 Created\r\nContent-Type: application/json\r\nContent-Length: 246\r\n\r\n{\"address\":\"localhost\",\"apiVersion\":\"example.com/v1beta1\",\"kind\":\"CronTab\",\"metadata\":{\"creationTimestamp\":\"2024-01-02T03:04:05Z\",\"generation\":1,\"name\":\"a\",\"namespace\":\"default\",\"resourceVersion\":\"2\",\"uid\":\"00000000-0000-8000-8000-000000000002\"}}";
 
-const SHOWN: &str =
+pub(crate) const SHOWN: &str =
     "HTTP/1.1 200 OK\r\nContent-Type: application/json\r\nContent-Length: 238\r\n\r\n{\"apiVersion\":\"example.com/v1\",\"host\":\"localhost\",\"kind\":\"CronTab\",\"metadata\":{\"creationTimestamp\":\"2024-01-02T03:04:05Z\",\"generation\":1,\"name\":\"a\",\"namespace\":\"default\",\"resourceVersion\":\"2\",\"uid\":\"00000000-0000-8000-8000-000000000002\"}}";
 
 const CUT_LINE: &str = "kubeconv: request cut or refused\n";
 
 // What these texts are, one after the other.
-fn joined(alloc: Global, texts: &[&str]) -> Result<Vec<u8>, Fail> {
+pub(crate) fn joined(alloc: Global, texts: &[&str]) -> Result<Vec<u8>, Fail> {
     let mut all = Vec::new(alloc);
     for text in texts {
         all.extend_from_slice(text.as_bytes())?;
