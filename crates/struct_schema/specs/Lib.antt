@@ -19,5 +19,7 @@ pub mod LookupLaws
 pub mod NameLaws
 pub mod Own
 pub mod SameLaws
+pub mod Below
+pub mod BelowLaws
 pub mod Places
 pub mod Defaults

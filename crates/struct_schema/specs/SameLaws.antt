@@ -17,7 +17,7 @@ use Rattle.struct_schema.specs.declared.kind.IntFormat.{IntFormat}
 use Rattle.struct_schema.specs.Shape.{Own, Shape, shape, Shapes, no_shapes, shape_at, MaybeShapes, no_map, some_map, MaybeShape, no_shape, some_shape, shapes_of}
 use Rattle.struct_schema.specs.ShapeOf.{named_shape}
 use Rattle.struct_schema.specs.declared.schema.SchemaField.{SchemaField}
-use Rattle.struct_schema.specs.ShapeSame.{all_same, kinds_same, same_bound, bounds_same, same_format, same_choices, same_default, parts_same, own_same, shape_same, shapes_same, map_same, maybe_same}
+use Rattle.struct_schema.specs.ShapeSame.{all_same, kinds_same, same_bound, bounds_same, same_format, same_choices, same_default, lists_same, keywords_same, own_same, shape_same, shapes_same, map_same, maybe_same}
 
 both_true : (a b : Bool) → (a && b) ≡ true → (a ≡ true) × (b ≡ true)
 both_true true b h = (refl, h)
@@ -88,12 +88,16 @@ bounds_refl : (o : Own) → bounds_same o o ≡ true
 bounds_refl o =
     and_true _ _ (and_true _ _ (and_true _ _ (and_true _ _ (and_true _ _ (bound_refl o.minimum) (bound_refl o.maximum)) (bound_refl o.min_length)) (bound_refl o.max_length)) (bound_refl o.min_items)) (bound_refl o.max_items)
 
-parts_refl : (o : Own) → parts_same o o ≡ true
-parts_refl o =
-    and_true _ _ (and_true _ _ (and_true _ _ (option_refl (λ f g. format_number f == format_number g) (λ f. (Decides-eqb (format_number f) (format_number f)).1 refl) o.format) (option_refl (λ xs ys. items_same (items_of xs) (items_of ys)) (λ xs. (items_same-Decides xs xs).1 refl) o.choices)) (all_refl bytes_eq (λ x. (bytes_eq-Decides x x).1 refl) o.required)) (option_refl json_same (λ x. (json_same-Decides x x).1 refl) o.default_value)
+lists_refl : (o : Own) → lists_same o o ≡ true
+lists_refl o =
+    and_true _ _ (and_true _ _ (option_refl (λ f g. format_number f == format_number g) (λ f. (Decides-eqb (format_number f) (format_number f)).1 refl) o.format) (option_refl (λ xs ys. items_same (items_of xs) (items_of ys)) (λ xs. (items_same-Decides xs xs).1 refl) o.choices)) (all_refl bytes_eq (λ x. (bytes_eq-Decides x x).1 refl) o.required)
+
+keywords_refl : (o : Own) → keywords_same o o ≡ true
+keywords_refl o = and_true _ _ (and_true _ _ (kinds_refl o) (bounds_refl o)) (lists_refl o)
 
 own_refl : (o : Own) → own_same o o ≡ true
-own_refl o = and_true _ _ (and_true _ _ (kinds_refl o) (bounds_refl o)) (parts_refl o)
+own_refl o =
+    and_true _ _ (keywords_refl o) (option_refl json_same (λ x. (json_same-Decides x x).1 refl) o.default_value)
 
 record KindsAre (o p : Own) : Type 0 where
   kind : o.kind ≡ p.kind
@@ -140,30 +144,26 @@ bounds_are o p h =
       max_items = bound_is o.max_items p.max_items h5.1;
     }
 
-record PartsAre (o p : Own) : Type 0 where
+record ListsAre (o p : Own) : Type 0 where
   format : o.format ≡ p.format
   choices : o.choices ≡ p.choices
   required : o.required ≡ p.required
-  default_value : o.default_value ≡ p.default_value
 
-parts_are : (o p : Own) → parts_same o p ≡ true → PartsAre o p
-parts_are o p h =
+lists_are : (o p : Own) → lists_same o p ≡ true → ListsAre o p
+lists_are o p h =
     let a = same_format o.format p.format in
     let b = same_choices o.choices p.choices in
     let c = all_same bytes_eq o.required p.required in
-    let d = same_default o.default_value p.default_value in
-    let h3 = both_true (a && b && c) d h in
-    let h2 = both_true (a && b) c h3.0 in
+    let h2 = both_true (a && b) c h in
     let h1 = both_true a b h2.0 in
     record {
       format = format_option_is o.format p.format h1.0;
       choices = choices_is o.choices p.choices h1.1;
       required = names_is o.required p.required h2.1;
-      default_value = default_is o.default_value p.default_value h3.1;
     }
 
-joined : (o p : Own) → KindsAre o p → BoundsAre o p → PartsAre o p → o ≡ p
-joined o p k b r = λ i. record {
+joined : (o p : Own) → KindsAre o p → BoundsAre o p → ListsAre o p → o.default_value ≡ p.default_value → o ≡ p
+joined o p k b r d = λ i. record {
   kind = k.kind i;
   preserve = k.preserve i;
   nullable = k.nullable i;
@@ -176,14 +176,15 @@ joined o p k b r = λ i. record {
   min_items = b.min_items i;
   max_items = b.max_items i;
   required = r.required i;
-  default_value = r.default_value i;
+  default_value = d i;
 }
 
 own_is : (o p : Own) → own_same o p ≡ true → o ≡ p
 own_is o p h =
-    let q = both_true (kinds_same o p && bounds_same o p) (parts_same o p) h in
+    let s = both_true (keywords_same o p) (same_default o.default_value p.default_value) h in
+    let q = both_true (kinds_same o p && bounds_same o p) (lists_same o p) s.0 in
     let r = both_true (kinds_same o p) (bounds_same o p) q.0 in
-    joined o p (kinds_are o p r.0) (bounds_are o p r.1) (parts_are o p q.1)
+    joined o p (kinds_are o p r.0) (bounds_are o p r.1) (lists_are o p q.1) (default_is o.default_value p.default_value s.1)
 
 -- ---- shapes
 

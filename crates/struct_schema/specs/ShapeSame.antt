@@ -35,12 +35,16 @@ same_choices a b = option_eq (λ xs ys. items_same (items_of xs) (items_of ys)) 
 abbrev pub same_default : Option Json → Option Json → Bool
 same_default a b = option_eq json_same a b
 
-abbrev pub parts_same : Own → Own → Bool
-parts_same o p =
-    same_format o.format p.format && same_choices o.choices p.choices && all_same bytes_eq o.required p.required && same_default o.default_value p.default_value
+abbrev pub lists_same : Own → Own → Bool
+lists_same o p =
+    same_format o.format p.format && same_choices o.choices p.choices && all_same bytes_eq o.required p.required
+
+-- every keyword but `default`
+abbrev pub keywords_same : Own → Own → Bool
+keywords_same o p = kinds_same o p && bounds_same o p && lists_same o p
 
 abbrev pub own_same : Own → Own → Bool
-own_same o p = kinds_same o p && bounds_same o p && parts_same o p
+own_same o p = keywords_same o p && same_default o.default_value p.default_value
 
 abbrev mutual
   pub shape_same : Shape → Shape → Bool

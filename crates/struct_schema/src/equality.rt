@@ -5,7 +5,8 @@ ghost use Rattle.kj_value.specs.Seen.{json};
 ghost use Rattle.kj_value.specs.Texts.{bytes_of};
 ghost use Rattle.struct_schema.specs.Shape.{map_of, maybe_of, shapes_of};
 ghost use Rattle.struct_schema.specs.ShapeOf.{shape_of, own_of, named_shape};
-ghost use Rattle.struct_schema.specs.ShapeSame.{all_same, kinds_same, same_bound, bounds_same, same_format, same_choices, same_default, parts_same, own_same, shape_same, shapes_same, map_same, maybe_same};
+ghost use Rattle.struct_schema.specs.Below.{without_default, below};
+ghost use Rattle.struct_schema.specs.ShapeSame.{all_same, kinds_same, same_bound, bounds_same, same_format, same_choices, same_default, lists_same, keywords_same, own_same, shape_same, shapes_same, map_same, maybe_same};
 
 use crate::choices::Choices;
 use crate::keywords::alike;
@@ -19,6 +20,14 @@ pub fn equal(a: &Schema, b: &Schema) -> bool
     ensures { IsTrue result ↔ (shape_of a.now ≡ shape_of b.now) }
 {
     same_schema(a, b)
+}
+
+/// Whether two schemas say the same in every keyword but the `default` of their roots, those inside of them
+/// too, as `equal` does. It takes no memory.
+pub fn equal_below(a: &Schema, b: &Schema) -> bool
+    ensures { IsTrue result ↔ (below (shape_of a.now) ≡ below (shape_of b.now)) }
+{
+    same_below(a, b)
 }
 
 fn kinds_same(a: &Schema, b: &Schema) -> bool
@@ -98,20 +107,35 @@ fn same_default(a: &Option<JVal>, b: &Option<JVal>) -> bool
     }
 }
 
-fn parts_same(a: &Schema, b: &Schema) -> bool
-    ensures { result ≡ parts_same (own_of a.now) (own_of b.now) }
+fn lists_same(a: &Schema, b: &Schema) -> bool
+    ensures { result ≡ lists_same (own_of a.now) (own_of b.now) }
 {
     same_format(a.format, b.format)
         && same_choices(&a.choices, &b.choices)
         && same_names(a.required.as_slice(), b.required.as_slice())
-        && same_default(&a.default_value, &b.default_value)
+}
+
+// The keywords of two nodes, but for their defaults and the schemas inside.
+fn same_keywords(a: &Schema, b: &Schema) -> bool
+    ensures { result ≡ keywords_same (own_of a.now) (own_of b.now) }
+{
+    kinds_same(a, b) && bounds_same(a, b) && lists_same(a, b)
 }
 
 // The keywords of two nodes, but for the schemas inside.
 fn same_own(a: &Schema, b: &Schema) -> bool
     ensures { result ≡ own_same (own_of a.now) (own_of b.now) }
 {
-    kinds_same(a, b) && bounds_same(a, b) && parts_same(a, b)
+    same_keywords(a, b) && same_default(&a.default_value, &b.default_value)
+}
+
+fn same_below(a: &Schema, b: &Schema) -> bool
+    ensures { result ≡ shape_same (below (shape_of a.now)) (below (shape_of b.now)) }
+{
+    same_keywords(a, b)
+        && same_properties(&a.properties, &b.properties)
+        && same_node(&a.additional, &b.additional)
+        && same_node(&a.items, &b.items)
 }
 
 #[cycle(same_schema)]

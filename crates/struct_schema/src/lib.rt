@@ -3,7 +3,7 @@
 //!
 //! The one contract: contracts see a `Schema` as the `Shape` that `shape_of` gives. `check` is Ok exactly
 //! where `valid` holds of the shape and the value, and else names the first fault of one fixed walk;
-//! `is_filled` is true exactly where `Filled` relates the value to itself; `equal` and `copy_schema` speak
+//! `is_filled` is true exactly where `Filled` relates the value to itself; `equal`, `equal_below` and `copy_schema` speak
 //! of the shape as a whole. `step_before` and `item_step` write the path to what is refused, for the readers above too.
 //!
 //! A walk over a value takes three or four calls a level of its lists and objects, one over a schema three a
@@ -29,7 +29,7 @@ mod trouble;
 pub use checking::{check, is_valid};
 pub use choices::Choices;
 pub use copies::copy_schema;
-pub use equality::equal;
+pub use equality::{equal, equal_below};
 pub use filling::{is_filled, is_forbidden};
 pub use keywords::lesser;
 pub use kind::{IntFormat, NodeKind};
