@@ -1,5 +1,5 @@
 -- The rules of one spoke, fitted to the two schemas: cells and inner objects, level by level.
-use Rattle.std.specs.Prelude.{◌≡◌, ℕ, ◌+◌, pos, negsuc, List, [], ◌∷◌, ◌++◌, map, Bool, true, false, ◌&&◌, not, leb, Option, Some, None, is_none}
+use Rattle.std.specs.Prelude.{◌≡◌, ℕ, ◌+◌, pos, negsuc, List, [], ◌∷◌, ◌++◌, map, Bool, true, false, ◌&&◌, ◌||◌, not, leb, Option, Some, None, is_some}
 use Rattle.kj_value.specs.Json.{Json, null, boolean, whole, text, list, object, depth}
 use Rattle.kj_value.specs.Fields.{Pairs, field}
 use Rattle.struct_schema.specs.Shape.{Shape, own}
@@ -8,7 +8,7 @@ use Rattle.struct_schema.specs.Valid.{valid}
 use Rattle.struct_schema.specs.Stays.{stays}
 use Rattle.hub_cells.specs.declared.allowed.TheConstants.{STORED_LEVELS}
 use Rattle.hub_cells.specs.Side.{Side, spoke, hub, other}
-use Rattle.hub_cells.specs.Cell.{Kind, Tuple, IsRegular}
+use Rattle.hub_cells.specs.Cell.{Kind, same, spoke_only, hub_only, split, table, scale, Tuple, IsRegular}
 use Rattle.hub_cells.specs.Cross.{matched, shown}
 
 abbrev pub Name : Type 0
@@ -68,10 +68,10 @@ is_word (text t) = true
 is_word (list js) = true
 is_word (object ms) = true
 
--- a value that is valid and its own filling, and with which the object is at most 64 deep; a name that isn't there is
--- neither required nor has a default
+-- a value that is valid and its own filling, and with which the object is at most 64 deep; a name that isn't there isn't
+-- required. Whether it has a default isn't asked
 abbrev pub allowed_at : ℕ → Place → Option Json → Bool
-allowed_at n p None = not p.required && is_none (own p.shape).default_value
+allowed_at n p None = not p.required
 allowed_at n p (Some j) = valid p.shape j && stays p.shape j && leb (n + 1 + depth j) STORED_LEVELS && is_word j
 
 abbrev pub all_allowed : ℕ → List Place → Tuple → Bool
@@ -88,10 +88,60 @@ abbrev pub MatchAllowed : Cell → Side → Option Tuple → Tuple → Type 0
 MatchAllowed c d None t = allows (other d) c (shown d c.kind t) ≡ true
 MatchAllowed c d (Some u) t = allows (other d) c u ≡ true
 
+-- one of the values is there
+abbrev pub some_there : Tuple → Bool
+some_there [] = false
+some_there (None ∷ os) = some_there os
+some_there (Some j ∷ os) = true
+
+-- one of the names has a default
+abbrev pub have_default : List Place → Bool
+have_default [] = false
+have_default (p ∷ ps) = is_some (own p.shape).default_value || have_default ps
+
+-- a name may have a default in one version alone where its values are equal or scaled; in a table its names have one on
+-- both sides or on neither
+abbrev pub may_default : Kind → List Place → List Place → Bool
+may_default same ps qs = true
+may_default spoke_only ps qs = false
+may_default hub_only ps qs = false
+may_default split ps qs = false
+may_default (table xs x y) ps qs = have_default ps || have_default qs
+may_default (scale k) ps qs = true
+
+abbrev pub can_default : Cell → Bool
+can_default c = may_default c.kind c.spoke c.hub
+
+-- what was matched or shown for it is there
+abbrev pub MatchThere : Cell → Side → Option Tuple → Tuple → Type 0
+MatchThere c d None t = some_there (shown d c.kind t) ≡ true
+MatchThere c d (Some u) t = some_there u ≡ true
+
+-- the kinds that have one name a side
+abbrev pub has_one_name : Kind → Bool
+has_one_name same = true
+has_one_name spoke_only = false
+has_one_name hub_only = false
+has_one_name split = false
+has_one_name (table xs x y) = true
+has_one_name (scale k) = true
+
+abbrev pub is_one : List Place → Bool
+is_one [] = false
+is_one (p ∷ []) = true
+is_one (p ∷ q ∷ ps) = false
+
+-- an allowed tuple is answered by one that is allowed. Only a cell that can have a default has one, and then a tuple that is
+-- there is answered by one that is there; and where the spoke's name has a default, what it allows matches, or the hub's name
+-- has a default too
 pub record CellFits (c : Cell) : Type 0 where
   pub regular : IsRegular c.kind
   pub absent : (d : Side) → matched d c.kind (tuple_of (names d c) []) ≡ Some (tuple_of (names (other d) c) [])
   pub answer : (d : Side) (t : Tuple) → allows d c t ≡ true → MatchAllowed c d (matched d c.kind t) t
+  pub there : (d : Side) (t : Tuple) → can_default c ≡ true → allows d c t ≡ true → some_there t ≡ true → MatchThere c d (matched d c.kind t) t
+  pub single : has_one_name c.kind ≡ true → (is_one c.spoke && is_one c.hub) ≡ true
+  pub defaults : (d : Side) → have_default (places d c) ≡ true → can_default c ≡ true
+  pub matches : (t : Tuple) → have_default c.spoke ≡ true → allows spoke c t ≡ true → (is_some (matched spoke c.kind t) || have_default c.hub) ≡ true
 
 abbrev pub CellsFit : List Cell → Type 0
 CellsFit [] = Unit {0}

@@ -1,8 +1,8 @@
 //! What a cell's side allows.
-ghost use Rattle.std.specs.Prelude.{◌≡◌, ◌+◌, ◌&&◌, leb, not, is_none, option_map, true};
+ghost use Rattle.std.specs.Prelude.{◌≡◌, ◌+◌, ◌&&◌, leb, not, option_map, true};
 ghost use Rattle.kj_value.specs.Json.{depth};
 ghost use Rattle.kj_value.specs.Seen.{json};
-ghost use Rattle.struct_schema.specs.ShapeOf.{shape_of, own_of};
+ghost use Rattle.struct_schema.specs.ShapeOf.{shape_of};
 ghost use Rattle.struct_schema.specs.Valid.{valid};
 ghost use Rattle.struct_schema.specs.Stays.{stays};
 ghost use Rattle.hub_cells.specs.Seen.{side, tuple, cell, place, place_list};
@@ -38,12 +38,6 @@ fn is_within(names: u32, v: &JVal) -> bool
     u64::from(names) + 1 + u64::from(kj_value::depth(v)) <= u64::from(STORED_LEVELS)
 }
 
-fn is_free(name: &Name) -> bool
-    ensures { result ≡ (not name.now.required && is_none (own_of name.now.schema).default_value) }
-{
-    !name.required && name.schema.default_value.is_none()
-}
-
 fn allowed_value(alloc: Global, names: u32, name: &Name, v: &JVal) -> bool
     ensures { result ≡ (valid (shape_of name.now.schema) (json v.now)
         && stays (shape_of name.now.schema) (json v.now)
@@ -56,7 +50,7 @@ fn allowed_at(alloc: Global, names: u32, name: &Name, value: &Option<JVal>) -> b
     ensures { result ≡ allowed_at names (place name.now) (option_map json value.now) }
 {
     match value {
-        None => is_free(name),
+        None => !name.required,
         Some(v) => {
             is_word(v);
             allowed_value(alloc, names, name, v)
@@ -84,8 +78,8 @@ fn all_allowed(alloc: Global, depth: u32, names: &Names, values: &Tuple) -> bool
 
 impl Cell {
     /// Whether the side's schema allows the values at the cell's names: each is valid, is its own
-    /// filling and keeps the object within its levels, and a name that isn't there is neither required
-    /// nor has a default. A yes takes no memory.
+    /// filling and keeps the object within its levels, and a name that isn't there isn't required.
+    /// Whether that name has a default isn't asked. A yes takes no memory.
     pub fn allows(&self, alloc: Global, on: Side, values: &Tuple) -> bool
         ensures { result ≡ allows (side on) (cell self.now) (tuple values.now) }
     {

@@ -3,8 +3,9 @@
 //!
 //! The one contract: `cross` answers the tuple of the other side that matches, or else the one that is
 //! shown for it, and a match is one-to-one. A `Fitted` is a level of cells for a spoke's schema and the
-//! hub's, and its type keeps `IsFitted`: each name of the two schemas stands in it once, and what goes
-//! over from an allowed tuple is allowed.
+//! hub's, and its type keeps `IsFitted`: each name of the two schemas stands in it once, what goes over
+//! from an allowed tuple is allowed, and where a name can have a default, what goes over from one that
+//! is there is there.
 //!
 //! It knows nothing of the document that rules stand in, of annotations or of metadata.
 #![tactic(auto)]
