@@ -2,11 +2,11 @@
 -- after the other, each over the rules in their order and then over the names that no rule names.
 use Rattle.std.specs.Prelude.{ℕ, ℤ, pos, negsuc, ◌*ℤ◌, List, [], ◌∷◌, Bool, true, false, ◌&&◌, ◌||◌, not, cond, Option, Some, None, is_none, option_map, int_lt, filter, fold}
 use Rattle.std.specs.Bool.{beq}
-use Rattle.std.specs.Ordering.{int_eq}
 use Rattle.kj_value.specs.Json.{Json, null, boolean, whole, text, list, object}
 use Rattle.kj_value.specs.Same.{json_same}
 use Rattle.struct_schema.specs.Shape.{Own, Shape, shape, own, properties, additional, plain, Shapes, no_shapes, shape_at, MaybeShapes, no_map, some_map, MaybeShape, no_shape, some_shape}
 use Rattle.struct_schema.specs.ShapeSame.{shape_same}
+use Rattle.struct_schema.specs.Below.{below}
 use Rattle.struct_schema.specs.Names.{property}
 use Rattle.struct_schema.specs.Filled.{is_object}
 use Rattle.struct_schema.specs.Valid.{valid}
@@ -152,8 +152,12 @@ is_whole_node s = is_whole (own s).kind && not (own s).nullable
 abbrev pub alike_required : Name → Name → Shape → Shape → Bool
 alike_required a b s h = beq (is_required a s) (is_required b h)
 
+-- two schemas are one but for their roots' defaults
+abbrev pub alike_below : Shape → Shape → Bool
+alike_below s t = shape_same (below s) (below t)
+
 abbrev pub schema_passes : Shape → Shape → Rule → Bool
-schema_passes s h (same a b) = shape_same (node_at a s) (node_at b h) && alike_required a b s h
+schema_passes s h (same a b) = alike_below (node_at a s) (node_at b h) && alike_required a b s h
 schema_passes s h (within a b rs) = is_closed (node_at a s) && is_closed (node_at b h) && alike_required a b s h
 schema_passes s h (spoke_only a) = true
 schema_passes s h (hub_only b) = true
@@ -178,10 +182,6 @@ is_value (Some i) j = json_same i j
 abbrev pub is_pair : List (Json × Json) → Json → Json → Bool
 is_pair ps i j = is_value (partner spoke i ps) j
 
-abbrev pub is_multiple : ℕ → Json → Json → Bool
-is_multiple k (whole i) (whole j) = int_eq (pos k *ℤ i) j
-is_multiple k _ _ = false
-
 abbrev pub is_null : Json → Bool
 is_null null = true
 is_null (boolean b) = false
@@ -198,7 +198,7 @@ default_passes s h (hub_only b) = lacks_default b h
 default_passes s h (split a b c) = lacks_default a s && lacks_default b h && lacks_default c h
 default_passes s h (table a b ps x y) =
     defaults_pair (is_pair ps) (default_at a s) (default_at b h) && (lacks_default a s || (not (is_null x) && not (is_null y)))
-default_passes s h (scale a b k) = defaults_pair (is_multiple k) (default_at a s) (default_at b h)
+default_passes s h (scale a b k) = true
 
 abbrev pub required_passes : Shape → Shape → Rule → Bool
 required_passes s h (same a b) = true
@@ -306,10 +306,10 @@ refused w s h (rule r rs) = unless (rule_passes w s h r) (head_spot w r) (refuse
 
 -- ---- a level whole
 
--- a free name whose schemas aren't equal, or that one side alone requires
+-- a free name whose schemas differ in more than their defaults, or that one side alone requires
 abbrev pub differing : Shape → Shape → Rules → Option Name
 differing s h rs =
-    failing_in (λ k t. has_name k (names_on spoke rs) || (shape_same t (node_at k h) && alike_required k k s h)) (properties s)
+    failing_in (λ k t. has_name k (names_on spoke rs) || (alike_below t (node_at k h) && alike_required k k s h)) (properties s)
 
 -- the first required name by bytes that `properties` doesn't have
 abbrev pub lost : Shape → Option Name

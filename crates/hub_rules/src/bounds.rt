@@ -9,7 +9,7 @@ use struct_schema::{IntFormat, Schema};
 
 // A product of a factor and a number of 64 bits has 128.
 #[tactic(auto, using(crate::proofs::Products::product_fits))]
-pub(crate) fn fits_i128(by: u32, n: i64)
+fn fits_i128(by: u32, n: i64)
     requires { by ≤ 1000000000 }
     ensures { FitsSigned w128 (pos by *ℤ n) }
 {}

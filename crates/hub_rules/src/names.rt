@@ -2,7 +2,6 @@
 ghost use Rattle.std.specs.Prelude.{◌≡◌, ◌||◌, ◌&&◌, not, [], ◌∷◌, map, option_map};
 ghost use Rattle.struct_schema.specs.Shape.{properties, shapes_of};
 ghost use Rattle.struct_schema.specs.ShapeOf.{shape_of, named_shape};
-ghost use Rattle.struct_schema.specs.ShapeSame.{shape_same};
 ghost use Rattle.struct_schema.specs.Fault.{or_else};
 ghost use Rattle.hub_cells.specs.Side.{spoke, hub, other};
 ghost use Rattle.hub_cells.specs.Seen.{side};
@@ -11,9 +10,9 @@ ghost use Rattle.hub_rules.specs.Rule.{rules_of, rule_names, names_on};
 ghost use Rattle.hub_rules.specs.Seen.{rule};
 ghost use Rattle.hub_rules.specs.SeenSpot.{spot};
 ghost use Rattle.hub_rules.specs.Spots.{why};
-ghost use Rattle.hub_rules.specs.Refusal.{is_free, at_name, again, spot_at, name_twice, name_missing, twice_in, twice, absent, absent_in, absent_from, unpaired, differing, lost, missing, first_failing, node_at, alike_required, schema_differs, required_lost};
+ghost use Rattle.hub_rules.specs.Refusal.{is_free, at_name, again, spot_at, name_twice, name_missing, twice_in, twice, absent, absent_in, absent_from, unpaired, differing, lost, missing, first_failing, node_at, alike_below, alike_required, schema_differs, required_lost};
 
-use crate::nodes::{AnyNode, alike_nodes, alike_required, is_there, node_at};
+use crate::nodes::{AnyNode, alike_below, alike_required, is_there, node_at};
 use crate::rules::Line;
 use crate::spot::{Spot, Why};
 use hub_cells::Side;
@@ -308,11 +307,11 @@ pub(crate) fn missing<'a>(lines: &'a [Line], s: &'a Schema, h: &'a Schema) -> Op
 fn is_alike(lines: &[Line], f: &SchemaField, s: &Schema, h: &Schema, any: &AnyNode) -> bool
     ensures { let k = f.now.name.bytes in result
         ≡ (has_name k (names_on spoke (rules_of (map rule lines.now)))
-        || (shape_same (shape_of f.now.schema) (node_at k (shape_of h.now))
+        || (alike_below (shape_of f.now.schema) (node_at k (shape_of h.now))
         && alike_required k k (shape_of s.now) (shape_of h.now))) }
 {
     is_ruled(lines, Side::Spoke, f.name.as_str())
-        || (alike_nodes(&f.schema, node_at(h, &f.name, any))
+        || (alike_below(&f.schema, node_at(h, &f.name, any))
             && alike_required(&f.name, &f.name, s, h))
 }
 
@@ -325,7 +324,7 @@ fn differing_among<'a>(
 ) -> Option<&'a Txt>
     ensures { option_map (λ t. t.now.bytes) result
         ≡ first_failing (λ k t. has_name k (names_on spoke (rules_of (map rule lines.now)))
-        || (shape_same t (node_at k (shape_of h.now))
+        || (alike_below t (node_at k (shape_of h.now))
         && alike_required k k (shape_of s.now) (shape_of h.now))) (shapes_of (map named_shape fields.now)) }
 {
     for f in fields {

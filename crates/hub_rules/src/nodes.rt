@@ -7,12 +7,12 @@ ghost use Rattle.struct_schema.specs.Shape.{shape, plain, no_map, no_shape, mayb
 ghost use Rattle.struct_schema.specs.ShapeOf.{shape_of, own_of};
 ghost use Rattle.struct_schema.specs.ShapeSame.{shape_same};
 ghost use Rattle.hub_cells.specs.Fit.{is_required};
-ghost use Rattle.hub_rules.specs.Refusal.{node, is_there, node_at, or_any, default_at, lacks_default, is_text, is_whole, is_text_node, is_whole_node, is_closed, alike_required, is_null};
+ghost use Rattle.hub_rules.specs.Refusal.{node, is_there, node_at, or_any, default_at, lacks_default, is_text, is_whole, is_text_node, is_whole_node, is_closed, alike_required, is_null, alike_below};
 
 use kj_value::{JVal, Txt, same};
 use std::alloc::Global;
 use std::marker::Model;
-use struct_schema::{NodeKind, Schema, equal};
+use struct_schema::{NodeKind, Schema, equal, equal_below};
 
 /// A node that allows any value, for a name that a schema doesn't have.
 #[derive(Drop)]
@@ -106,6 +106,13 @@ pub(crate) fn alike_nodes(a: &Schema, b: &Schema) -> bool
     ensures { result ≡ shape_same (shape_of a.now) (shape_of b.now) }
 {
     equal(a, b)
+}
+
+// Whether two schemas are one but for their roots' defaults.
+pub(crate) fn alike_below(a: &Schema, b: &Schema) -> bool
+    ensures { result ≡ alike_below (shape_of a.now) (shape_of b.now) }
+{
+    equal_below(a, b)
 }
 
 // Whether two values are one.

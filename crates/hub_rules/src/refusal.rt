@@ -29,9 +29,11 @@ pub enum FitFault {
     /// A rule names what its schema doesn't have, or a name without a rule has no equal name without a
     /// rule on the other side.
     NameMissing { path: Txt },
-    /// The schemas of two names don't go together.
+    /// The schemas of two names don't go together. Where the values are equal, they may differ in their
+    /// defaults alone.
     SchemaDiffers { path: Txt },
-    /// A default has none that matches it on the other side.
+    /// A default where the rule can hold none: in a table, one that has none that matches it on the other
+    /// side.
     UnpairedDefault { path: Txt },
     /// The other side may lack what one side requires.
     RequiredLost { path: Txt },

@@ -1,0 +1,10 @@
+use Rattle.struct_schema.specs.Below.{below}
+use Rattle.struct_schema.specs.ShapeOf.{shape_of}
+use Rattle.struct_schema.specs.LookupLaws.{one_test}
+use Rattle.struct_schema.specs.SameLaws.{shape_same-Decides}
+use Rattle.hub_rules.proofs.nodes.alike_below.Goals as goal
+
+pub returns : goal.returns
+returns c =
+    let d = shape_same-Decides (below (shape_of c.args.a.now)) (below (shape_of c.args.b.now)) in
+    one_test _ _ (λ h. d.1 (c.equal_below.ensures.0 h)) (λ h. c.equal_below.ensures.1 (d.0 h))
