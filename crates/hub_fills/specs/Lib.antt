@@ -1,0 +1,12 @@
+pub mod Lookups
+pub mod Fills
+pub mod Late
+pub mod Right
+pub mod Sound
+pub mod NameLaws
+pub mod RightLaws
+pub mod Depth
+pub mod FillsCode
+pub mod SeenFills
+pub mod FillsFalls
+pub mod Inside
