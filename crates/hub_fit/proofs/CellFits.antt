@@ -1,6 +1,6 @@
 -- A cell of each kind fits where nothing is refused of it.
 use Rattle.std.proofs.Common.{◌≡◌, ◌+◌, ℕ, List, [], ◌∷◌, ◌++◌, Bool, true, false, ◌&&◌, ◌||◌, not, Option, Some, None, refl, sym, subst, arith}
-use Rattle.std.specs.Prelude.{leb, is_none, option_map}
+use Rattle.std.specs.Prelude.{leb, is_none, is_some, option_map}
 use Rattle.std.specs.Prelude.{cond, ℤ, FitsSigned}
 use Rattle.std.specs.Int.{w64}
 use Rattle.std.proofs.lemmas.Int.{ints}
@@ -11,12 +11,14 @@ use Rattle.kj_value.specs.Json.{Json, null, boolean, whole, text, list, object, 
 use Rattle.struct_schema.specs.Shape.{Shape, own}
 use Rattle.struct_schema.specs.Valid.{valid}
 use Rattle.struct_schema.specs.Stays.{stays}
+use Rattle.struct_schema.specs.Below.{below}
+use Rattle.struct_schema.specs.BelowLaws.{same_valid, same_stays}
 use Rattle.hub_cells.specs.declared.allowed.TheConstants.{STORED_LEVELS}
 use Rattle.hub_cells.specs.Side.{Side, spoke, hub, other}
 use Rattle.hub_cells.specs.Colon.{at_colon, has_colon}
 use Rattle.hub_cells.specs.Cell.{same, spoke_only, hub_only, split, table, Tuple, one, none, ListsOnce}
 use Rattle.hub_cells.specs.Cross.{matched, parts, partner, by_table, blank}
-use Rattle.hub_cells.specs.Level.{Name, Place, Cell, names, tuple_of, is_word, allowed_at, all_allowed, allows, MatchAllowed, CellFits}
+use Rattle.hub_cells.specs.Level.{Name, Place, Cell, places, names, tuple_of, is_word, allowed_at, all_allowed, allows, MatchAllowed, some_there, have_default, MatchThere, CellFits}
 use Rattle.hub_rules.specs.Refusal.{plain_text, is_null, valid_blank, all_valid}
 use Rattle.hub_rules.specs.Sound.{IsScalar, AreScalars}
 
@@ -49,34 +51,60 @@ AbsentMatch c d = matched d c.kind (tuple_of (names d c) []) ≡ Some (tuple_of 
 abbrev pub AnswerFits : Cell → Side → Tuple → Type 0
 AnswerFits c d u = allows d c u ≡ true → MatchAllowed c d (matched d c.kind u) u
 
+-- what a tuple that is there is answered by is there
+abbrev pub AnswerThere : Cell → Side → Tuple → Type 0
+AnswerThere c d u = allows d c u ≡ true → some_there u ≡ true → MatchThere c d (matched d c.kind u) u
+
 -- ---- same
 
-abbrev same_cell : ℕ → Name → Name → Shape → Bool → Cell
-same_cell n a b t r = record { spoke = place a t r ∷ []; hub = place b t r ∷ []; kind = same; depth = n }
+abbrev same_cell : ℕ → Place → Place → Cell
+same_cell n p q = record { spoke = p ∷ []; hub = q ∷ []; kind = same; depth = n }
 
-same_over : (n : ℕ) (p q : Name) (t : Shape) (r : Bool) (u : Tuple) → all_allowed n (place p t r ∷ []) u ≡ true → all_allowed n (place q t r ∷ []) u ≡ true
-same_over n p q t r [] h = h
-same_over n p q t r (None ∷ []) h = h
-same_over n p q t r (Some j ∷ []) h = h
-same_over n p q t r (None ∷ o ∷ os) h = h
-same_over n p q t r (Some j ∷ o ∷ os) h = h
+-- places that ask the same but for their defaults
+abbrev SamePlaces : Place → Place → Type 0
+SamePlaces p q = (below p.shape ≡ below q.shape) × (p.required ≡ q.required)
 
-same_absent : (n : ℕ) (a b : Name) (t : Shape) (r : Bool) (d : Side) → AbsentMatch (same_cell n a b t r) d
-same_absent n a b t r spoke = refl
-same_absent n a b t r hub = refl
+value_over : (n : ℕ) (p q : Place) (j : Json) → below p.shape ≡ below q.shape → allowed_at n p (Some j) ≡ allowed_at n q (Some j)
+value_over n p q j e = cc (same_valid p.shape q.shape j e, same_stays p.shape q.shape j e)
 
-same_answer : (n : ℕ) (a b : Name) (t : Shape) (r : Bool) (d : Side) (u : Tuple) → AnswerFits (same_cell n a b t r) d u
-same_answer n a b t r spoke u h = same_over n a b t r u h
-same_answer n a b t r hub u h = same_over n b a t r u h
+same_over : (n : ℕ) (p q : Place) → SamePlaces p q → (u : Tuple) → all_allowed n (p ∷ []) u ≡ true → all_allowed n (q ∷ []) u ≡ true
+same_over n p q e [] h = absurd (false≢true h)
+same_over n p q e (None ∷ []) h = rw (← e.1) h
+same_over n p q e (Some j ∷ []) h = rw (← value_over n p q j e.0) h
+same_over n p q e (None ∷ o ∷ os) h = absurd (false≢true (rest_allowed n p None [] (o ∷ os) h))
+same_over n p q e (Some j ∷ o ∷ os) h = absurd (false≢true (rest_allowed n p (Some j) [] (o ∷ os) h))
 
-pub same_fits : (n : ℕ) (a b : Name) (t u : Shape) (r q : Bool) → t ≡ u → r ≡ q → CellFits (record { spoke = place a t r ∷ []; hub = place b u q ∷ []; kind = same; depth = n })
-same_fits n a b t u r q e f =
-    subst (λ (v : Shape). CellFits (record { spoke = place a t r ∷ []; hub = place b v q ∷ []; kind = same; depth = n })) e (subst (λ (v : Bool). CellFits (record { spoke = place a t r ∷ []; hub = place b t v ∷ []; kind = same; depth = n })) f (record { regular = tt; absent = same_absent n a b t r; answer = same_answer n a b t r }))
+same_absent : (n : ℕ) (p q : Place) (d : Side) → AbsentMatch (same_cell n p q) d
+same_absent n p q spoke = refl
+same_absent n p q hub = refl
+
+same_answer : (n : ℕ) (p q : Place) → SamePlaces p q → (d : Side) (u : Tuple) → AnswerFits (same_cell n p q) d u
+same_answer n p q e spoke u h = same_over n p q e u h
+same_answer n p q e hub u h = same_over n q p (sym e.0, sym e.1) u h
+
+same_there : (n : ℕ) (p q : Place) (d : Side) (u : Tuple) → AnswerThere (same_cell n p q) d u
+same_there n p q spoke u h t = t
+same_there n p q hub u h t = t
+
+pub same_fits : (n : ℕ) (a b : Name) (t u : Shape) (r q : Bool) → below t ≡ below u → r ≡ q → CellFits (record { spoke = place a t r ∷ []; hub = place b u q ∷ []; kind = same; depth = n })
+same_fits n a b t u r q e f = record {
+  regular = tt;
+  absent = same_absent n (place a t r) (place b u q);
+  answer = same_answer n (place a t r) (place b u q) (e, f);
+  there = λ d v c. same_there n (place a t r) (place b u q) d v;
+  single = λ h. refl;
+  defaults = λ d h. refl;
+  matches = λ v h g. refl;
+}
 
 -- ---- one name on one side
 
-absent_allowed : (n : ℕ) (a : Name) (t : Shape) (r : Bool) → not r ≡ true → is_none (own t).default_value ≡ true → all_allowed n (place a t r ∷ []) none ≡ true
-absent_allowed n a t r f e = rw (f, e) refl
+absent_allowed : (n : ℕ) (a : Name) (t : Shape) (r : Bool) → not r ≡ true → all_allowed n (place a t r ∷ []) none ≡ true
+absent_allowed n a t r f = rw f refl
+
+lacking : (o : Option Json) → is_none o ≡ true → (is_some o || false) ≡ true → ⊥
+lacking None e h = false≢true h
+lacking (Some j) e h = false≢true e
 
 pub no_match_first : (n : ℕ) (o : Option Json) (os : Tuple) → all_allowed n [] (o ∷ os) ≡ true → ⊥
 no_match_first n o os h = false≢true h
@@ -88,17 +116,29 @@ spoke_absent : (n : ℕ) (a : Name) (t : Shape) (r : Bool) (d : Side) → Absent
 spoke_absent n a t r spoke = refl
 spoke_absent n a t r hub = refl
 
-spoke_answer : (n : ℕ) (a : Name) (t : Shape) (r : Bool) → not r ≡ true → is_none (own t).default_value ≡ true → (d : Side) (u : Tuple) → AnswerFits (spoke_cell n a t r) d u
-spoke_answer n a t r f e spoke [] h = refl
-spoke_answer n a t r f e spoke (None ∷ []) h = refl
-spoke_answer n a t r f e spoke (Some j ∷ []) h = refl
-spoke_answer n a t r f e spoke (None ∷ o ∷ os) h = refl
-spoke_answer n a t r f e spoke (Some j ∷ o ∷ os) h = refl
-spoke_answer n a t r f e hub [] h = absent_allowed n a t r f e
-spoke_answer n a t r f e hub (o ∷ os) h = absurd (no_match_first n o os h)
+spoke_answer : (n : ℕ) (a : Name) (t : Shape) (r : Bool) → not r ≡ true → (d : Side) (u : Tuple) → AnswerFits (spoke_cell n a t r) d u
+spoke_answer n a t r f spoke [] h = refl
+spoke_answer n a t r f spoke (None ∷ []) h = refl
+spoke_answer n a t r f spoke (Some j ∷ []) h = refl
+spoke_answer n a t r f spoke (None ∷ o ∷ os) h = refl
+spoke_answer n a t r f spoke (Some j ∷ o ∷ os) h = refl
+spoke_answer n a t r f hub [] h = absent_allowed n a t r f
+spoke_answer n a t r f hub (o ∷ os) h = absurd (no_match_first n o os h)
 
 pub spoke_only_fits : (n : ℕ) (a : Name) (t : Shape) (r : Bool) → not r ≡ true → is_none (own t).default_value ≡ true → CellFits (spoke_cell n a t r)
-spoke_only_fits n a t r f e = record { regular = tt; absent = spoke_absent n a t r; answer = spoke_answer n a t r f e }
+spoke_only_fits n a t r f e = record {
+  regular = tt;
+  absent = spoke_absent n a t r;
+  answer = spoke_answer n a t r f;
+  there = λ d u c. absurd (false≢true c);
+  single = λ h. absurd (false≢true h);
+  defaults = none_there;
+  matches = λ u h g. absurd (lacking (own t).default_value e h);
+}
+  where
+    none_there : (d : Side) → have_default (places d (spoke_cell n a t r)) ≡ true → false ≡ true
+    none_there spoke h = absurd (lacking (own t).default_value e h)
+    none_there hub h = h
 
 abbrev hub_cell : ℕ → Name → Shape → Bool → Cell
 hub_cell n b t r = record { spoke = []; hub = place b t r ∷ []; kind = hub_only; depth = n }
@@ -107,17 +147,29 @@ hub_absent : (n : ℕ) (b : Name) (t : Shape) (r : Bool) (d : Side) → AbsentMa
 hub_absent n b t r spoke = refl
 hub_absent n b t r hub = refl
 
-hub_answer : (n : ℕ) (b : Name) (t : Shape) (r : Bool) → not r ≡ true → is_none (own t).default_value ≡ true → (d : Side) (u : Tuple) → AnswerFits (hub_cell n b t r) d u
-hub_answer n b t r f e hub [] h = refl
-hub_answer n b t r f e hub (None ∷ []) h = refl
-hub_answer n b t r f e hub (Some j ∷ []) h = refl
-hub_answer n b t r f e hub (None ∷ o ∷ os) h = refl
-hub_answer n b t r f e hub (Some j ∷ o ∷ os) h = refl
-hub_answer n b t r f e spoke [] h = absent_allowed n b t r f e
-hub_answer n b t r f e spoke (o ∷ os) h = absurd (no_match_first n o os h)
+hub_answer : (n : ℕ) (b : Name) (t : Shape) (r : Bool) → not r ≡ true → (d : Side) (u : Tuple) → AnswerFits (hub_cell n b t r) d u
+hub_answer n b t r f hub [] h = refl
+hub_answer n b t r f hub (None ∷ []) h = refl
+hub_answer n b t r f hub (Some j ∷ []) h = refl
+hub_answer n b t r f hub (None ∷ o ∷ os) h = refl
+hub_answer n b t r f hub (Some j ∷ o ∷ os) h = refl
+hub_answer n b t r f spoke [] h = absent_allowed n b t r f
+hub_answer n b t r f spoke (o ∷ os) h = absurd (no_match_first n o os h)
 
 pub hub_only_fits : (n : ℕ) (b : Name) (t : Shape) (r : Bool) → not r ≡ true → is_none (own t).default_value ≡ true → CellFits (hub_cell n b t r)
-hub_only_fits n b t r f e = record { regular = tt; absent = hub_absent n b t r; answer = hub_answer n b t r f e }
+hub_only_fits n b t r f e = record {
+  regular = tt;
+  absent = hub_absent n b t r;
+  answer = hub_answer n b t r f;
+  there = λ d u c. absurd (false≢true c);
+  single = λ h. absurd (false≢true h);
+  defaults = none_there;
+  matches = λ u h g. absurd (false≢true h);
+}
+  where
+    none_there : (d : Side) → have_default (places d (hub_cell n b t r)) ≡ true → false ≡ true
+    none_there spoke h = h
+    none_there hub h = absurd (lacking (own t).default_value e h)
 
 -- ---- split
 
@@ -195,7 +247,19 @@ split_answer n a b c spoke u h = split_from n a b c u h
 split_answer n a b c hub u h = split_to n a b c u h
 
 pub split_fits : (n : ℕ) (a b c : Name) → CellFits (split_cell n a b c)
-split_fits n a b c = record { regular = tt; absent = split_absent n a b c; answer = split_answer n a b c }
+split_fits n a b c = record {
+  regular = tt;
+  absent = split_absent n a b c;
+  answer = split_answer n a b c;
+  there = λ d u e. absurd (false≢true e);
+  single = λ h. absurd (false≢true h);
+  defaults = none_there;
+  matches = λ u h g. absurd (false≢true h);
+}
+  where
+    none_there : (d : Side) → have_default (places d (split_cell n a b c)) ≡ true → false ≡ true
+    none_there spoke h = h
+    none_there hub h = h
 
 -- ---- scalars
 
@@ -242,13 +306,13 @@ or_false true h = refl
 or_false false h = absurd (false≢true h)
 
 -- a blank is allowed where a value is: a null one by what is asked of an absent name
-blank_allowed : (n : ℕ) (q : Place) (y : Json) → IsScalar y → valid_blank q.shape y ≡ true → (not q.required || not (is_null y)) ≡ true → (is_none (own q.shape).default_value || not (is_null y)) ≡ true → leb (n + 1) STORED_LEVELS ≡ true → all_allowed n (q ∷ []) (blank y) ≡ true
-blank_allowed n q null p v r d h = rw (or_false (not q.required) r, or_false (is_none (own q.shape).default_value) d) refl
-blank_allowed n q (boolean b) p v r d h = alone n q (Some (boolean b)) (scalar_allowed n q (boolean b) p v h)
-blank_allowed n q (whole z) p v r d h = alone n q (Some (whole z)) (scalar_allowed n q (whole z) p v h)
-blank_allowed n q (text t) p v r d h = alone n q (Some (text t)) (scalar_allowed n q (text t) p v h)
-blank_allowed n q (list js) p v r d h = absurd p
-blank_allowed n q (object ms) p v r d h = absurd p
+blank_allowed : (n : ℕ) (q : Place) (y : Json) → IsScalar y → valid_blank q.shape y ≡ true → (not q.required || not (is_null y)) ≡ true → leb (n + 1) STORED_LEVELS ≡ true → all_allowed n (q ∷ []) (blank y) ≡ true
+blank_allowed n q null p v r h = rw (or_false (not q.required) r) refl
+blank_allowed n q (boolean b) p v r h = alone n q (Some (boolean b)) (scalar_allowed n q (boolean b) p v h)
+blank_allowed n q (whole z) p v r h = alone n q (Some (whole z)) (scalar_allowed n q (whole z) p v h)
+blank_allowed n q (text t) p v r h = alone n q (Some (text t)) (scalar_allowed n q (text t) p v h)
+blank_allowed n q (list js) p v r h = absurd p
+blank_allowed n q (object ms) p v r h = absurd p
 
 -- what a tuple is answered by, on the other side's place
 abbrev Answered : ℕ → Place → Tuple → Option Tuple → Type 0
@@ -269,15 +333,20 @@ table_over n p q d ps t (Some i ∷ []) absent listed shows h = by_partner (part
 table_over n p q d ps t (None ∷ o ∷ os) absent listed shows h = absurd (false≢true (rest_allowed n p None [] (o ∷ os) h))
 table_over n p q d ps t (Some i ∷ o ∷ os) absent listed shows h = absurd (false≢true (rest_allowed n p (Some i) [] (o ∷ os) h))
 
--- no default on either side, or one on both
-abbrev pub Alike : Place → Place → Type 0
-Alike p q = (p.required ≡ q.required) × (is_none (own p.shape).default_value ≡ is_none (own q.shape).default_value)
+pub absent_over : (n : ℕ) (p q : Place) → p.required ≡ q.required → all_allowed n (p ∷ []) none ≡ true → all_allowed n (q ∷ []) none ≡ true
+absent_over n p q e h = rw (← e) h
 
-pub absent_over : (n : ℕ) (p q : Place) → Alike p q → all_allowed n (p ∷ []) none ≡ true → all_allowed n (q ∷ []) none ≡ true
-absent_over n p q e h = rw (← e.0, ← e.1) h
+-- a blank that isn't null is there
+blank_there : (y : Json) → not (is_null y) ≡ true → some_there (blank y) ≡ true
+blank_there null h = absurd (false≢true h)
+blank_there (boolean b) h = refl
+blank_there (whole z) h = refl
+blank_there (text t) h = refl
+blank_there (list js) h = refl
+blank_there (object ms) h = refl
 
 pub record TableHolds (p q : Place) (ps : List (Json × Json)) (x y : Json) : Type 0 where
-  pub alike : Alike p q
+  pub alike : p.required ≡ q.required
   pub scalars : AreScalars ps × IsScalar x × IsScalar y
   pub valid : all_valid p.shape q.shape ps ≡ true
   pub spoke_blank : valid_blank p.shape x ≡ true
@@ -285,8 +354,8 @@ pub record TableHolds (p q : Place) (ps : List (Json × Json)) (x y : Json) : Ty
   pub once : ListsOnce spoke ps × ListsOnce hub ps
   pub spoke_required : (not p.required || not (is_null x)) ≡ true
   pub hub_required : (not q.required || not (is_null y)) ≡ true
-  pub spoke_default : (is_none (own p.shape).default_value || not (is_null x)) ≡ true
-  pub hub_default : (is_none (own q.shape).default_value || not (is_null y)) ≡ true
+  pub both : have_default (p ∷ []) ≡ true → have_default (q ∷ []) ≡ true
+  pub blanks : (have_default (p ∷ []) || have_default (q ∷ [])) ≡ true → (not (is_null x) ≡ true) × (not (is_null y) ≡ true)
 
 abbrev table_cell : ℕ → Place → Place → List (Json × Json) → Json → Json → Cell
 table_cell n p q ps x y = record { spoke = p ∷ []; hub = q ∷ []; kind = table ps x y; depth = n }
@@ -309,13 +378,47 @@ answered_to n p q ps x y u (Some v) h = h
 
 table_answer : (n : ℕ) (p q : Place) (ps : List (Json × Json)) (x y : Json) → TableHolds p q ps x y → (d : Side) (u : Tuple) → AnswerFits (table_cell n p q ps x y) d u
 table_answer n p q ps x y f spoke u h =
-    answered_from n p q ps x y u (by_table spoke ps u) (table_over n p q spoke ps (blank y) u (absent_over n p q f.alike) (λ i j e. listed_valid spoke (sides p.shape q.shape) i j ps f.scalars.0 f.valid e) (blank_allowed n q y f.scalars.2 f.hub_blank f.hub_required f.hub_default) h)
+    answered_from n p q ps x y u (by_table spoke ps u) (table_over n p q spoke ps (blank y) u (absent_over n p q f.alike) (λ i j e. listed_valid spoke (sides p.shape q.shape) i j ps f.scalars.0 f.valid e) (blank_allowed n q y f.scalars.2 f.hub_blank f.hub_required) h)
 table_answer n p q ps x y f hub u h =
-    answered_to n p q ps x y u (by_table hub ps u) (table_over n q p hub ps (blank x) u (absent_over n q p (sym f.alike.0, sym f.alike.1)) (λ i j e. listed_valid hub (sides p.shape q.shape) i j ps f.scalars.0 f.valid e) (blank_allowed n p x f.scalars.1 f.spoke_blank f.spoke_required f.spoke_default) h)
+    answered_to n p q ps x y u (by_table hub ps u) (table_over n q p hub ps (blank x) u (absent_over n q p (sym f.alike)) (λ i j e. listed_valid hub (sides p.shape q.shape) i j ps f.scalars.0 f.valid e) (blank_allowed n p x f.scalars.1 f.spoke_blank f.spoke_required) h)
+
+table_there : (n : ℕ) (p q : Place) (ps : List (Json × Json)) (x y : Json) → (not (is_null x) ≡ true) × (not (is_null y) ≡ true) → (d : Side) (u : Tuple) → AnswerThere (table_cell n p q ps x y) d u
+table_there n p q ps x y b d [] h t = absurd (false≢true t)
+table_there n p q ps x y b d (None ∷ []) h t = absurd (false≢true t)
+table_there n p q ps x y b spoke (Some i ∷ []) h t = by_partner (partner spoke i ps)
+  where
+    by_partner : (o : Option Json) → MatchThere (table_cell n p q ps x y) spoke (option_map one o) (one i)
+    by_partner None = blank_there y b.1
+    by_partner (Some j) = refl
+table_there n p q ps x y b hub (Some i ∷ []) h t = by_partner (partner hub i ps)
+  where
+    by_partner : (o : Option Json) → MatchThere (table_cell n p q ps x y) hub (option_map one o) (one i)
+    by_partner None = blank_there x b.0
+    by_partner (Some j) = refl
+table_there n p q ps x y b spoke (None ∷ o ∷ os) h t = absurd (false≢true (rest_allowed n p None [] (o ∷ os) h))
+table_there n p q ps x y b spoke (Some i ∷ o ∷ os) h t = absurd (false≢true (rest_allowed n p (Some i) [] (o ∷ os) h))
+table_there n p q ps x y b hub (None ∷ o ∷ os) h t = absurd (false≢true (rest_allowed n q None [] (o ∷ os) h))
+table_there n p q ps x y b hub (Some i ∷ o ∷ os) h t = absurd (false≢true (rest_allowed n q (Some i) [] (o ∷ os) h))
+
+or_first : (a b : Bool) → a ≡ true → (a || b) ≡ true
+or_first true b h = refl
+or_first false b h = absurd (false≢true h)
+
+or_second : (a b : Bool) → b ≡ true → (a || b) ≡ true
+or_second true b h = refl
+or_second false b h = h
 
 pub table_fits : (n : ℕ) (p q : Place) (ps : List (Json × Json)) (x y : Json) → TableHolds p q ps x y → CellFits (table_cell n p q ps x y)
 table_fits n p q ps x y f = record {
   regular = f.once;
   absent = table_absent n p q ps x y;
   answer = table_answer n p q ps x y f;
+  there = λ d u c. table_there n p q ps x y (f.blanks c) d u;
+  single = λ h. refl;
+  defaults = one_side;
+  matches = λ u h g. or_second (is_some (by_table spoke ps u)) (have_default (q ∷ [])) (f.both h);
 }
+  where
+    one_side : (d : Side) → have_default (places d (table_cell n p q ps x y)) ≡ true → (have_default (p ∷ []) || have_default (q ∷ [])) ≡ true
+    one_side spoke h = or_first (have_default (p ∷ [])) (have_default (q ∷ [])) h
+    one_side hub h = or_second (have_default (p ∷ [])) (have_default (q ∷ [])) h

@@ -8,13 +8,12 @@ use Rattle.std.proofs.lemmas.Slice.Eq.{bytes_eq-Decides}
 use Rattle.std.proofs.lemmas.Bool.{false≢true}
 use Rattle.kj_value.specs.Json.{Json}
 use Rattle.struct_schema.specs.Shape.{Shape, own, properties, Shapes, no_shapes, shape_at, MaybeShapes, no_map, some_map}
-use Rattle.struct_schema.specs.ShapeSame.{shape_same}
 use Rattle.struct_schema.specs.Fault.{or_else, unless, lesser}
 use Rattle.hub_cells.specs.Side.{Side, spoke, hub, other}
 use Rattle.hub_cells.specs.Level.{Name, AreDistinct}
 use Rattle.hub_cells.specs.Fit.{has_name, is_required}
 use Rattle.hub_rules.specs.Rule.{Rule, same, within, spoke_only, hub_only, split, table, scale, Rules, no_rules, rule, rule_names, spoke_names, hub_names, names_on}
-use Rattle.hub_rules.specs.Refusal.{Why, name_twice, name_missing, schema_differs, unpaired_default, required_lost, range_lost, Spot, spot_at, node, node_at, is_there, is_free, again, twice_in, twice, absent, absent_in, absent_from, first_failing, failing_in, unpaired, missing, is_closed, alike_required, schema_passes, default_passes, required_passes, range_passes, rule_passes, head_spot, refused, differing, lost, schema_spot, required_spot, level_spot, Fault, told, level_fault, under, within_fault, inner_fault, fault, at_root, root_fault, fit_fault}
+use Rattle.hub_rules.specs.Refusal.{Why, name_twice, name_missing, schema_differs, unpaired_default, required_lost, range_lost, Spot, spot_at, node, node_at, is_there, is_free, again, twice_in, twice, absent, absent_in, absent_from, first_failing, failing_in, unpaired, missing, is_closed, alike_below, alike_required, schema_passes, default_passes, required_passes, range_passes, rule_passes, head_spot, refused, differing, lost, schema_spot, required_spot, level_spot, Fault, told, level_fault, under, within_fault, inner_fault, fault, at_root, root_fault, fit_fault}
 use Rattle.hub_fit.specs.Conditions.{shape_on, AllPass, EachNamed, EachProperty, NamesOnce, NamesStand, SchemasAgree, RequiredStands, FitsLevel, FitsInside, FitsAllInside, AreRoots, AreFitting}
 use Rattle.hub_fit.proofs.Names.{or_first, or_second, has_append, fresh, not_fresh, distinct_right, self}
 use Rattle.hub_fit.proofs.Holds.{none_left, none_right, passed, passed_on, failed, failed_on, no_spot}
@@ -228,7 +227,7 @@ fits_level s h rs e =
       };
       schemas_agree = record {
         ruled = all_pass schema_differs s h rs (none_left (refused schema_differs s h rs) _ c);
-        free = each_free (λ k. has_name k (names_on spoke rs)) (λ k t. shape_same t (node_at k h) && alike_required k k s h) (properties s) alike;
+        free = each_free (λ k. has_name k (names_on spoke rs)) (λ k t. alike_below t (node_at k h) && alike_required k k s h) (properties s) alike;
       };
       defaults_pair = all_pass unpaired_default s h rs p;
       required_stands = record {
@@ -248,7 +247,7 @@ level_fits s h rs f =
     let free_spoke = spot_none spoke name_missing (unpaired spoke s h rs) (free_each (λ k. has_name k (names_on spoke rs)) (λ k t. is_free hub h rs k) (properties s) (f.names_stand.free spoke)) in
     let free_hub = spot_none hub name_missing (unpaired hub h s rs) (free_each (λ k. has_name k (names_on hub rs)) (λ k t. is_free spoke s rs k) (properties h) (f.names_stand.free hub)) in
     let c = none_refused schema_differs s h rs f.schemas_agree.ruled in
-    let alike = spot_none spoke schema_differs (differing s h rs) (free_each (λ k. has_name k (names_on spoke rs)) (λ k t. shape_same t (node_at k h) && alike_required k k s h) (properties s) f.schemas_agree.free) in
+    let alike = spot_none spoke schema_differs (differing s h rs) (free_each (λ k. has_name k (names_on spoke rs)) (λ k t. alike_below t (node_at k h) && alike_required k k s h) (properties s) f.schemas_agree.free) in
     let p = none_refused unpaired_default s h rs f.defaults_pair in
     let q = none_refused required_lost s h rs f.required_stands.ruled in
     let lost_spoke = spot_none spoke required_lost (lost s) (never_lost s (own s).required (f.required_stands.there spoke)) in

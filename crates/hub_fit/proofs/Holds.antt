@@ -4,7 +4,6 @@ use Rattle.std.specs.Str.{bytes_eq}
 use Rattle.std.proofs.lemmas.Slice.Eq.{bytes_eq-Decides}
 use Rattle.std.proofs.lemmas.Bool.{false≢true}
 use Rattle.struct_schema.specs.Shape.{Shape, properties, Shapes, no_shapes, shape_at, MaybeShapes, no_map, some_map, some_shape}
-use Rattle.struct_schema.specs.ShapeSame.{shape_same}
 use Rattle.struct_schema.specs.Names.{is_name, shape_named, property}
 use Rattle.struct_schema.specs.Fault.{or_else}
 use Rattle.struct_schema.specs.NameLaws.{one_name}
@@ -13,7 +12,7 @@ use Rattle.hub_cells.specs.Level.{Name, AreDistinct}
 use Rattle.hub_cells.specs.Fit.{has_name}
 use Rattle.hub_rules.specs.Rule.{Rule, Rules, no_rules, rule, rule_names, spoke_names, hub_names, names_on}
 use Rattle.hub_rules.specs.Sound.{IsSoundRule, AreSoundRules}
-use Rattle.hub_rules.specs.Refusal.{Why, name_twice, name_missing, schema_differs, unpaired_default, required_lost, range_lost, spot_at, node, node_at, again, twice_in, twice, absent, absent_in, absent_from, first_failing, failing_in, unpaired, missing, schema_passes, default_passes, required_passes, range_passes, head_spot, refused, differing, lost, schema_spot, required_spot, level_spot, is_free, alike_required}
+use Rattle.hub_rules.specs.Refusal.{Why, name_twice, name_missing, schema_differs, unpaired_default, required_lost, range_lost, spot_at, node, node_at, again, twice_in, twice, absent, absent_in, absent_from, first_failing, failing_in, unpaired, missing, schema_passes, default_passes, required_passes, range_passes, head_spot, refused, differing, lost, schema_spot, required_spot, level_spot, is_free, alike_below, alike_required}
 use Rattle.hub_fit.proofs.Names.{Apart, or_left, or_right, fresh}
 
 pub none_left : {A : Type 0} (o p : Option A) → or_else o p ≡ None → o ≡ None
@@ -126,7 +125,7 @@ pub record NamesHold (s h : Shape) (rs : Rules) : Type 0 where
   pub single : Single spoke rs × Single hub rs
   pub spoke_paired : (k : Name) (t : Shape) → node k s ≡ some_shape t → (has_name k (names_on spoke rs) || is_free hub h rs k) ≡ true
   pub hub_paired : (k : Name) (t : Shape) → node k h ≡ some_shape t → (has_name k (names_on hub rs) || is_free spoke s rs k) ≡ true
-  pub alike : (k : Name) (t : Shape) → node k s ≡ some_shape t → (has_name k (names_on spoke rs) || (shape_same t (node_at k h) && alike_required k k s h)) ≡ true
+  pub alike : (k : Name) (t : Shape) → node k s ≡ some_shape t → (has_name k (names_on spoke rs) || (alike_below t (node_at k h) && alike_required k k s h)) ≡ true
   pub spoke_lost : lost s ≡ None
   pub hub_lost : lost h ≡ None
 
@@ -157,7 +156,7 @@ names_hold s h rs e =
       single = singles rs (none_left (twice rs) _ e);
       spoke_paired = passing_in (λ k t. has_name k (names_on spoke rs) || is_free hub h rs k) (properties s) (no_spot spoke name_missing (unpaired spoke s h rs) (none_left (spot_at spoke name_missing (unpaired spoke s h rs)) _ m1));
       hub_paired = passing_in (λ k t. has_name k (names_on hub rs) || is_free spoke s rs k) (properties h) (no_spot hub name_missing (unpaired hub h s rs) (none_right (spot_at spoke name_missing (unpaired spoke s h rs)) _ m1));
-      alike = passing_in (λ k t. has_name k (names_on spoke rs) || (shape_same t (node_at k h) && alike_required k k s h)) (properties s) (no_spot spoke schema_differs (differing s h rs) (none_right (refused schema_differs s h rs) _ c));
+      alike = passing_in (λ k t. has_name k (names_on spoke rs) || (alike_below t (node_at k h) && alike_required k k s h)) (properties s) (no_spot spoke schema_differs (differing s h rs) (none_right (refused schema_differs s h rs) _ c));
       spoke_lost = no_spot spoke required_lost (lost s) (none_left (spot_at spoke required_lost (lost s)) _ q1);
       hub_lost = no_spot hub required_lost (lost h) (none_right (spot_at spoke required_lost (lost s)) _ q1);
     }

@@ -1,6 +1,6 @@
 -- The level that rules mean fits both schemas where nothing of it is refused.
 use Rattle.std.proofs.Common.{◌≡◌, ◌<◌, ℕ, List, [], ◌∷◌, Bool, true, false, ◌&&◌, ◌||◌, not, cond, Option, Some, None, refl, ap, sym, subst, ◌∙◌, arith}
-use Rattle.std.specs.Prelude.{is_none, filter, fold}
+use Rattle.std.specs.Prelude.{is_none, is_some, filter, fold}
 use Rattle.std.specs.Bool.{beq}
 use Rattle.std.specs.Cmp.{booleans_Decides}
 use Rattle.std.proofs.lemmas.Bool.{false≢true}
@@ -13,6 +13,7 @@ use Rattle.struct_schema.specs.Fault.{lesser}
 use Rattle.struct_schema.specs.declared.kind.NodeKind.{NodeKind}
 use Rattle.struct_schema.specs.declared.kind.NodeKind.TheVariants.{Object, Array, Text, Whole, Truth, IntOrText, Any}
 use Rattle.struct_schema.specs.SameLaws.{shape_same-Decides}
+use Rattle.struct_schema.specs.Below.{below}
 use Rattle.struct_schema.specs.NameLaws.{own_name}
 use Rattle.kj_value.specs.Same.{json_same}
 use Rattle.kj_value.specs.SameLaws.{json_same-Decides}
@@ -23,7 +24,7 @@ use Rattle.hub_cells.specs.Level.{Name, Cell, CellFits, CellsFit, Inners, Inners
 use Rattle.hub_cells.specs.Fit.{shape_on, has_name, is_required, IsClosedObject, IsPlaceOf, ArePlacesOf, CellsStand, IsCovered, Stands, InnersStand, IsFitted}
 use Rattle.hub_rules.specs.Rule.{Rule, same, within, spoke_only, hub_only, split, table, scale, Rules, no_rules, rule, names_on}
 use Rattle.hub_rules.specs.Sound.{AreSoundRules}
-use Rattle.hub_rules.specs.Refusal.{node, is_there, node_at, or_any, default_at, is_free, absent, is_closed, has_properties, is_whole, is_whole_node, alike_required, lacks_default, defaults_pair, is_pair, is_multiple, is_null, plain_text, all_valid, valid_blank, once, scale_fits, level_spot}
+use Rattle.hub_rules.specs.Refusal.{node, is_there, node_at, or_any, default_at, is_free, absent, is_closed, has_properties, is_whole, is_whole_node, alike_below, alike_required, lacks_default, defaults_pair, is_pair, is_null, plain_text, all_valid, valid_blank, once, scale_fits, level_spot}
 use Rattle.hub_fit.specs.Chosen.{place_at, places_at, cell_at, with_cell, free_cells, free_in, cells_before, cells_of, with_inner, inners_of, level_of, fit_of}
 use Rattle.hub_fit.proofs.CellFits.{and_left, and_right, and_both, same_fits, spoke_only_fits, hub_only_fits, split_cell, split_fits, table_fits}
 use Rattle.hub_fit.specs.InnerFits.{InnerFits, AllInnerFit}
@@ -131,19 +132,17 @@ lists_once d [] h = tt
 lists_once d (p ∷ ps) h =
     (new_value d (cells.value_on d p) ps (and_left (is_none (partner d (cells.value_on d p) ps)) (once d ps) h), lists_once d ps (and_right (is_none (partner d (cells.value_on d p) ps)) (once d ps) h))
 
-pair_alike : (R : Json → Json → Bool) (o p : Option Json) → defaults_pair R o p ≡ true → is_none o ≡ is_none p
-pair_alike R None None h = refl
-pair_alike R None (Some j) h = absurd (false≢true h)
-pair_alike R (Some i) None h = absurd (false≢true h)
-pair_alike R (Some i) (Some j) h = refl
+-- a table that has a default on a side has blanks that aren't null
+blanks_there : (R : Json → Json → Bool) (o p : Option Json) (a b : Bool) → defaults_pair R o p ≡ true → (is_none o || (a && b)) ≡ true → ((is_some o || false) || (is_some p || false)) ≡ true → (a ≡ true) × (b ≡ true)
+blanks_there R None None a b h k g = absurd (false≢true g)
+blanks_there R None (Some j) a b h k g = absurd (false≢true h)
+blanks_there R (Some i) p a b h k g = (and_left a b k, and_right a b k)
 
-or_weaken : (a b c d : Bool) → (a || (b && c)) ≡ true → d ≡ a → ((a || b) ≡ true) × ((d || c) ≡ true)
-or_weaken true b c d h e = (refl, rw e refl)
-or_weaken false b c d h e = (and_left b c h, or_second d c (and_right b c h))
-  where
-    or_second : (x y : Bool) → y ≡ true → (x || y) ≡ true
-    or_second true y q = refl
-    or_second false y q = q
+-- and then on both
+both_there : (R : Json → Json → Bool) (o p : Option Json) → defaults_pair R o p ≡ true → (is_some o || false) ≡ true → (is_some p || false) ≡ true
+both_there R None p h g = absurd (false≢true g)
+both_there R (Some i) None h g = absurd (false≢true h)
+both_there R (Some i) (Some j) h g = refl
 
 here_there : (k : Name) (t : Shape) (ss : Shapes) → is_there (shape_named k (shape_at k t ss)) ≡ true
 here_there k t ss = ap (λ (b : Bool). is_there (cond b (some_shape t) (shape_named k ss))) (own_name k)
@@ -161,9 +160,9 @@ split_as n a b c t u v p q r e f g i j k =
     let cell_is : split_cell n a b c ≡ record { spoke = record { name = a; shape = t; required = p } ∷ []; hub = record { name = b; shape = u; required = q } ∷ record { name = c; shape = v; required = r } ∷ []; kind = cells.split; depth = n } = cc (e, f, g, i, j, k) in
     subst CellFits cell_is (split_fits n a b c)
 
-same_ok : (n : ℕ) (s h : Shape) (a b : Name) → (shape_same (node_at a s) (node_at b h) && alike_required a b s h) ≡ true → CellFits (cell_at n s h (a ∷ []) (b ∷ []) cells.same)
+same_ok : (n : ℕ) (s h : Shape) (a b : Name) → (alike_below (node_at a s) (node_at b h) && alike_required a b s h) ≡ true → CellFits (cell_at n s h (a ∷ []) (b ∷ []) cells.same)
 same_ok n s h a b e =
-    same_fits n a b (node_at a s) (node_at b h) (is_required a s) (is_required b h) (same_shape (node_at a s) (node_at b h) (and_left (shape_same (node_at a s) (node_at b h)) (alike_required a b s h) e)) (same_bool (is_required a s) (is_required b h) (and_right (shape_same (node_at a s) (node_at b h)) (alike_required a b s h) e))
+    same_fits n a b (node_at a s) (node_at b h) (is_required a s) (is_required b h) (same_shape (below (node_at a s)) (below (node_at b h)) (and_left (alike_below (node_at a s) (node_at b h)) (alike_required a b s h) e)) (same_bool (is_required a s) (is_required b h) (and_right (alike_below (node_at a s) (node_at b h)) (alike_required a b s h) e))
 
 split_ok : (n : ℕ) (s h : Shape) (a b c : Name) → RuleHolds s h (split a b c) → CellFits (cell_at n s h (a ∷ []) (b ∷ c ∷ []) cells.split)
 split_ok n s h a b c f =
@@ -197,10 +196,8 @@ table_ok n s h a b ps x y f =
     let req = and_left (alike && rx) ry f.required in
     let dp = defaults_pair (is_pair ps) (default_at a s) (default_at b h) in
     let db = lacks_default a s || (not (is_null x) && not (is_null y)) in
-    let same_default = pair_alike (is_pair ps) (default_at a s) (default_at b h) (and_left dp db f.default) in
-    let blanks = or_weaken (lacks_default a s) (not (is_null x)) (not (is_null y)) (lacks_default b h) (and_right dp db f.default) (sym same_default) in
     table_fits n (place_at s a) (place_at h b) ps x y (record {
-      alike = (same_bool (is_required a s) (is_required b h) (and_left alike rx req), same_default);
+      alike = same_bool (is_required a s) (is_required b h) (and_left alike rx req);
       scalars = f.sound;
       valid = and_left v bx h2;
       spoke_blank = and_right v bx h2;
@@ -208,8 +205,8 @@ table_ok n s h a b ps x y f =
       once = (lists_once spoke ps (and_right (v && bx && by) ox h4), lists_once hub ps (and_right (v && bx && by && ox) oy f.range));
       spoke_required = and_right alike rx req;
       hub_required = and_right (alike && rx) ry f.required;
-      spoke_default = blanks.0;
-      hub_default = blanks.1;
+      both = both_there (is_pair ps) (default_at a s) (default_at b h) (and_left dp db f.default);
+      blanks = blanks_there (is_pair ps) (default_at a s) (default_at b h) (not (is_null x)) (not (is_null y)) (and_left dp db f.default) (and_right dp db f.default);
     })
 
 numbers : (t : Shape) → is_whole_node t ≡ true → is_none (own t).choices ≡ true → IsNumbers t
@@ -230,7 +227,7 @@ scale_ok n s h a b k f =
     let factor : 0 < k = omega (arith, f.sound.0) in
     scale_fits_cell n (place_at s a) (place_at h b) k (record {
       factor = factor;
-      alike = (same_bool (is_required a s) (is_required b h) f.required, pair_alike (is_multiple k) (default_at a s) (default_at b h) f.default);
+      alike = same_bool (is_required a s) (is_required b h) f.required;
       spoke = numbers (node_at a s) (and_left p q f.schema) (and_left x y two);
       hub = numbers (node_at b h) (and_right p q f.schema) (and_right x y two);
       fits = and_right (x && y) z f.range;
@@ -269,7 +266,7 @@ false_or false b h e = h
 
 free_cell_ok : (n : ℕ) (s h : Shape) (rs : Rules) → NamesHold s h rs → (k : Name) → is_there (node k s) ≡ true → has_name k (names_on spoke rs) ≡ false → CellFits (cell_at n s h (k ∷ []) (k ∷ []) cells.same)
 free_cell_ok n s h rs f k p e =
-    same_ok n s h k k (false_or (has_name k (names_on spoke rs)) (shape_same (node_at k s) (node_at k h) && alike_required k k s h) (f.alike k (node_at k s) (found (node k s) p)) e)
+    same_ok n s h k k (false_or (has_name k (names_on spoke rs)) (alike_below (node_at k s) (node_at k h) && alike_required k k s h) (f.alike k (node_at k s) (found (node k s) p)) e)
 
 pub level_cells_fit : (n : ℕ) (s h : Shape) (rs : Rules) → AllHold s h rs → NamesHold s h rs → CellsFit (cells_of n s h rs)
 level_cells_fit n s h rs a f =

@@ -1,6 +1,6 @@
 -- A cell of kind scale fits where the factor keeps both sides' bounds.
 use Rattle.std.proofs.Common.{◌≡◌, ◌<◌, ◌+◌, ℕ, ℤ, pos, negsuc, ◌*ℤ◌, ◌≤ℤ◌, List, [], ◌∷◌, Bool, true, false, ◌&&◌, not, cond, Option, Some, None, refl, sym, subst, ◌∙◌, arith}
-use Rattle.std.specs.Prelude.{leb, is_none, int_lt}
+use Rattle.std.specs.Prelude.{leb, is_none, is_some, ◌||◌, int_lt}
 use Rattle.std.specs.Ordering.{int_eq}
 use Rattle.std.proofs.lemmas.Int.{ints}
 use Rattle.std.proofs.lemmas.Bool.{false≢true}
@@ -17,10 +17,10 @@ use Rattle.hub_cells.specs.declared.allowed.TheConstants.{STORED_LEVELS}
 use Rattle.hub_cells.specs.Side.{Side, spoke, hub}
 use Rattle.hub_cells.specs.Cell.{Tuple, scale, one}
 use Rattle.hub_cells.specs.Cross.{quotient, matched}
-use Rattle.hub_cells.specs.Level.{Place, Cell, is_word, allowed_at, all_allowed, MatchAllowed, CellFits}
+use Rattle.hub_cells.specs.Level.{Place, Cell, is_word, allowed_at, all_allowed, allows, MatchAllowed, have_default, MatchThere, CellFits}
 use Rattle.hub_cells.specs.OneToOne.{quotient_times}
 use Rattle.hub_rules.specs.Refusal.{is_whole, greater, lesser_of, or_bound, format_least, format_greatest, least, greatest, is_between, products_fit, quotients_fit, scale_fits}
-use Rattle.hub_fit.proofs.CellFits.{and_left, and_right, and_both, Alike, AbsentMatch, AnswerFits, first_allowed, rest_allowed, room, shallow, alone, absent_over}
+use Rattle.hub_fit.proofs.CellFits.{and_left, and_right, and_both, AbsentMatch, AnswerFits, AnswerThere, first_allowed, rest_allowed, room, shallow, alone, absent_over}
 use Rattle.hub_fit.proofs.Scales.{not_less, less_not, products_rise, quotients_rise}
 
 le_trans : (x y z : ℤ) → x ≤ℤ y → y ≤ℤ z → x ≤ℤ z
@@ -202,7 +202,7 @@ number n p (object ms) f h =
 
 pub record ScaleHolds (p q : Place) (k : ℕ) : Type 0 where
   pub factor : 0 < k
-  pub alike : Alike p q
+  pub alike : p.required ≡ q.required
   pub spoke : IsNumbers p.shape
   pub hub : IsNumbers q.shape
   pub fits : scale_fits k (own p.shape) (own q.shape) ≡ true
@@ -263,11 +263,51 @@ scale_answer n p q k f spoke (Some j ∷ []) h =
 scale_answer n p q k f spoke (None ∷ o ∷ os) h = absurd (false≢true (rest_allowed n p None [] (o ∷ os) h))
 scale_answer n p q k f spoke (Some j ∷ o ∷ os) h = absurd (false≢true (rest_allowed n p (Some j) [] (o ∷ os) h))
 scale_answer n p q k f hub [] h = absurd (false≢true h)
-scale_answer n p q k f hub (None ∷ []) h = absent_over n q p (sym f.alike.0, sym f.alike.1) h
+scale_answer n p q k f hub (None ∷ []) h = absent_over n q p (sym f.alike) h
 scale_answer n p q k f hub (Some j ∷ []) h =
     value_back n p q k j f (room n q j (first_allowed n q (Some j) [] [] h)) (number n q j f.hub (first_allowed n q (Some j) [] [] h))
 scale_answer n p q k f hub (None ∷ o ∷ os) h = absurd (false≢true (rest_allowed n q None [] (o ∷ os) h))
 scale_answer n p q k f hub (Some j ∷ o ∷ os) h = absurd (false≢true (rest_allowed n q (Some j) [] (o ∷ os) h))
 
+number_there : (n : ℕ) (p q : Place) (k : ℕ) (d : Side) (z : ℤ) → MatchThere (scale_cell n p q k) d (matched d (scale k) (one (whole z))) (one (whole z))
+number_there n p q k spoke z = refl
+number_there n p q k hub z = by_test (int_eq (pos k *ℤ quotient k z) z)
+  where
+    by_test : (b : Bool) → MatchThere (scale_cell n p q k) hub (cond b (Some (one (whole (quotient k z)))) None) (one (whole z))
+    by_test true = refl
+    by_test false = refl
+
+value_there : (n : ℕ) (p q : Place) (k : ℕ) (d : Side) (t : Shape) (j : Json) → Number t j → MatchThere (scale_cell n p q k) d (matched d (scale k) (one j)) (one j)
+value_there n p q k d t j v =
+    subst (λ (i : Json). MatchThere (scale_cell n p q k) d (matched d (scale k) (one i)) (one i)) (sym v.1) (number_there n p q k d v.0)
+
+scale_there : (n : ℕ) (p q : Place) (k : ℕ) → ScaleHolds p q k → (d : Side) (u : Tuple) → AnswerThere (scale_cell n p q k) d u
+scale_there n p q k f d [] h t = absurd (false≢true t)
+scale_there n p q k f d (None ∷ []) h t = absurd (false≢true t)
+scale_there n p q k f spoke (Some j ∷ []) h t = value_there n p q k spoke p.shape j (number n p j f.spoke (first_allowed n p (Some j) [] [] h))
+scale_there n p q k f hub (Some j ∷ []) h t = value_there n p q k hub q.shape j (number n q j f.hub (first_allowed n q (Some j) [] [] h))
+scale_there n p q k f spoke (None ∷ o ∷ os) h t = absurd (false≢true (rest_allowed n p None [] (o ∷ os) h))
+scale_there n p q k f spoke (Some j ∷ o ∷ os) h t = absurd (false≢true (rest_allowed n p (Some j) [] (o ∷ os) h))
+scale_there n p q k f hub (None ∷ o ∷ os) h t = absurd (false≢true (rest_allowed n q None [] (o ∷ os) h))
+scale_there n p q k f hub (Some j ∷ o ∷ os) h t = absurd (false≢true (rest_allowed n q (Some j) [] (o ∷ os) h))
+
+value_matches : (k : ℕ) (b : Bool) (t : Shape) (j : Json) → Number t j → (is_some (matched spoke (scale k) (one j)) || b) ≡ true
+value_matches k b t j v = subst (λ (i : Json). (is_some (matched spoke (scale k) (one i)) || b) ≡ true) (sym v.1) refl
+
+scale_matches : (n : ℕ) (p q : Place) (k : ℕ) → ScaleHolds p q k → (u : Tuple) → allows spoke (scale_cell n p q k) u ≡ true → (is_some (matched spoke (scale k) u) || have_default (q ∷ [])) ≡ true
+scale_matches n p q k f [] h = absurd (false≢true h)
+scale_matches n p q k f (None ∷ []) h = refl
+scale_matches n p q k f (Some j ∷ []) h = value_matches k (have_default (q ∷ [])) p.shape j (number n p j f.spoke (first_allowed n p (Some j) [] [] h))
+scale_matches n p q k f (None ∷ o ∷ os) h = absurd (false≢true (rest_allowed n p None [] (o ∷ os) h))
+scale_matches n p q k f (Some j ∷ o ∷ os) h = absurd (false≢true (rest_allowed n p (Some j) [] (o ∷ os) h))
+
 pub scale_fits_cell : (n : ℕ) (p q : Place) (k : ℕ) → ScaleHolds p q k → CellFits (scale_cell n p q k)
-scale_fits_cell n p q k f = record { regular = f.factor; absent = scale_absent n p q k; answer = scale_answer n p q k f }
+scale_fits_cell n p q k f = record {
+  regular = f.factor;
+  absent = scale_absent n p q k;
+  answer = scale_answer n p q k f;
+  there = λ d u c. scale_there n p q k f d u;
+  single = λ h. refl;
+  defaults = λ d h. refl;
+  matches = λ u h g. scale_matches n p q k f u g;
+}

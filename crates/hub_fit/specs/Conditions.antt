@@ -2,12 +2,11 @@
 -- `properties`, and six conditions hold at every level.
 use Rattle.std.specs.Prelude.{◌≡◌, Bool, true, false, ◌&&◌, None}
 use Rattle.struct_schema.specs.Shape.{Shape, own, properties, Shapes, no_shapes, shape_at, MaybeShapes, no_map, some_map}
-use Rattle.struct_schema.specs.ShapeSame.{shape_same}
 use Rattle.hub_cells.specs.Side.{Side, spoke, hub, other}
 use Rattle.hub_cells.specs.Level.{Name, AreDistinct}
 use Rattle.hub_cells.specs.Fit.{has_name, is_required}
 use Rattle.hub_rules.specs.Rule.{Rule, same, within, spoke_only, hub_only, split, table, scale, Rules, no_rules, rule, names_on}
-use Rattle.hub_rules.specs.Refusal.{node, node_at, is_there, is_free, is_closed, alike_required, schema_passes, default_passes, required_passes, range_passes}
+use Rattle.hub_rules.specs.Refusal.{node, node_at, is_there, is_free, is_closed, alike_below, alike_required, schema_passes, default_passes, required_passes, range_passes}
 
 abbrev pub shape_on : Side → Shape → Shape → Shape
 shape_on spoke s h = s
@@ -42,13 +41,13 @@ pub record NamesStand (s h : Shape) (rs : Rules) : Type 0 where
   pub ruled : (d : Side) (k : Name) → has_name k (names_on d rs) ≡ true → is_there (node k (shape_on d s h)) ≡ true
   pub free : (d : Side) → EachFree d (shape_on d s h) rs (λ k t. is_free (other d) (shape_on (other d) s h) rs k ≡ true)
 
--- the schemas of a rule go together; a property that no rule names has equal schemas, and is required on both sides or on
--- neither
+-- the schemas of a rule go together; a property that no rule names has equal schemas but for their defaults, and is required
+-- on both sides or on neither
 pub record SchemasAgree (s h : Shape) (rs : Rules) : Type 0 where
   pub ruled : AllPass (schema_passes s h) rs
-  pub free : EachFree spoke s rs (λ k t. (shape_same t (node_at k h) && alike_required k k s h) ≡ true)
+  pub free : EachFree spoke s rs (λ k t. (alike_below t (node_at k h) && alike_required k k s h) ≡ true)
 
--- a rule has no default, or two that match
+-- a rule has no default that it can't hold: a table's match, and others but `same` and `scale` have none
 abbrev pub DefaultsPair : Shape → Shape → Rules → Type 0
 DefaultsPair s h rs = AllPass (default_passes s h) rs
 
