@@ -10,7 +10,7 @@ use Rattle.hub_cells.specs.Level.{Name}
 use Rattle.keep_laws.specs.Spokes.{Spokes}
 use Rattle.keep_laws.specs.Keys.{hub_key, KeyKind, plain, of_hub, of_spoke, of_none, key_kind}
 use Rattle.keep_laws.specs.Notes.{with_note}
-use Rattle.keep_laws.specs.Settling.{IsJudged, is_own, SpokeNote, OtherNote, Carries}
+use Rattle.keep_laws.specs.Judging.{IsJudged, is_own, SpokeNote, OtherNote, Carries}
 use Rattle.keep_laws.specs.Over.{IsRead, HubIsRead, IsFirstBad}
 use Rattle.keep_laws.proofs.Texts.{name_cases, push_same, push_other, fresh_next, in_front, field_there, less_self}
 use Rattle.keep_laws.proofs.Keys.{hub_kind, spoke_after_hub, KindSays, kind_says}

@@ -16,10 +16,10 @@ use Rattle.struct_schema.specs.declared.kind.NodeKind.TheVariants.{Object, Whole
 use Rattle.hub_cells.specs.Side.{Side, spoke, hub, other}
 use Rattle.hub_cells.specs.Cell.{same, Tuple}
 use Rattle.hub_cells.specs.Cross.{matched}
-use Rattle.hub_cells.specs.Level.{Name, Place, Cell, Level, level, no_inner, inner, names, tuple_of, allows, MatchAllowed, NoNameTwice}
+use Rattle.hub_cells.specs.Level.{Name, Place, Cell, Level, level, no_inner, inner, names, tuple_of, allows, MatchAllowed, some_there, can_default, MatchThere, NoNameTwice}
 use Rattle.hub_cells.specs.Fit.{Fit, shape_on, has_name, is_required, IsClosedObject, Stands, IsFitted}
 use Rattle.keep_laws.specs.Known.{IsKnown}
-use Rattle.keep_laws.specs.Settle.{IsAllowed, settled, converted}
+use Rattle.keep_laws.specs.Settle.{IsAllowed, AreSet, settled, converted}
 use Rattle.keep_laws.specs.Whole.{Held, IsWholeOnSide, marks_of}
 use Rattle.keep_laws.specs.Words.{IsSettledObject}
 use Rattle.hub_rules.specs.Rule.{within, no_rules, rule}
@@ -27,7 +27,7 @@ use Rattle.hub_fit.specs.Chosen.{fit_of}
 use Rattle.keep_laws.specs.FittedBody.{IsBodyOf, HasRoom, IsWholeObject}
 use Rattle.keep_laws.proofs.Tests.{lies}
 use Rattle.keep_laws.proofs.Object.{no_some}
-use Rattle.keep_laws.proofs.Fitted.{ready, body_known, body_allowed, body_back, over_whole, settled_is_whole, over_body, whole_object, object_whole}
+use Rattle.keep_laws.proofs.Fitted.{ready, body_known, body_allowed, body_set, body_back, over_whole, settled_is_whole, over_body, whole_object, object_whole}
 use Rattle.keep_laws.proofs.Room.{room_of}
 use Rattle.keep_laws.proofs.Settled.{whole_settled}
 
@@ -81,6 +81,10 @@ absent hub = refl
 answer : (d : Side) (t : Tuple) → allows d cell t ≡ true → MatchAllowed cell d (matched d cell.kind t) t
 answer spoke t h = h
 answer hub t h = h
+
+stays_there : (d : Side) (t : Tuple) → can_default cell ≡ true → allows d cell t ≡ true → some_there t ≡ true → MatchThere cell d (matched d cell.kind t) t
+stays_there spoke t c h g = g
+stays_there hub t c h g = g
 
 apart : count ≡ part → ⊥
 apart e = lies ((bytes_eq-Decides count part).1 e)
@@ -136,7 +140,7 @@ stands hub = (
 
 is_fitted : IsFitted fit
 is_fitted = record {
-  fits = ((record { regular = tt; absent = absent; answer = answer }, tt), ((tt, tt), tt));
+  fits = ((record { regular = tt; absent = absent; answer = answer; there = stays_there; single = λ h. refl; defaults = λ d h. refl; matches = λ t h g. refl }, tt), ((tt, tt), tt));
   no_name_twice = no_name_twice;
   stands = stands;
 }
@@ -165,8 +169,11 @@ is_known = body_known spoke fit fields is_fitted are_rising is_body
 is_allowed : IsAllowed spoke fit.level (marks_of spoke fit.level held)
 is_allowed = body_allowed spoke fit held is_fitted are_rising is_body
 
+is_set : AreSet spoke fit.level (marks_of spoke fit.level held)
+is_set = body_set spoke fit held is_fitted are_rising is_body
+
 body_again : IsBodyOf spoke fit fields
-body_again = body_back spoke fit held is_fitted has_room is_known is_allowed
+body_again = body_back spoke fit held is_fitted has_room is_known is_allowed is_set
 
 -- what comes over is the same object, whole, and a body of the hub
 same_over : converted spoke fit.level held ≡ held
@@ -175,11 +182,14 @@ same_over = refl
 whole_over : IsWholeOnSide hub fit.level held
 whole_over = over_whole spoke fit held is_fitted are_rising is_body
 
+set_over : AreSet hub fit.level (marks_of hub fit.level held)
+set_over = ((refl, tt), (((tt, tt)), tt))
+
 body_over : IsBodyOf hub fit fields
-body_over = over_body spoke fit held is_fitted has_room are_rising is_body
+body_over = over_body spoke fit held is_fitted has_room are_rising is_body set_over
 
 object_over : IsWholeObject hub fit held
-object_over = whole_object hub fit held is_fitted has_room whole_over
+object_over = whole_object hub fit held is_fitted has_room whole_over set_over
 
 whole_again : IsWholeOnSide hub fit.level held
 whole_again = object_whole hub fit held is_fitted are_rising object_over

@@ -17,20 +17,20 @@ use Rattle.hub_cells.specs.LevelDepth.{level_depth, inners_depth}
 use Rattle.hub_cells.specs.Fit.{has_name, is_required, IsClosedObject, Stands, InnersStand}
 use Rattle.kept_entries.specs.declared.entry.Entry.{Entry}
 use Rattle.keep_laws.specs.Entry.{inside}
-use Rattle.keep_laws.specs.Marked.{OrAbsent, there}
+use Rattle.keep_laws.specs.Marked.{Marked, IfThere, OrAbsent, there}
 use Rattle.keep_laws.specs.Body.{pairs_of, as_object, object_in, read, read_inners}
-use Rattle.keep_laws.specs.Settle.{IsAllowed, InnersAllowed}
+use Rattle.keep_laws.specs.Settle.{IsAllowed, InnersAllowed, AreSet, InnersSet}
 use Rattle.keep_laws.specs.Known.{IsObject, IfPresent, IsKnown, InnersKnown}
 use Rattle.keep_laws.specs.FittedBody.{IsBody}
 use Rattle.keep_laws.proofs.Tests.{lies, both_true, at_name}
 use Rattle.keep_laws.proofs.Each.{at_field, each_field, rising_fields, each_named, named_each}
 use Rattle.keep_laws.proofs.Object.{AtName, known_name, body_names, names_body}
-use Rattle.keep_laws.proofs.Allowed.{IfSound, sound_at, AtEach, Seen, cells_allowed, cells_seen}
+use Rattle.keep_laws.proofs.Allowed.{IfSound, sound_at, AtEach, Seen, cells_allowed, cells_set, cells_seen}
 
 same_shape : (t u : Shape) → some_shape t ≡ some_shape u → t ≡ u
 same_shape t u e = cc
 
-stands_closed : (d : Side) (n : ℕ) (s : Shape) (l : Level) → Stands d n s l → IsClosedObject s
+pub stands_closed : (d : Side) (n : ℕ) (s : Shape) (l : Level) → Stands d n s l → IsClosedObject s
 stands_closed d n s (level cs is) h = h.0
 
 -- ---- a value that an object's schema allows is an object
@@ -52,7 +52,7 @@ module _ (n : ℕ) (t : Shape) (P : Pairs → Type 0) (c : IsClosedObject t) (go
         levels = subst (λ (ns : Members). suc n + depth (object ns) ≤ STORED_LEVELS) back levels;
       })
 
-  inner_speaks : (j : Json) → IsSoundJson j → (valid t j ≡ true) → Filled t j j → n + suc (depth j) ≤ STORED_LEVELS → IsObject P j
+  pub inner_speaks : (j : Json) → IsSoundJson j → (valid t j ≡ true) → Filled t j j → n + suc (depth j) ≤ STORED_LEVELS → IsObject P j
   inner_speaks null h v f r = absurd (lies (sym c.nullable ∙ v))
   inner_speaks (boolean b) h v f r = absurd (wrong_kind (own t) (boolean b) c.kind refl v)
   inner_speaks (whole z) h v f r = absurd (wrong_kind (own t) (whole z) c.kind refl v)
@@ -84,28 +84,51 @@ inner_says n s k t r K A f c q go (Some j) h g =
     let w = inner_speaks n t (λ y. K y × A (f y)) c go j h g.0 g.1 g.2 in
     (object_known K (λ y. A (f y)) j w, object_allowed r K A f j w)
 
--- ---- a body is known and allowed
+-- ---- an inner object of which two things are so
+
+first_so : {A : Type 0} (r : Bool) (P Q : A → Type 0) (o : Option A) → OrAbsent r (λ x. P x × Q x) o → OrAbsent r P o
+first_so r P Q None h = h
+first_so r P Q (Some x) h = h.0
+
+second_so : {A : Type 0} (r : Bool) (P Q : A → Type 0) (o : Option A) → OrAbsent r (λ x. P x × Q x) o → IfThere Q o
+second_so r P Q None h = tt
+second_so r P Q (Some x) h = h.1
+
+both_so : {A : Type 0} (r : Bool) (P Q : A → Type 0) (o : Option A) → OrAbsent r P o → IfThere Q o → OrAbsent r (λ x. P x × Q x) o
+both_so r P Q None h k = h
+both_so r P Q (Some x) h k = (h, k)
+
+-- ---- a body is known and allowed, and each name that has a default is there
+
+abbrev SoOf : Side → (l : Level) → Marked l → Type 0
+SoOf d l m = IsAllowed d l m × AreSet d l m
 
 mutual
-  pub level_speaks : (d : Side) (n : ℕ) (s : Shape) (l : Level) (x : Pairs) (es : List Entry) → Stands d n s l → AreRising (members_of x) → IsBody n s x → IsKnown d l x × IsAllowed d l (read d l x es)
+  pub level_speaks : (d : Side) (n : ℕ) (s : Shape) (l : Level) (x : Pairs) (es : List Entry) → Stands d n s l → AreRising (members_of x) → IsBody n s x → IsKnown d l x × SoOf d l (read d l x es)
   level_speaks d n s (level cs is) x es st rise b =
       let names : AtEach n s x = body_names n s x st.0 b in
       let rest = inners_speak d n s is x es st.3 rise names in
       let rising = rising_fields x rise in
-      let ns = cells_names d cs (inner_names d is) in
-      ((rising, each_named ns x (each_field (λ k j. has_name k ns ≡ true) x rising (λ k j q. let t = known_name n s x st.0 b k j q in st.1.properties k t.0 t.1)), rest.0), (cells_allowed d n s cs x es st.2 (sound_at x rise) names, rest.1))
+      let ns = cells_names d cs (inner_names d is) in (
+        (rising, each_named ns x (each_field (λ k j. has_name k ns ≡ true) x rising (λ k j q. let t = known_name n s x st.0 b k j q in st.1.properties k t.0 t.1)), rest.0),
+        ((cells_allowed d n s cs x es st.2 (sound_at x rise) names, rest.1), (cells_set d n s cs x es st.2 names, rest.2)),
+      )
 
-  pub inners_speak : (d : Side) (n : ℕ) (s : Shape) (is : Inners) (x : Pairs) (es : List Entry) → InnersStand d n s is → AreRising (members_of x) → AtEach n s x → InnersKnown d is x × InnersAllowed d is (read_inners d is x es)
-  inners_speak d n s no_inner x es st rise names = (tt, tt)
+  pub inners_speak : (d : Side) (n : ℕ) (s : Shape) (is : Inners) (x : Pairs) (es : List Entry) → InnersStand d n s is → AreRising (members_of x) → AtEach n s x → InnersKnown d is x × InnersAllowed d is (read_inners d is x es) × InnersSet d is (read_inners d is x es)
+  inners_speak d n s no_inner x es st rise names = (tt, tt, tt)
   inners_speak d n s (inner a b r l is) x es st rise names =
       let k = named d a b in
       let h = st.0 in
       let inside_es = inside (named (other d) a b) es in
       let rest = inners_speak d n s is x es st.1 rise names in
-      let first = inner_says n s k h.0 r (IsKnown d l) (IsAllowed d l) (λ y. read d l y inside_es) (stands_closed d (suc n) h.0 l h.4) h.3 (λ y p q. level_speaks d (suc n) h.0 l y inside_es h.4 p q) (field k x) (sound_at x rise k) (names k h.0 h.1) in
-      ((first.0, rest.0), (first.1, rest.1))
+      let first = inner_says n s k h.0 r (IsKnown d l) (SoOf d l) (λ y. read d l y inside_es) (stands_closed d (suc n) h.0 l h.4) h.3 (λ y p q. level_speaks d (suc n) h.0 l y inside_es h.4 p q) (field k x) (sound_at x rise k) (names k h.0 h.1) in
+      let o = there (λ (y : Pairs). read d l y inside_es) (object_in (field k x)) in (
+        (first.0, rest.0),
+        (first_so r (IsAllowed d l) (AreSet d l) o first.1, rest.1),
+        (second_so r (IsAllowed d l) (AreSet d l) o first.1, rest.2),
+      )
 
--- ---- what is known and allowed is a body
+-- ---- what is known and allowed is a body, where each name that has a default is there
 
 object_holds : {M : Type 0} (n : ℕ) (t : Shape) (r : Bool) (K : Pairs → Type 0) (A : M → Type 0) (f : Pairs → M) → ((y : Pairs) → K y → A (f y) → IsBody (suc n) t y) → (j : Json) → IsObject K j → OrAbsent r A (there f (as_object j)) → (valid t j ≡ true) × Filled t j j × (n + suc (depth j) ≤ STORED_LEVELS)
 object_holds n t r K A f go null h g = absurd h
@@ -127,23 +150,23 @@ inner_holds n s k t r K A f e q go None h g = (sym q ∙ g, e)
 inner_holds n s k t r K A f e q go (Some j) h g = object_holds n t r K A f go j h g
 
 mutual
-  pub level_holds : (d : Side) (n : ℕ) (s : Shape) (l : Level) (x : Pairs) (es : List Entry) → Stands d n s l → IsKnown d l x → IsAllowed d l (read d l x es) → n + level_depth l ≤ STORED_LEVELS → IsBody n s x
-  level_holds d n s (level cs is) x es st known allowed room =
+  pub level_holds : (d : Side) (n : ℕ) (s : Shape) (l : Level) (x : Pairs) (es : List Entry) → Stands d n s l → IsKnown d l x → IsAllowed d l (read d l x es) → AreSet d l (read d l x es) → n + level_depth l ≤ STORED_LEVELS → IsBody n s x
+  level_holds d n s (level cs is) x es st known allowed are room =
       let ns = cells_names d cs (inner_names d is) in
       let deep : n + suc (inners_depth is) ≤ STORED_LEVELS = room in
-      let seen : (k : Name) → has_name k ns ≡ true → Seen n s x k = λ k h. cells_seen d n s cs (inner_names d is) x es k st.2 allowed.0 (λ q. inners_hold d n s is x es k st.3 known.2 allowed.1 deep q) h in
+      let seen : (k : Name) → has_name k ns ≡ true → Seen n s x k = λ k h. cells_seen d n s cs (inner_names d is) x es k st.2 allowed.0 are.0 (λ q. inners_hold d n s is x es k st.3 known.2 allowed.1 are.1 deep q) h in
       names_body n s x st.0 known.0 (λ k j q. let r = seen k (at_field (λ l i. has_name l ns ≡ true) x k j (named_each ns x known.1) q) in (r.0, r.1)) (λ k h. let r = seen k (st.1.required k h) in (r.0, r.1)) (
       λ k t e. let r = seen k (st.1.properties k t e) in
       subst (λ (u : Shape). AtName n s k u (field k x)) (same_shape r.0 t (sym r.1 ∙ e)) r.2
       ) (omega arith)
 
-  pub inners_hold : (d : Side) (n : ℕ) (s : Shape) (is : Inners) (x : Pairs) (es : List Entry) (k : Name) → InnersStand d n s is → InnersKnown d is x → InnersAllowed d is (read_inners d is x es) → n + suc (inners_depth is) ≤ STORED_LEVELS → has_name k (inner_names d is) ≡ true → Seen n s x k
-  inners_hold d n s no_inner x es k st known allowed room h = absurd (lies h)
-  inners_hold d n s (inner a b r l is) x es k st known allowed room h =
+  pub inners_hold : (d : Side) (n : ℕ) (s : Shape) (is : Inners) (x : Pairs) (es : List Entry) (k : Name) → InnersStand d n s is → InnersKnown d is x → InnersAllowed d is (read_inners d is x es) → InnersSet d is (read_inners d is x es) → n + suc (inners_depth is) ≤ STORED_LEVELS → has_name k (inner_names d is) ≡ true → Seen n s x k
+  inners_hold d n s no_inner x es k st known allowed are room h = absurd (lies h)
+  inners_hold d n s (inner a b r l is) x es k st known allowed are room h =
       let m = named d a b in
       let g = st.0 in
       let inside_es = inside (named (other d) a b) es in
       let deep : suc n + level_depth l ≤ STORED_LEVELS = omega arith in
       let later : n + suc (inners_depth is) ≤ STORED_LEVELS = omega arith in
-      let here : AtName n s m g.0 (field m x) = inner_holds n s m g.0 r (IsKnown d l) (IsAllowed d l) (λ y. read d l y inside_es) g.2 g.3 (λ y p q. level_holds d (suc n) g.0 l y inside_es g.4 p q deep) (field m x) known.0 allowed.0 in
-      at_name (Seen n s x) k m (inner_names d is) (g.0, g.1, here) (λ q. inners_hold d n s is x es k st.1 known.1 allowed.1 later q) h
+      let here : AtName n s m g.0 (field m x) = inner_holds n s m g.0 r (IsKnown d l) (SoOf d l) (λ y. read d l y inside_es) g.2 g.3 (λ y p q. level_holds d (suc n) g.0 l y inside_es g.4 p q.0 q.1 deep) (field m x) known.0 (both_so r (IsAllowed d l) (AreSet d l) (there (λ (y : Pairs). read d l y inside_es) (object_in (field m x))) allowed.0 are.0) in
+      at_name (Seen n s x) k m (inner_names d is) (g.0, g.1, here) (λ q. inners_hold d n s is x es k st.1 known.1 allowed.1 are.1 later q) h

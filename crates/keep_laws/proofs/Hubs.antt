@@ -1,5 +1,5 @@
 -- What a spoke's object becomes at the hub is whole, and pairs with the object without what has no place in it.
-use Rattle.std.proofs.Common.{◌≡◌, ℕ, List, ◌⊎◌, inl, inr, Bool, true, false, bytes_eq, Option, Some, None, ap, sym, subst, ◌∙◌}
+use Rattle.std.proofs.Common.{◌≡◌, ℕ, List, [], ◌⊎◌, inl, inr, Bool, true, false, bytes_eq, Option, Some, None, ap, sym, subst, ◌∙◌}
 use Rattle.std.specs.Prelude.{slice_get}
 use Rattle.kj_value.specs.Json.{members_of}
 use Rattle.kj_value.specs.Sound.{AreRising}
@@ -8,26 +8,33 @@ use Rattle.kube_meta.specs.View.{Texts, ObjectView}
 use Rattle.kept_entries.specs.declared.entry.Entry.{Entry}
 use Rattle.hub_cells.specs.Side.{spoke, hub}
 use Rattle.hub_cells.specs.Level.{Name}
-use Rattle.keep_laws.specs.Whole.{Held, IsWholeOnSide, IsPair}
-use Rattle.keep_laws.specs.Settle.{converted}
+use Rattle.keep_laws.specs.Marked.{Marked, IsGood, crossed}
+use Rattle.keep_laws.specs.Whole.{Held, IsWholeOnSide, marks_of, object_of}
+use Rattle.keep_laws.specs.Settle.{settled_marks}
+use Rattle.keep_laws.specs.Complete.{filled, completed_over, IsComplete}
 use Rattle.keep_laws.proofs.Fields.{bytes_same, bytes_other}
-use Rattle.keep_laws.proofs.Dead.{converted_whole}
+use Rattle.keep_laws.proofs.LawA.{crossed_good, paired_crossed}
+use Rattle.keep_laws.proofs.Back.{marks_back}
+use Rattle.keep_laws.proofs.Dead.{settled_good, good_settled}
 use Rattle.keep_laws.specs.FittedBody.{IsBodyOf}
-use Rattle.keep_laws.specs.Spokes.{Spoke, Spokes, IsDefinition, api_version}
+use Rattle.keep_laws.specs.Spokes.{Spoke, Spokes, IsDefinition, fills_at}
 use Rattle.keep_laws.specs.Keys.{hub_key, spoke_key, KeyKind, plain, of_hub, of_spoke, of_none, key_kind}
-use Rattle.keep_laws.specs.Notes.{noted, IsNoteOf, with_note, with_entries}
+use Rattle.keep_laws.specs.Notes.{noted, note, IsNoteOf, with_note, with_entries}
 use Rattle.keep_laws.specs.Pair.{SpokeNotePair, NotePair, IsPairOf}
-use Rattle.keep_laws.specs.WholeHub.{WholeNote, IsWholeHub, IsHubBody}
-use Rattle.keep_laws.specs.Settling.{IsJudged, SpokeNote, OtherNote, Carries, NoteAtSpoke, SettlesAtSpoke, living_entries, hub_body}
+use Rattle.keep_laws.specs.WholeHub.{WholeNote, IsCompleteFor, IsWholeHub, IsHubBody}
+use Rattle.keep_laws.specs.Judging.{IsJudged, SpokeNote, OtherNote, Carries}
+use Rattle.keep_laws.specs.Settling.{SettlesAtSpoke}
 use Rattle.keep_laws.specs.Over.{SpokeNoteOver, NoteOver, GoesOver}
 use Rattle.keep_laws.specs.Given.{Laws}
-use Rattle.keep_laws.proofs.Texts.{name_cases}
-use Rattle.keep_laws.proofs.Keys.{hub_kind, spoke_kind, KindSays, kind_says}
-use Rattle.keep_laws.proofs.SpokeLevels.{spoke_pair}
-use Rattle.keep_laws.proofs.Notes.{spells_one, judged_one, with_note-same, with_note-other}
-use Rattle.keep_laws.proofs.SpokesFitted.{fits, room, hub_body_each, hub_body_at, same_spoke}
-use Rattle.keep_laws.proofs.Pairs.{ready}
-use Rattle.keep_laws.proofs.Judged.{allowed, settled_is, judged_whole}
+use Rattle.keep_laws.proofs.Texts.{name_cases, same_fields}
+use Rattle.keep_laws.proofs.Keys.{spoke_kind, KindSays, kind_says}
+use Rattle.keep_laws.proofs.Notes.{spells_one, judged_one, with_note-same, with_note-other, same_meta, same_object}
+use Rattle.keep_laws.proofs.SpokesFitted.{fits, room, right, hub_body_each, hub_body_at, same_spoke}
+use Rattle.keep_laws.proofs.Pairs.{ready, spoke_whole, hub_pair_note}
+use Rattle.keep_laws.proofs.Completing.{filled_good, filled_complete, complete_same, hub_set}
+use Rattle.keep_laws.proofs.Marks.{object_whole, complete_any}
+use Rattle.keep_laws.proofs.CompleteHub.{complete_at, complete_all}
+use Rattle.keep_laws.proofs.Judged.{allowed, judged_whole, whole_judged}
 
 -- ---- the annotations of an object that went over
 
@@ -81,49 +88,124 @@ note_whole laws all v s def place body eh rises bodies own k (of_spoke t) o p h 
 note_whole laws all v s def place body eh rises bodies own k of_none o p h e = e
 
 module _ (laws : Laws) (all : Spokes) (v : ℕ) (s : Spoke) (def : IsDefinition all) (place : slice_get all.items v ≡ Some s) where
+  -- the marks of what comes over, before it is completed and then
+  abbrev pub over_marks : Pairs → List Entry → Marked s.fit.level
+  over_marks body es = crossed spoke s.fit.level (settled_marks spoke s.fit.level (marks_of spoke s.fit.level (with_entries body es)))
+
+  abbrev pub full_marks : Pairs → List Entry → Marked s.fit.level
+  full_marks body es = filled s.fit.level (fills_at all s) (over_marks body es)
+
+  pub over_good : (body : Pairs) (es : List Entry) → AreRising (members_of body) → IsBodyOf spoke s.fit body → IsGood hub s.fit.level (over_marks body es)
+  over_good body es rises b =
+      let l = s.fit.level in
+      crossed_good spoke l (settled_marks spoke l (marks_of spoke l (with_entries body es))) (ready laws all v s def place).fits (settled_good spoke l (marks_of spoke l (with_entries body es)) (allowed laws all v s def place spoke body es rises b))
+
+  pub full_good : (body : Pairs) (es : List Entry) → AreRising (members_of body) → IsBodyOf spoke s.fit body → IsGood hub s.fit.level (full_marks body es)
+  full_good body es rises b =
+      filled_good s.fit.level (fills_at all s) (over_marks body es) (ready laws all v s def place).fits (right all v s def place) (over_good body es rises b)
+
+  pub full_complete : (body : Pairs) (es : List Entry) → AreRising (members_of body) → IsBodyOf spoke s.fit body → IsComplete s.fit.level (fills_at all s) (full_marks body es)
+  full_complete body es rises b =
+      filled_complete s.fit.level (fills_at all s) (over_marks body es) (ready laws all v s def place).fits (right all v s def place) (over_good body es rises b)
+
+  pub full_back : (body : Pairs) (es : List Entry) → AreRising (members_of body) → IsBodyOf spoke s.fit body → marks_of hub s.fit.level (object_of hub s.fit.level (full_marks body es)) ≡ full_marks body es
+  full_back body es rises b =
+      marks_back hub s.fit.level (full_marks body es) (ready laws all v s def place) (full_good body es rises b)
+
+  -- an object of the hub that is made of good marks and in which each name that is filled is there
+  pub made_body : (h : Held) → IsWholeOnSide hub s.fit.level h → IsComplete s.fit.level (fills_at all s) (marks_of hub s.fit.level h) → IsBodyOf hub s.fit h.fields
+  made_body h w c =
+      let l = s.fit.level in
+      laws.body hub s.fit h (fits all v s def place) (room all v s def place) w (hub_set l (fills_at all s) (marks_of hub l h) (ready laws all v s def place).fits (right all v s def place) w.good c)
+
+  pub made_hub : (h : Held) → AreRising (members_of h.fields) → IsWholeOnSide hub s.fit.level h → IsComplete s.fit.level (fills_at all s) (marks_of hub s.fit.level h) → IsHubBody all.items h.fields × IsCompleteFor all all.items h.fields
+  made_hub h rises w c =
+      let body = made_body h w c in
+      (hub_body_each all v s h.fields def place body, complete_all all v s h.fields def place rises body (complete_any s.fit.level (fills_at all s) h.fields h.entries [] c))
+
   pub over_body_whole : (x h : ObjectView) → AreRising (members_of x.body) → IsBodyOf spoke s.fit x.body → (g : GoesOver all s x h) → IsWholeOnSide hub s.fit.level (with_entries h.body g.spoke_kept)
   over_body_whole x h rises b g =
-      subst (IsWholeOnSide hub s.fit.level) (sym g.bodies) (converted_whole spoke s.fit.level (with_entries x.body g.hub_kept) (ready laws all v s def place) (allowed laws all v s def place spoke x.body g.hub_kept rises b))
+      subst (IsWholeOnSide hub s.fit.level) (sym g.bodies) (object_whole hub s.fit.level (full_marks x.body g.hub_kept) (ready laws all v s def place) (full_good x.body g.hub_kept rises b))
+
+  pub over_marks_are : (x h : ObjectView) → AreRising (members_of x.body) → IsBodyOf spoke s.fit x.body → (g : GoesOver all s x h) → marks_of hub s.fit.level (with_entries h.body g.spoke_kept) ≡ full_marks x.body g.hub_kept
+  over_marks_are x h rises b g = ap (marks_of hub s.fit.level) g.bodies ∙ full_back x.body g.hub_kept rises b
 
   pub over_whole : (x h : ObjectView) → AreRising (members_of x.body) → IsBodyOf spoke s.fit x.body → GoesOver all s x h → IsWholeHub all h
   over_whole x h rises b g =
       let own = over_body_whole x h rises b g in
-      let here = laws.body hub s.fit (with_entries h.body g.spoke_kept) (fits all v s def place) (room all v s def place) own in
-      let bodies = hub_body_each all v s h.body def place here in record {
+      let complete : IsComplete s.fit.level (fills_at all s) (marks_of hub s.fit.level (with_entries h.body g.spoke_kept)) = subst (IsComplete s.fit.level (fills_at all s)) (sym (over_marks_are x h rises b g)) (full_complete x.body g.hub_kept rises b) in
+      let bodies = made_hub (with_entries h.body g.spoke_kept) g.object.body own complete in record {
         version = g.version;
         object = g.object;
-        body = bodies;
-        notes = λ k. note_whole laws all v s def place h.body g.spoke_kept g.object.body bodies own k (key_kind all k) (noted k x) (noted k h) (kind_says all k) (g.notes k);
+        body = bodies.0;
+        complete = bodies.1;
+        notes = λ k. note_whole laws all v s def place h.body g.spoke_kept g.object.body bodies.0 own k (key_kind all k) (noted k x) (noted k h) (kind_says all k) (g.notes k);
+      }
+
+  -- what it keeps of the spoke
+  pub over_own : (x h : ObjectView) → (g : GoesOver all s x h) → IsNoteOf g.spoke_kept (noted (spoke_key s.name) h)
+  over_own x h g =
+      let k = spoke_key s.name in
+      let here : NoteOver s h.body g.spoke_kept (of_spoke s) (noted k x) (noted k h) =
+      subst (λ (c : KeyKind). NoteOver s h.body g.spoke_kept c (noted k x) (noted k h)) (spoke_kind all v s def place) (g.notes k) in
+      subst (λ (b : Bool). SpokeNoteOver b s h.body g.spoke_kept (noted k x) (noted k h)) (bytes_same s.name) here
+
+  -- ---- an object goes over to one object
+
+  note_over_one : (gb hb : Pairs) (es fs : List Entry) (c : KeyKind) (o p q : Option Name) → gb ≡ hb → es ≡ fs → NoteOver s gb es c o p → NoteOver s hb fs c o q → p ≡ q
+  note_over_one gb hb es fs plain o p q e f a b = a ∙ sym b
+  note_over_one gb hb es fs of_hub o p q e f a b = a ∙ sym b
+  note_over_one gb hb es fs (of_spoke t) o p q e f a b = by_own (bytes_eq t.name s.name) a b
+    where
+      by_own : (c : Bool) → SpokeNoteOver c t gb es o p → SpokeNoteOver c t hb fs o q → p ≡ q
+      by_own true a b = a.written ∙ ap note f ∙ sym b.written
+      by_own false a b = judged_one laws.one t hb o p q (subst (λ (body : Pairs). IsJudged t body o p) e a) b
+  note_over_one gb hb es fs of_none o p q e f a b = a ∙ sym b
+
+  pub over_one : (x g h : ObjectView) → GoesOver all s x g → GoesOver all s x h → g ≡ h
+  over_one x g h a b =
+      let kept : a.hub_kept ≡ b.hub_kept = spells_one laws.one (noted hub_key x) a.hub_kept b.hub_kept a.spelled b.spelled in
+      let held : with_entries g.body a.spoke_kept ≡ with_entries h.body b.spoke_kept = a.bodies ∙ ap (λ (es : List Entry). completed_over (fills_at all s) s.fit.level (with_entries x.body es)) kept ∙ sym b.bodies in
+      let bodies : g.body ≡ h.body = ap (λ (y : Held). y.fields) held in
+      let notes : g.meta.annotations ≡ h.meta.annotations =
+      same_fields g.meta.annotations h.meta.annotations a.object.annotations b.object.annotations (λ k. note_over_one g.body h.body a.spoke_kept b.spoke_kept (key_kind all k) (noted k x) (noted k g) (noted k h) bodies (ap (λ (y : Held). y.entries) held) (a.notes k) (b.notes k)) in
+      same_object g h (a.version ∙ sym b.version) (a.kind ∙ sym b.kind) (same_meta g.meta h.meta (a.meta ∙ sym b.meta) notes) bodies
+
+  -- ---- what is paired with a whole object goes over to it
+
+  note_goes : (body : Pairs) (ex eh : List Entry) (c : KeyKind) (o p : Option Name) → NotePair s ex eh c o p → WholeNote body c p → NoteOver s body eh c o p
+  note_goes body ex eh plain o p a w = sym a
+  note_goes body ex eh of_hub o p a w = a.1
+  note_goes body ex eh (of_spoke t) o p a w = by_own (bytes_eq t.name s.name) a
+    where
+      by_own : (b : Bool) → SpokeNotePair b eh o p → SpokeNoteOver b t body eh o p
+      by_own true a = a.1
+      by_own false a = subst (IsJudged t body o) a (whole_judged t body o p a w)
+  note_goes body ex eh of_none o p a w = w
+
+  pub over_self : (x h : ObjectView) → IsWholeHub all h → IsPairOf all s x h → GoesOver all s x h
+  over_self x h w p =
+      let l = s.fit.level in
+      let X = with_entries x.body p.hub_kept in
+      let H = with_entries h.body p.spoke_kept in
+      let whole = spoke_whole laws all v s def place x h w p in
+      let living : settled_marks spoke l (marks_of spoke l X) ≡ marks_of spoke l X = good_settled spoke l (marks_of spoke l X) whole.good in
+      let across : marks_of hub l H ≡ crossed spoke l (marks_of spoke l X) = (paired_crossed l (marks_of spoke l X) (marks_of hub l H) (ready laws all v s def place).fits p.bodies.cells).0 in
+      let complete = complete_any l (fills_at all s) h.body [] p.spoke_kept (complete_at all all.items v s h.body w.complete place) in
+      let same : filled l (fills_at all s) (marks_of hub l H) ≡ marks_of hub l H = complete_same l (fills_at all s) (marks_of hub l H) complete in
+      let marks : over_marks x.body p.hub_kept ≡ marks_of hub l H = ap (crossed spoke l) living ∙ sym across in record {
+        version = p.hub_version;
+        kind = sym p.kind;
+        meta = sym p.meta;
+        object = w.object;
+        hub_kept = p.hub_kept;
+        spoke_kept = p.spoke_kept;
+        spelled = (hub_pair_note laws all v s def place x h p).spelled;
+        bodies = sym (ap (λ (m : Marked l). object_of hub l (filled l (fills_at all s) m)) marks ∙ ap (object_of hub l) same ∙ p.bodies.hub_rest);
+        notes = λ k. note_goes h.body p.hub_kept p.spoke_kept (key_kind all k) (noted k x) (noted k h) (p.notes k) (w.notes k);
       }
 
   -- ---- it pairs with what is left of the object
 
-  note_pairs : (body hubs : Pairs) (es eh : List Entry) (c : KeyKind) (o q p : Option Name) → hubs ≡ hub_body s body es → NoteAtSpoke s body es c o q → NoteOver s hubs eh c o p → NotePair s (living_entries spoke s body es) eh c q p
-  note_pairs body hubs es eh plain o q p same a b = a ∙ sym b
-  note_pairs body hubs es eh of_hub o q p same a b = (a.1, b)
-  note_pairs body hubs es eh (of_spoke t) o q p same a b = by_own (bytes_eq t.name s.name) a b
-    where
-      by_own : (c : Bool) → SpokeNote c t (hub_body s body es) o q → SpokeNoteOver c t hubs eh o p → SpokeNotePair c eh q p
-      by_own true a b = (a, b)
-      by_own false a b = judged_one laws.one t (hub_body s body es) o q p a (subst (λ (hb : Pairs). IsJudged t hb o p) same b)
-  note_pairs body hubs es eh of_none o q p same a b = a ∙ sym b
-
-  pub settle_pair : (x y h : ObjectView) → x.api_version ≡ api_version all.group s.name → AreRising (members_of x.body) → IsBodyOf spoke s.fit x.body → GoesOver all s x h → SettlesAtSpoke all s x y → IsPairOf all s y h
-  settle_pair x y h version rises b g t =
-      let level = s.fit.level in
-      let hub_note : NoteAtSpoke s x.body t.hub_kept of_hub (noted hub_key x) (noted hub_key y) = subst (λ (c : KeyKind). NoteAtSpoke s x.body t.hub_kept c (noted hub_key x) (noted hub_key y)) (hub_kind all) (t.notes hub_key) in
-      let kept : g.hub_kept ≡ t.hub_kept = spells_one laws.one (noted hub_key x) g.hub_kept t.hub_kept g.spelled hub_note.0 in
-      let bodies : with_entries h.body g.spoke_kept ≡ converted spoke level (with_entries x.body t.hub_kept) = g.bodies ∙ ap (λ (es : List Entry). converted spoke level (with_entries x.body es)) kept in
-      let living = living_entries spoke s x.body t.hub_kept in
-      let pair = spoke_pair level (with_entries x.body t.hub_kept) (ready laws all v s def place) (allowed laws all v s def place spoke x.body t.hub_kept rises b) in
-      let pair1 : IsPair level (with_entries x.body living) (converted spoke level (with_entries x.body t.hub_kept)) = subst (λ (a : Held). IsPair level a (converted spoke level (with_entries x.body t.hub_kept))) (settled_is laws all v s def place spoke x.body t.hub_kept rises b) pair in
-      let pair2 : IsPair level (with_entries x.body living) (with_entries h.body g.spoke_kept) = subst (IsPair level (with_entries x.body living)) (sym bodies) pair1 in record {
-        spoke_version = t.rest.version ∙ version;
-        hub_version = g.version;
-        kind = t.rest.kind ∙ sym g.kind;
-        meta = t.rest.meta ∙ sym g.meta;
-        hub_kept = living;
-        spoke_kept = g.spoke_kept;
-        notes = λ k. note_pairs x.body h.body t.hub_kept g.spoke_kept (key_kind all k) (noted k x) (noted k y) (noted k h) (ap (λ (a : Held). a.fields) bodies) (t.notes k) (g.notes k);
-        bodies = subst (λ (body : Pairs). IsPair level (with_entries body living) (with_entries h.body g.spoke_kept)) (sym t.rest.body) pair2;
-      }
+  pub settle_pair : (x y h : ObjectView) → GoesOver all s x h → SettlesAtSpoke all s x y → IsPairOf all s y h
+  settle_pair x y h g t = subst (IsPairOf all s y) (over_one x t.hub h t.over g) t.pair

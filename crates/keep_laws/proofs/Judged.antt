@@ -17,7 +17,7 @@ use Rattle.keep_laws.specs.Spokes.{Spoke, Spokes, IsDefinition}
 use Rattle.keep_laws.specs.Keys.{of_spoke}
 use Rattle.keep_laws.specs.Notes.{Spells, IsNoteOf, with_entries}
 use Rattle.keep_laws.specs.WholeHub.{WholeNote}
-use Rattle.keep_laws.specs.Settling.{IsJudged, living_entries}
+use Rattle.keep_laws.specs.Judging.{IsJudged, living_entries}
 use Rattle.keep_laws.specs.Given.{Laws}
 use Rattle.keep_laws.proofs.SpokeLevels.{ready_of}
 use Rattle.keep_laws.proofs.Notes.{no_note}

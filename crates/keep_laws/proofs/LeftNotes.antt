@@ -9,26 +9,35 @@ use Rattle.kept_entries.specs.declared.entry.Entry.{Entry}
 use Rattle.kept_entries.specs.Text.{entry_json}
 use Rattle.hub_cells.specs.Side.{Side, spoke, hub, other}
 use Rattle.hub_cells.specs.Level.{Name}
-use Rattle.keep_laws.specs.Whole.{Held}
-use Rattle.keep_laws.specs.Settle.{converted}
+use Rattle.keep_laws.specs.Marked.{crossed}
+use Rattle.keep_laws.specs.Settle.{settled_marks}
+use Rattle.keep_laws.specs.Complete.{filled}
+use Rattle.keep_laws.specs.Whole.{marks_of}
 use Rattle.keep_laws.specs.Words.{Has, Parts}
 use Rattle.keep_laws.specs.FittedBody.{IsBodyOf}
-use Rattle.keep_laws.specs.Spokes.{Spoke, Spokes, IsDefinition, api_version}
-use Rattle.keep_laws.specs.Keys.{hub_key, KeyKind, plain, of_hub, of_spoke, of_none, key_kind}
-use Rattle.keep_laws.specs.Notes.{noted, Spells, IsNoteOf, IsObject, with_entries}
-use Rattle.keep_laws.specs.Pair.{IsPairOf}
-use Rattle.keep_laws.specs.Settling.{IsJudged, SpokeNote, OtherNote, NoteAtSpoke, SettlesAtHub, SettlesAtSpoke, living_entries, hub_body}
-use Rattle.keep_laws.specs.LeftNotes.{KeepsLiving, NoteLeftAtHub, OtherLeft, NoteLeftAtSpoke}
-use Rattle.keep_laws.specs.Over.{GoesOver}
+use Rattle.keep_laws.specs.Spokes.{Spoke, Spokes, IsDefinition, fills_at}
+use Rattle.keep_laws.specs.Keys.{hub_key, spoke_key, KeyKind, plain, of_hub, of_spoke, of_none, key_kind}
+use Rattle.keep_laws.specs.Notes.{noted, Spells, IsNoteOf, with_entries}
+use Rattle.keep_laws.specs.Pair.{SpokeNotePair, NotePair, IsPairOf}
+use Rattle.keep_laws.specs.Judging.{IsJudged, OtherNote, living_entries}
+use Rattle.keep_laws.specs.Settling.{SettlesAtHub, SettlesAtSpoke}
+use Rattle.keep_laws.specs.LeftNotes.{KeepsLiving, NoteLeftAtHub, OtherLeft, NoteLeftAtSpoke, IsLeft, LeftAtSpoke}
+use Rattle.keep_laws.specs.Over.{SpokeNoteOver, NoteOver, GoesOver}
 use Rattle.keep_laws.specs.Given.{Laws}
+use Rattle.keep_laws.proofs.LawA.{paired_crossed}
 use Rattle.keep_laws.proofs.Back.{no_name_twice}
+use Rattle.keep_laws.proofs.Dead.{settled_good}
 use Rattle.keep_laws.proofs.Each.{rising_fields}
+use Rattle.keep_laws.proofs.Fields.{bytes_same}
 use Rattle.keep_laws.proofs.Left.{settled_left}
-use Rattle.keep_laws.proofs.Keys.{hub_kind, KindSays, kind_says}
-use Rattle.keep_laws.proofs.Notes.{spells_one, no_note}
+use Rattle.keep_laws.proofs.LeftCells.{level_left}
+use Rattle.keep_laws.proofs.Keys.{spoke_kind, KindSays, kind_says}
+use Rattle.keep_laws.proofs.Notes.{one_note, no_note}
 use Rattle.keep_laws.proofs.SpokeLevels.{ready_of}
-use Rattle.keep_laws.proofs.SpokesFitted.{fits}
-use Rattle.keep_laws.proofs.Trips.{back_settled}
+use Rattle.keep_laws.proofs.SpokesFitted.{fits, right}
+use Rattle.keep_laws.proofs.Pairs.{ready, own_pair, hub_pair_note}
+use Rattle.keep_laws.proofs.Judged.{allowed}
+use Rattle.keep_laws.proofs.Hubs.{over_marks_are, over_own}
 
 -- ---- the names of each part that a text spells rise
 
@@ -72,31 +81,38 @@ module _ (all : Spokes) (def : IsDefinition all) where
   hub_left body k (of_spoke t) o p says n = judged_left all says.1.0 t def says.1.1 body o p n
   hub_left body k of_none o p says n = n
 
-  pub left_at_hub : (x y : ObjectView) → SettlesAtHub all x y → (k : Name) → NoteLeftAtHub x.body (key_kind all k) (noted k x) (noted k y)
-  left_at_hub x y t k = hub_left x.body k (key_kind all k) (noted k x) (noted k y) (kind_says all k) (t.notes k)
+  pub left_at_hub : (x y : ObjectView) → SettlesAtHub all x y → (k : Name) → NoteLeftAtHub y.body (key_kind all k) (noted k x) (noted k y)
+  left_at_hub x y t k = hub_left y.body k (key_kind all k) (noted k x) (noted k y) (kind_says all k) (t.notes k)
 
-  other_left : (body : Pairs) (k : Name) (b : Bool) (t : Spoke) (o p : Option Name) → KindSays all k (of_spoke t) → SpokeNote b t body o p → OtherLeft b t body o p
-  other_left body k true t o p says n = n
-  other_left body k false t o p says n = judged_left all says.1.0 t def says.1.1 body o p n
+module _ (laws : Laws) (all : Spokes) (v : ℕ) (s : Spoke) (def : IsDefinition all) (place : slice_get all.items v ≡ Some s) where
+  -- over to the hub and back
+  note_left : (hubs : Pairs) (ex eh fh : List Entry) (k : Name) (c : KeyKind) (o p q : Option Name) → KindSays all k c → NoteOver s hubs eh c o p → NotePair s ex fh c q p → NoteLeftAtSpoke s hubs c o q
+  note_left hubs ex eh fh k plain o p q says a b = b ∙ a
+  note_left hubs ex eh fh k of_hub o p q says a b = tt
+  note_left hubs ex eh fh k (of_spoke t) o p q says a b = by_own (bytes_eq t.name s.name) a b
+    where
+      by_own : (c : Bool) → SpokeNoteOver c t hubs eh o p → SpokeNotePair c fh q p → OtherLeft c t hubs o q
+      by_own true a b = b.0
+      by_own false a b = judged_left all says.1.0 t def says.1.1 hubs o q (subst (IsJudged t hubs o) (sym b) a)
+  note_left hubs ex eh fh k of_none o p q says a b = b ∙ a
 
-module _ (all : Spokes) (v : ℕ) (s : Spoke) (def : IsDefinition all) (place : slice_get all.items v ≡ Some s) where
-  spoke_left : (body : Pairs) (es : List Entry) (k : Name) (c : KeyKind) (o p : Option Name) → KindSays all k c → NoteAtSpoke s body es c o p → NoteLeftAtSpoke s body (hub_body s body es) c o p
-  spoke_left body es k plain o p says n = n
-  spoke_left body es k of_hub o p says n = keeps all v s def place spoke body es o p n.0 n.1
-  spoke_left body es k (of_spoke t) o p says n = other_left all def (hub_body s body es) k (bytes_eq t.name s.name) t o p says n
-  spoke_left body es k of_none o p says n = n
+  pub left_over : (x h z : ObjectView) → AreRising (members_of x.body) → IsBodyOf spoke s.fit x.body → (g : GoesOver all s x h) → (p : IsPairOf all s z h) → LeftAtSpoke all s x z
+  left_over x h z rises b g p =
+      let l = s.fit.level in
+      let f = fills_at all s in
+      let m = settled_marks spoke l (marks_of spoke l (with_entries x.body g.hub_kept)) in
+      let own : g.spoke_kept ≡ p.spoke_kept = one_note laws.one (noted (spoke_key s.name) h) g.spoke_kept p.spoke_kept (over_own laws all v s def place x h g) (own_pair laws all v s def place z h p).1 in
+      let held : marks_of hub l (with_entries h.body p.spoke_kept) ≡ filled l f (crossed spoke l m) = ap (λ (es : List Entry). marks_of hub l (with_entries h.body es)) (sym own) ∙ over_marks_are laws all v s def place x h rises b g in
+      let back : marks_of spoke l (with_entries z.body p.hub_kept) ≡ crossed hub l (filled l f (crossed spoke l m)) = (paired_crossed l (marks_of spoke l (with_entries z.body p.hub_kept)) (marks_of hub l (with_entries h.body p.spoke_kept)) (ready laws all v s def place).fits p.bodies.cells).1 ∙ ap (crossed hub l) held in
+      let good = settled_good spoke l (marks_of spoke l (with_entries x.body g.hub_kept)) (allowed laws all v s def place spoke x.body g.hub_kept rises b) in record {
+        before = g.hub_kept;
+        after = p.hub_kept;
+        at_hub = h.body;
+        spelled = g.spelled;
+        kept = hub_pair_note laws all v s def place z h p;
+        cells = subst (IsLeft l f m) (sym back) (level_left l f m (ready laws all v s def place).fits (right all v s def place) good);
+        notes = λ k. note_left h.body p.hub_kept g.spoke_kept p.spoke_kept k (key_kind all k) (noted k x) (noted k h) (noted k z) (kind_says all k) (g.notes k) (p.notes k);
+      }
 
-  pub left_at_spoke : (x y : ObjectView) → (t : SettlesAtSpoke all s x y) → (k : Name) → NoteLeftAtSpoke s x.body (hub_body s x.body t.hub_kept) (key_kind all k) (noted k x) (noted k y)
-  left_at_spoke x y t k = spoke_left x.body t.hub_kept k (key_kind all k) (noted k x) (noted k y) (kind_says all k) (t.notes k)
-
-  -- the body at the hub is that of what went over
-  over_body : (laws : Laws) (x y h : ObjectView) (g : GoesOver all s x h) (t : SettlesAtSpoke all s x y) → h.body ≡ hub_body s x.body t.hub_kept
-  over_body laws x y h g t =
-      let hub_note : NoteAtSpoke s x.body t.hub_kept of_hub (noted hub_key x) (noted hub_key y) = subst (λ (c : KeyKind). NoteAtSpoke s x.body t.hub_kept c (noted hub_key x) (noted hub_key y)) (hub_kind all) (t.notes hub_key) in
-      let kept : g.hub_kept ≡ t.hub_kept = spells_one laws.one (noted hub_key x) g.hub_kept t.hub_kept g.spelled hub_note.0 in
-      ap (λ (a : Held). a.fields) g.bodies ∙ ap (λ (es : List Entry). (converted spoke s.fit.level (with_entries x.body es)).fields) kept
-
-  pub left_over_and_back : Laws → (x y h z : ObjectView) → x.api_version ≡ api_version all.group s.name → AreRising (members_of x.body) → IsBodyOf spoke s.fit x.body → GoesOver all s x h → SettlesAtSpoke all s x y → IsObject z → IsPairOf all s z h → (k : Name) → NoteLeftAtSpoke s x.body h.body (key_kind all k) (noted k x) (noted k z)
-  left_over_and_back laws x y h z version rises b g t o p k =
-      let same : z ≡ y = back_settled laws all v s def place x y h z version rises b g t o p in
-      subst (λ (w : ObjectView). NoteLeftAtSpoke s x.body h.body (key_kind all k) (noted k x) (noted k w)) (sym same) (subst (λ (hb : Pairs). NoteLeftAtSpoke s x.body hb (key_kind all k) (noted k x) (noted k y)) (sym (over_body laws x y h g t)) (left_at_spoke x y t k))
+  pub left_at_spoke : (x y : ObjectView) → AreRising (members_of x.body) → IsBodyOf spoke s.fit x.body → SettlesAtSpoke all s x y → LeftAtSpoke all s x y
+  left_at_spoke x y rises b t = left_over x t.hub y rises b t.over t.pair

@@ -36,3 +36,8 @@ pub mod LeftNotes
 pub mod Carried
 pub mod Made
 pub mod Adding
+pub mod Completing
+pub mod Marks
+pub mod CompleteEach
+pub mod CompleteHub
+pub mod LeftCells

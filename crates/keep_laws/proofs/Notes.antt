@@ -8,7 +8,7 @@ use Rattle.hub_cells.specs.Side.{hub}
 use Rattle.keep_laws.specs.Spokes.{Spoke}
 use Rattle.kj_value.specs.Fields.{Pairs}
 use Rattle.keep_laws.specs.Notes.{Spells, note, IsNoteOf, with_note, without_notes}
-use Rattle.keep_laws.specs.Settling.{IsJudged, living_entries}
+use Rattle.keep_laws.specs.Judging.{IsJudged, living_entries}
 use Rattle.keep_laws.specs.Given.{OneList}
 use Rattle.keep_laws.proofs.Texts.{field_same, field_other}
 

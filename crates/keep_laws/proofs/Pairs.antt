@@ -1,14 +1,17 @@
 -- What is paired with a whole object of the hub is settled, and is the only one; and back.
-use Rattle.std.proofs.Common.{◌≡◌, ℕ, List, Bool, true, false, bytes_eq, Option, Some, ap, sym, subst, ◌∙◌}
+use Rattle.std.proofs.Common.{◌≡◌, ℕ, List, [], Bool, true, false, bytes_eq, Option, Some, ap, sym, subst, ◌∙◌}
 use Rattle.std.specs.Prelude.{slice_get}
 use Rattle.kube_meta.specs.View.{ObjectView}
 use Rattle.kept_entries.specs.declared.entry.Entry.{Entry}
 use Rattle.hub_cells.specs.Side.{spoke, hub}
 use Rattle.hub_cells.specs.Level.{Name}
-use Rattle.keep_laws.specs.Whole.{Held, Ready, IsWholeOnSide, IsPair}
+use Rattle.keep_laws.specs.Marked.{crossed}
+use Rattle.keep_laws.specs.Settle.{AreSet}
+use Rattle.keep_laws.specs.Whole.{Held, Ready, IsWholeOnSide, IsPair, marks_of}
+use Rattle.keep_laws.proofs.LawA.{paired_crossed}
 use Rattle.keep_laws.proofs.Back.{pair_whole}
 use Rattle.keep_laws.proofs.Fields.{bytes_same}
-use Rattle.keep_laws.specs.Spokes.{Spoke, Spokes, IsDefinition}
+use Rattle.keep_laws.specs.Spokes.{Spoke, Spokes, IsDefinition, fills_at}
 use Rattle.keep_laws.specs.Keys.{hub_key, spoke_key, KeyKind, plain, of_hub, of_spoke, of_none, key_kind}
 use Rattle.keep_laws.specs.Notes.{noted, note, IsNoteOf, IsObject, with_entries}
 use Rattle.keep_laws.specs.Pair.{SpokeNotePair, NotePair, IsPairOf}
@@ -18,7 +21,10 @@ use Rattle.keep_laws.proofs.Texts.{same_fields}
 use Rattle.keep_laws.proofs.Keys.{hub_kind, spoke_kind}
 use Rattle.keep_laws.proofs.SpokeLevels.{ready_of, one_spoke, one_hub}
 use Rattle.keep_laws.proofs.Notes.{one_note, same_meta, same_object}
-use Rattle.keep_laws.proofs.SpokesFitted.{fits, room}
+use Rattle.keep_laws.proofs.SpokesFitted.{fits, room, right}
+use Rattle.keep_laws.proofs.Completing.{spoke_set}
+use Rattle.keep_laws.proofs.Marks.{complete_any}
+use Rattle.keep_laws.proofs.CompleteHub.{complete_at}
 
 -- ---- one annotation
 
@@ -94,10 +100,19 @@ module _ (laws : Laws) (all : Spokes) (v : ℕ) (s : Spoke) (def : IsDefinition 
       same_fields g.meta.annotations h.meta.annotations og.annotations oh.annotations (λ k. note_at_hub s p.hub_kept q.hub_kept p.spoke_kept q.spoke_kept (key_kind all k) (noted k x) (noted k g) (noted k h) (ap (λ (a : Held). a.entries) held) (p.notes k) (q.notes k)) in
       same_object g h (p.hub_version ∙ sym q.hub_version) (sym p.kind ∙ q.kind) (same_meta g.meta h.meta (sym p.meta ∙ q.meta) notes) (ap (λ (a : Held). a.fields) held)
 
+  -- each name of the spoke's that has a default is there
+  pub pair_set : (x h : ObjectView) → IsWholeHub all h → (p : IsPairOf all s x h) → AreSet spoke s.fit.level (marks_of spoke s.fit.level (with_entries x.body p.hub_kept))
+  pair_set x h w p =
+      let l = s.fit.level in
+      let H = with_entries h.body p.spoke_kept in
+      let back : marks_of spoke l (with_entries x.body p.hub_kept) ≡ crossed hub l (marks_of hub l H) = (paired_crossed l (marks_of spoke l (with_entries x.body p.hub_kept)) (marks_of hub l H) ready.fits p.bodies.cells).1 in
+      let complete = complete_any l (fills_at all s) h.body [] p.spoke_kept (complete_at all all.items v s h.body w.complete place) in
+      subst (AreSet spoke l) (sym back) (spoke_set l (fills_at all s) (marks_of hub l H) ready.fits (right all v s def place) (hub_whole x h w p).good complete)
+
   pub settled_of : (x h : ObjectView) → IsObject x → IsWholeHub all h → IsPairOf all s x h → IsSettledAt all s x
   settled_of x h o w p = record {
     object = o;
-    body = laws.body spoke s.fit (with_entries x.body p.hub_kept) (fits all v s def place) (room all v s def place) (spoke_whole x h w p);
+    body = laws.body spoke s.fit (with_entries x.body p.hub_kept) (fits all v s def place) (room all v s def place) (spoke_whole x h w p) (pair_set x h w p);
     hub = h;
     whole = w;
     pair = p;

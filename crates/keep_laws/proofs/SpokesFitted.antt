@@ -1,12 +1,16 @@
 -- What a definition says of each of its spokes.
-use Rattle.std.proofs.Common.{◌≡◌, ℕ, zero, suc, List, [], ◌∷◌, Some, ap, sym, subst, ◌∙◌}
+use Rattle.std.proofs.Common.{◌≡◌, ℕ, zero, suc, List, [], ◌∷◌, ◌⊎◌, inl, inr, Option, Some, refl, ap, sym, subst, ◌∙◌}
 use Rattle.std.specs.Prelude.{slice_get}
 use Rattle.kj_value.specs.Fields.{Pairs}
 use Rattle.struct_schema.specs.Shape.{Shape}
 use Rattle.hub_cells.specs.Side.{hub}
-use Rattle.hub_cells.specs.Fit.{IsFitted}
+use Rattle.hub_cells.specs.Level.{Level}
+use Rattle.hub_cells.specs.Fit.{Stands, IsFitted}
+use Rattle.hub_fills.specs.Right.{RightFills}
+use Rattle.hub_fills.specs.Sound.{IsAmong, EachLevel, AreAmong, HasLevel}
+use Rattle.hub_fills.specs.RightLaws.{level_right}
 use Rattle.keep_laws.specs.FittedBody.{IsBody, IsBodyOf, HasRoom}
-use Rattle.keep_laws.specs.Spokes.{Spoke, Spokes, AreFittedTo, HaveOneHub, IsDefinition}
+use Rattle.keep_laws.specs.Spokes.{Spoke, Spokes, AreFittedTo, HaveOneHub, levels_of, HaveDefaults, IsDefinition, fills_at}
 use Rattle.keep_laws.specs.Keys.{of_spoke, key_kind, spoke_key}
 use Rattle.keep_laws.specs.WholeHub.{IsHubBody}
 use Rattle.hub_cells.specs.Level.{Name}
@@ -68,3 +72,48 @@ same_spoke all v w s t d e f q =
   where
     kinds : (x y : Spoke) → of_spoke x ≡ of_spoke y → x ≡ y
     kinds x y p = cc
+
+-- ---- what the hub's names become
+
+has_level : (ss : List Spoke) (v : ℕ) (s : Spoke) → slice_get ss v ≡ Some s → HasLevel (Some s.fit.level) (levels_of ss)
+has_level [] v s e = absurd (cc)
+has_level (t ∷ ss) zero s e = inl (ap (λ (u : Spoke). Some u.fit.level) (sym (some_some t s e)))
+has_level (t ∷ ss) (suc v) s e = inr (has_level ss v s e)
+
+level_among : (S : Shape) (ms : List (Option Level)) (ss : List Spoke) → AreFittedTo S ss → HaveDefaults ms ss → EachLevel (IsAmong 0 S ms) (levels_of ss)
+level_among S ms [] f d = tt
+level_among S ms (t ∷ ss) f d = (
+  record {
+    stands = subst (λ (n : ℕ). Stands hub n S t.fit.level) f.1 (subst (λ (u : Shape). Stands hub t.fit.depth u t.fit.level) f.0 (f.3.stands hub));
+    fits = f.3.fits;
+    once = f.3.no_name_twice hub;
+    defaults = d.0;
+    late = d.1;
+  },
+  level_among S ms ss f.4 d.2,
+)
+
+-- the levels of all spokes at the root, which stand for one schema of the hub
+pub record AllAmong (all : Spokes) (s : Spoke) : Type 0 where
+  pub schema : Shape
+  pub to : s.fit.hub ≡ schema
+  pub root : s.fit.depth ≡ 0
+  pub each : AreAmong 0 schema (levels_of all.items)
+  pub mine : HasLevel (Some s.fit.level) (levels_of all.items)
+
+pub all_among : (all : Spokes) (v : ℕ) (s : Spoke) → IsDefinition all → slice_get all.items v ≡ Some s → AllAmong all s
+all_among all v s d e =
+    let S = schema_of all.items v s d.one_hub e in
+    let f = fits_at S.0 all.items v s S.1 e in
+    record {
+      schema = S.0;
+      to = f.to;
+      root = f.root;
+      each = level_among S.0 (levels_of all.items) all.items S.1 d.defaults;
+      mine = has_level all.items v s e;
+    }
+
+pub right : (all : Spokes) (v : ℕ) (s : Spoke) → IsDefinition all → slice_get all.items v ≡ Some s → RightFills s.fit.level (fills_at all s)
+right all v s d e =
+    let a = all_among all v s d e in
+    level_right 0 a.schema (levels_of all.items) s.fit.level a.mine a.each

@@ -4,6 +4,7 @@ pub mod Pairing
 pub mod Body
 pub mod Whole
 pub mod Settle
+pub mod Complete
 pub mod Known
 pub mod Alive
 pub mod Words
@@ -13,6 +14,7 @@ pub mod Keys
 pub mod Notes
 pub mod Pair
 pub mod WholeHub
+pub mod Judging
 pub mod Settling
 pub mod LeftNotes
 pub mod Over

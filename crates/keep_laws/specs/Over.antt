@@ -8,13 +8,12 @@ use Rattle.kj_value.specs.Fields.{Pairs, field}
 use Rattle.kube_meta.specs.View.{Texts, ObjectView}
 use Rattle.kept_entries.specs.declared.entry.Entry.{Entry}
 use Rattle.kept_entries.specs.Text.{IsKept}
-use Rattle.hub_cells.specs.Side.{spoke}
 use Rattle.hub_cells.specs.Level.{Name}
-use Rattle.keep_laws.specs.Settle.{converted}
-use Rattle.keep_laws.specs.Spokes.{Spoke, Spokes, api_version}
+use Rattle.keep_laws.specs.Complete.{completed_over}
+use Rattle.keep_laws.specs.Spokes.{Spoke, Spokes, api_version, fills_at}
 use Rattle.keep_laws.specs.Keys.{KeyKind, plain, of_hub, of_spoke, of_none, hub_key, key_kind}
 use Rattle.keep_laws.specs.Notes.{noted, Spells, IsNoteOf, IsObject, with_entries, without_notes}
-use Rattle.keep_laws.specs.Settling.{IsJudged, is_own}
+use Rattle.keep_laws.specs.Judging.{IsJudged, is_own}
 
 -- this spoke's own annotation keeps what the hub can't hold, whatever stood there; another's is judged at the hub's body
 abbrev pub SpokeNoteOver : Bool → Spoke → Pairs → List Entry → Option Name → Option Name → Type 0
@@ -27,7 +26,8 @@ NoteOver s body es of_hub o p = p ≡ None
 NoteOver s body es (of_spoke t) o p = SpokeNoteOver (bytes_eq t.name s.name) t body es o p
 NoteOver s body es of_none o p = p ≡ None
 
--- x at the spoke becomes h at the hub; x keeps hub_kept of the hub, and h spoke_kept of the spoke
+-- x at the spoke becomes h at the hub, what comes over being completed; x keeps hub_kept of the hub, and h spoke_kept of the
+-- spoke
 pub record GoesOver (all : Spokes) (s : Spoke) (x h : ObjectView) : Type 0 where
   pub version : h.api_version ≡ api_version all.group all.hub
   pub kind : h.kind ≡ x.kind
@@ -36,7 +36,7 @@ pub record GoesOver (all : Spokes) (s : Spoke) (x h : ObjectView) : Type 0 where
   pub hub_kept : List Entry
   pub spoke_kept : List Entry
   pub spelled : Spells (noted hub_key x) hub_kept
-  pub bodies : with_entries h.body spoke_kept ≡ converted spoke s.fit.level (with_entries x.body hub_kept)
+  pub bodies : with_entries h.body spoke_kept ≡ completed_over (fills_at all s) s.fit.level (with_entries x.body hub_kept)
   pub notes : (k : Name) → NoteOver s h.body spoke_kept (key_kind all k) (noted k x) (noted k h)
 
 -- ---- which annotations are read, by the side that their object stands on

@@ -1,12 +1,13 @@
 -- The object without its dead entries.
-use Rattle.std.specs.Prelude.{◌≡◌, List, [], ◌∷◌, Bool, true, false, ◌&&◌, cond, Option, Some, None}
+use Rattle.std.specs.Prelude.{◌≡◌, List, [], ◌∷◌, Bool, true, false, ◌&&◌, cond, Option, Some, None, is_none}
 use Rattle.kj_value.specs.Json.{Json}
 use Rattle.kj_value.specs.Same.{json_same}
+use Rattle.struct_schema.specs.Shape.{own}
 use Rattle.hub_cells.specs.Side.{Side, other}
 use Rattle.hub_cells.specs.Cell.{Tuple}
 use Rattle.hub_cells.specs.Cross.{matched, shown}
-use Rattle.hub_cells.specs.Level.{allows, Cell, Level, level, Inners, no_inner, inner}
-use Rattle.keep_laws.specs.Marked.{Marks, Marked, MarkedInners, OrAbsent, there, crossed}
+use Rattle.hub_cells.specs.Level.{allows, Place, Cell, places, Level, level, Inners, no_inner, inner}
+use Rattle.keep_laws.specs.Marked.{Marks, Marked, MarkedInners, IfThere, OrAbsent, there, crossed}
 use Rattle.keep_laws.specs.Whole.{Held, marks_of, object_of}
 
 abbrev pub value_same : Option Json → Option Json → Bool
@@ -59,6 +60,29 @@ abbrev mutual
   pub InnersAllowed : Side → (is : Inners) → MarkedInners is → Type 0
   InnersAllowed d no_inner ms = Unit {0}
   InnersAllowed d (inner a b rq l is) ms = OrAbsent rq (IsAllowed d l) ms.0 × InnersAllowed d is ms.1
+
+-- ---- a body in which each name that has a default is there
+
+abbrev pub set_at : Place → Option Json → Bool
+set_at p None = is_none (own p.shape).default_value
+set_at p (Some j) = true
+
+abbrev pub all_set : List Place → Tuple → Bool
+all_set [] os = true
+all_set (p ∷ ps) [] = true
+all_set (p ∷ ps) (o ∷ os) = set_at p o && all_set ps os
+
+abbrev pub CellsSet : Side → (cs : List Cell) → Marks cs → Type 0
+CellsSet d [] ms = Unit {0}
+CellsSet d (c ∷ cs) ms = (all_set (places d c) ms.0.0 ≡ true) × CellsSet d cs ms.1
+
+abbrev mutual
+  pub AreSet : Side → (l : Level) → Marked l → Type 0
+  AreSet d (level cs is) m = CellsSet d cs m.0 × InnersSet d is m.1
+
+  pub InnersSet : Side → (is : Inners) → MarkedInners is → Type 0
+  InnersSet d no_inner ms = Unit {0}
+  InnersSet d (inner a b rq l is) ms = IfThere (AreSet d l) ms.0 × InnersSet d is ms.1
 
 abbrev pub settled : Side → (l : Level) → Held → Held
 settled d l x = object_of d l (settled_marks d l (marks_of d l x))

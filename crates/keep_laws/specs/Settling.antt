@@ -1,72 +1,41 @@
--- An object without what has no place in it: the annotation of its own side, those of no known spoke, and dead entries.
-use Rattle.std.specs.Prelude.{◌≡◌, List, Bool, true, false, Option, None, Some}
-use Rattle.std.specs.Str.{bytes_eq}
-use Rattle.kj_value.specs.Fields.{Pairs, field}
-use Rattle.kube_meta.specs.View.{Texts, ObjectView}
-use Rattle.kept_entries.specs.declared.entry.Entry.{Entry}
-use Rattle.kept_entries.specs.Text.{IsKept}
-use Rattle.hub_cells.specs.Side.{Side, spoke, hub}
-use Rattle.hub_cells.specs.Level.{Name}
-use Rattle.keep_laws.specs.Settle.{settled, converted}
-use Rattle.keep_laws.specs.Spokes.{Spoke, Spokes}
-use Rattle.keep_laws.specs.Keys.{KeyKind, plain, of_hub, of_spoke, of_none, key_kind}
-use Rattle.keep_laws.specs.Notes.{noted, Spells, IsNoteOf, IsObject, with_entries, without_notes}
+-- An object without what has no place in it: the annotation of its own side, those of no known spoke, and dead entries; and
+-- with the names that have a default in some version.
+use Rattle.std.specs.Prelude.{◌≡◌, List, [], ◌∷◌, None}
+use Rattle.kj_value.specs.Fields.{Pairs}
+use Rattle.kube_meta.specs.View.{ObjectView}
+use Rattle.keep_laws.specs.Complete.{completed}
+use Rattle.keep_laws.specs.Spokes.{Spoke, Spokes, fills_at}
+use Rattle.keep_laws.specs.Notes.{IsObject, without_notes}
+use Rattle.keep_laws.specs.Pair.{IsPairOf}
+use Rattle.keep_laws.specs.WholeHub.{IsWholeHub}
+use Rattle.keep_laws.specs.Judging.{Carries}
+use Rattle.keep_laws.specs.Over.{GoesOver}
 
--- the entries that are alive beside this body of the side
-abbrev pub living_entries : Side → Spoke → Pairs → List Entry → List Entry
-living_entries d s body es = (settled d s.fit.level (with_entries body es)).entries
-
--- the hub's body of a spoke's, beside which these entries are kept
-abbrev pub hub_body : Spoke → Pairs → List Entry → Pairs
-hub_body s body es = (converted spoke s.fit.level (with_entries body es)).fields
-
--- a spoke's annotation o, judged at a body of the hub, is p: what it keeps that is alive
-abbrev pub IsJudged : Spoke → Pairs → Option Name → Option Name → Type 0
-IsJudged s body None p = p ≡ None
-IsJudged s body (Some t) p = (es : List Entry) × IsKept t es × IsNoteOf (living_entries hub s body es) p
-
--- the name is the one of the side that an object stands on; the hub has no name here
-abbrev pub is_own : Option Name → Name → Bool
-is_own None n = false
-is_own (Some m) n = bytes_eq n m
-
-abbrev pub SpokeNote : Bool → Spoke → Pairs → Option Name → Option Name → Type 0
-SpokeNote true s body o p = p ≡ None
-SpokeNote false s body o p = IsJudged s body o p
-
--- what becomes of an annotation o that isn't the hub's on an object of the side `own`, where `body` is the object's at the hub
-abbrev pub OtherNote : Option Name → Pairs → KeyKind → Option Name → Option Name → Type 0
-OtherNote own body plain o p = p ≡ o
-OtherNote own body of_hub o p = p ≡ None
-OtherNote own body (of_spoke s) o p = SpokeNote (is_own own s.name) s body o p
-OtherNote own body of_none o p = p ≡ None
-
--- the same for all annotations of a map
-abbrev pub Carries : Spokes → Option Name → Pairs → Texts → Texts → Type 0
-Carries all own body xs ys = (k : Name) → OtherNote own body (key_kind all k) (field k xs) (field k ys)
-
--- y is x but for annotations
+-- y is x but for annotations and for the body
 pub record IsRestOf (x y : ObjectView) : Type 0 where
   pub version : y.api_version ≡ x.api_version
   pub kind : y.kind ≡ x.kind
   pub meta : without_notes y.meta ≡ without_notes x.meta
-  pub body : y.body ≡ x.body
   pub object : IsObject y
 
--- y is x without what has no place at the hub
+-- a body of the hub, completed along the first spoke's level: a name that some spoke lacks has no default but the hub's
+abbrev pub completed_first : Spokes → List Spoke → Pairs → Pairs
+completed_first all [] body = body
+completed_first all (s ∷ ss) body = completed (fills_at all s) s.fit.level body
+
+abbrev pub completed_hub : Spokes → Pairs → Pairs
+completed_hub all body = completed_first all all.items body
+
+-- y is x without what has no place at the hub, and completed; entries are judged at the completed body
 pub record SettlesAtHub (all : Spokes) (x y : ObjectView) : Type 0 where
   pub rest : IsRestOf x y
-  pub notes : Carries all None x.body x.meta.annotations y.meta.annotations
+  pub body : y.body ≡ completed_hub all x.body
+  pub notes : Carries all None y.body x.meta.annotations y.meta.annotations
 
--- on a spoke's object the hub's annotation keeps what is alive
-abbrev pub NoteAtSpoke : Spoke → Pairs → List Entry → KeyKind → Option Name → Option Name → Type 0
-NoteAtSpoke s body es plain o p = p ≡ o
-NoteAtSpoke s body es of_hub o p = Spells o es × IsNoteOf (living_entries spoke s body es) p
-NoteAtSpoke s body es (of_spoke t) o p = SpokeNote (bytes_eq t.name s.name) t (hub_body s body es) o p
-NoteAtSpoke s body es of_none o p = p ≡ None
-
--- y is x without what has no place at the spoke; `hub_kept` is what the hub's annotation spells
+-- y is the form, at the spoke, of the whole object of the hub that x becomes
 pub record SettlesAtSpoke (all : Spokes) (s : Spoke) (x y : ObjectView) : Type 0 where
-  pub rest : IsRestOf x y
-  pub hub_kept : List Entry
-  pub notes : (k : Name) → NoteAtSpoke s x.body hub_kept (key_kind all k) (noted k x) (noted k y)
+  pub hub : ObjectView
+  pub over : GoesOver all s x hub
+  pub whole : IsWholeHub all hub
+  pub object : IsObject y
+  pub pair : IsPairOf all s y hub

@@ -1,8 +1,11 @@
 -- The versions of a definition: one is the hub, and each other, a spoke, has its rules, fitted to its schema and the hub's.
-use Rattle.std.specs.Prelude.{◌≡◌, ◌++◌, ℕ, List, [], ◌∷◌, map}
+use Rattle.std.specs.Prelude.{◌≡◌, ◌++◌, ℕ, List, [], ◌∷◌, map, Option, Some}
 use Rattle.struct_schema.specs.Shape.{Shape}
-use Rattle.hub_cells.specs.Level.{Name, AreDistinct}
+use Rattle.hub_cells.specs.Level.{Name, AreDistinct, Level}
 use Rattle.hub_cells.specs.Fit.{Fit, IsFitted}
+use Rattle.hub_fills.specs.Fills.{Fills, fills_of}
+use Rattle.hub_fills.specs.Late.{NoLate}
+use Rattle.hub_fills.specs.Right.{AllowDefaults}
 use Rattle.keep_laws.specs.FittedBody.{HasRoom}
 
 pub record Spoke : Type 0 where
@@ -40,7 +43,23 @@ abbrev pub ShareHub : Shape → List Spoke → Type 0
 ShareHub hub [] = Unit {0}
 ShareHub hub (s ∷ ss) = s.fit.hub ≡ hub
 
--- all names differ, and all spokes are fitted to one schema of the hub
+-- the levels of all spokes at the root
+abbrev pub levels_of : List Spoke → List (Option Level)
+levels_of ss = map (λ s. Some s.fit.level) ss
+
+-- each default is a value that its side allows, and none comes too late for some spoke; `ms` are the levels of all spokes
+abbrev pub HaveDefaults : List (Option Level) → List Spoke → Type 0
+HaveDefaults ms [] = Unit {0}
+HaveDefaults ms (s ∷ ss) = AllowDefaults s.fit.level × NoLate ms s.fit.level × HaveDefaults ms ss
+
+-- all names differ, all spokes are fitted to one schema of the hub, and a name of the hub's that isn't there can take a
+-- default of any version
 pub record IsDefinition (all : Spokes) : Type 0 where
   pub names : AreDistinct (all.hub ∷ spoke_names all.items)
   pub one_hub : HaveOneHub all.items
+  pub defaults : HaveDefaults (levels_of all.items) all.items
+
+-- what the hub's names become where they aren't there, along the level of a spoke: the hub's default, or else the value that
+-- matches the default of the first spoke that has one
+abbrev pub fills_at : Spokes → Spoke → Fills
+fills_at all s = fills_of (levels_of all.items) s.fit.level

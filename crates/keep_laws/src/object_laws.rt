@@ -12,8 +12,8 @@ ghost use Rattle.keep_laws.specs.Notes.{IsObject, noted};
 ghost use Rattle.keep_laws.specs.Pair.{IsPairOf};
 ghost use Rattle.keep_laws.specs.WholeHub.{IsHubBody, IsWholeHub, IsSettledAt};
 ghost use Rattle.keep_laws.specs.Keys.{key_kind};
-ghost use Rattle.keep_laws.specs.Settling.{SettlesAtHub, SettlesAtSpoke, hub_body};
-ghost use Rattle.keep_laws.specs.LeftNotes.{NoteLeftAtHub, NoteLeftAtSpoke};
+ghost use Rattle.keep_laws.specs.Settling.{SettlesAtHub, SettlesAtSpoke};
+ghost use Rattle.keep_laws.specs.LeftNotes.{NoteLeftAtHub, LeftAtSpoke};
 ghost use Rattle.keep_laws.specs.Over.{GoesOver};
 ghost use Rattle.keep_laws.specs.Given.{Laws};
 
@@ -46,29 +46,31 @@ pub fn one_each()
     given();
 }
 
-/// What goes over to the hub is whole there, and is paired with what is left of the object once settled.
+/// What goes over to the hub is whole there, and is paired with what is left of the object once settled; an
+/// object goes over to one object, and one that is paired with a whole object goes over to it.
 pub fn going_over()
     ensures whole { (all : Spokes) (v : ℕ) (s : Spoke) → IsDefinition all → slice_get all.items v ≡ Some s
         → (x h : ObjectView) → AreRising (members_of x.body) → IsBodyOf spoke s.fit x.body
         → GoesOver all s x h → IsWholeHub all h }
     ensures pair { (all : Spokes) (v : ℕ) (s : Spoke) → IsDefinition all → slice_get all.items v ≡ Some s
-        → (x y h : ObjectView) → x.api_version ≡ api_version all.group s.name
-        → AreRising (members_of x.body) → IsBodyOf spoke s.fit x.body
-        → GoesOver all s x h → SettlesAtSpoke all s x y → IsPairOf all s y h }
+        → (x y h : ObjectView) → GoesOver all s x h → SettlesAtSpoke all s x y → IsPairOf all s y h }
+    ensures one { (all : Spokes) (v : ℕ) (s : Spoke) → IsDefinition all → slice_get all.items v ≡ Some s
+        → (x g h : ObjectView) → GoesOver all s x g → GoesOver all s x h → g ≡ h }
+    ensures back { (all : Spokes) (v : ℕ) (s : Spoke) → IsDefinition all → slice_get all.items v ≡ Some s
+        → (x h : ObjectView) → IsWholeHub all h → IsPairOf all s x h → GoesOver all s x h }
 {
     given();
 }
 
 /// An object settles to one object, which is settled, or whole at the hub; and such an object settles to
 /// itself. Of each annotation that keeps entries the dead ones go and nothing else: an entry stands
-/// afterwards exactly where it stood before and is alive.
+/// afterwards exactly where it stood before and is alive. A cell stays, but where nothing is there and it has
+/// a default in some version: there stands the form of that value, which is kept where the spoke can't hold it.
 pub fn settling()
     ensures one { (all : Spokes) (v : ℕ) (s : Spoke) → IsDefinition all → slice_get all.items v ≡ Some s
         → (x y z : ObjectView) → SettlesAtSpoke all s x y → SettlesAtSpoke all s x z → y ≡ z }
     ensures settled { (all : Spokes) (v : ℕ) (s : Spoke) → IsDefinition all → slice_get all.items v ≡ Some s
-        → (x y h : ObjectView) → x.api_version ≡ api_version all.group s.name
-        → AreRising (members_of x.body) → IsBodyOf spoke s.fit x.body
-        → GoesOver all s x h → SettlesAtSpoke all s x y → IsSettledAt all s y }
+        → (x y : ObjectView) → SettlesAtSpoke all s x y → IsSettledAt all s y }
     ensures stays { (all : Spokes) (v : ℕ) (s : Spoke) → IsDefinition all → slice_get all.items v ≡ Some s
         → (x : ObjectView) → IsSettledAt all s x → SettlesAtSpoke all s x x }
     ensures one_at_hub { (all : Spokes) (x y z : ObjectView) → SettlesAtHub all x y → SettlesAtHub all x z
@@ -76,35 +78,36 @@ pub fn settling()
     ensures whole { (all : Spokes) → IsDefinition all → (x y : ObjectView)
         → x.api_version ≡ api_version all.group all.hub → AreRising (members_of x.body)
         → IsHubBody all.items x.body → SettlesAtHub all x y → IsWholeHub all y }
-    ensures stays_at_hub { (all : Spokes) (h : ObjectView) → IsWholeHub all h → SettlesAtHub all h h }
+    ensures stays_at_hub { (all : Spokes) → IsDefinition all → (h : ObjectView) → IsWholeHub all h
+        → SettlesAtHub all h h }
     ensures left { (all : Spokes) (v : ℕ) (s : Spoke) → IsDefinition all → slice_get all.items v ≡ Some s
-        → (x y : ObjectView) → (t : SettlesAtSpoke all s x y) → (k : Name)
-        → NoteLeftAtSpoke s x.body (hub_body s x.body t.hub_kept) (key_kind all k) (noted k x) (noted k y) }
+        → (x y : ObjectView) → AreRising (members_of x.body) → IsBodyOf spoke s.fit x.body
+        → SettlesAtSpoke all s x y → LeftAtSpoke all s x y }
     ensures left_at_hub { (all : Spokes) → IsDefinition all → (x y : ObjectView) → SettlesAtHub all x y
-        → (k : Name) → NoteLeftAtHub x.body (key_kind all k) (noted k x) (noted k y) }
+        → (k : Name) → NoteLeftAtHub y.body (key_kind all k) (noted k x) (noted k y) }
 {
     given();
 }
 
 /// Over to the hub and back is what is left of an object once settled: what goes of its annotations is the
-/// dead entries and nothing else, beside the annotation of its own side and those of no known spoke. So it is
-/// the identity on settled objects; and back and over again is the identity on whole ones.
+/// dead entries and nothing else, beside the annotation of its own side and those of no known spoke, and what
+/// comes is the form of a default of some version where nothing is. So it is the identity on settled objects;
+/// and back and over again is the identity on whole ones.
 pub fn over_and_back()
+    ensures settles { (all : Spokes) (v : ℕ) (s : Spoke) → IsDefinition all → slice_get all.items v ≡ Some s
+        → (x h z : ObjectView) → AreRising (members_of x.body) → IsBodyOf spoke s.fit x.body
+        → GoesOver all s x h → IsObject z → IsPairOf all s z h → SettlesAtSpoke all s x z }
     ensures left { (all : Spokes) (v : ℕ) (s : Spoke) → IsDefinition all → slice_get all.items v ≡ Some s
-        → (x y h z : ObjectView) → x.api_version ≡ api_version all.group s.name
-        → AreRising (members_of x.body) → IsBodyOf spoke s.fit x.body → GoesOver all s x h
-        → SettlesAtSpoke all s x y → IsObject z → IsPairOf all s z h → z ≡ y }
+        → (x y h z : ObjectView) → GoesOver all s x h → SettlesAtSpoke all s x y → IsObject z
+        → IsPairOf all s z h → z ≡ y }
     ensures settled { (all : Spokes) (v : ℕ) (s : Spoke) → IsDefinition all → slice_get all.items v ≡ Some s
         → (x h z : ObjectView) → IsSettledAt all s x → GoesOver all s x h
         → IsObject z → IsPairOf all s z h → z ≡ x }
     ensures entries { (all : Spokes) (v : ℕ) (s : Spoke) → IsDefinition all → slice_get all.items v ≡ Some s
-        → (x y h z : ObjectView) → x.api_version ≡ api_version all.group s.name
-        → AreRising (members_of x.body) → IsBodyOf spoke s.fit x.body → GoesOver all s x h
-        → SettlesAtSpoke all s x y → IsObject z → IsPairOf all s z h → (k : Name)
-        → NoteLeftAtSpoke s x.body h.body (key_kind all k) (noted k x) (noted k z) }
+        → (x h z : ObjectView) → AreRising (members_of x.body) → IsBodyOf spoke s.fit x.body
+        → GoesOver all s x h → IsPairOf all s z h → LeftAtSpoke all s x z }
     ensures whole { (all : Spokes) (v : ℕ) (s : Spoke) → IsDefinition all → slice_get all.items v ≡ Some s
-        → (h x g : ObjectView) → IsWholeHub all h → IsObject x → IsPairOf all s x h
-        → GoesOver all s x g → g ≡ h }
+        → (h x g : ObjectView) → IsWholeHub all h → IsPairOf all s x h → GoesOver all s x g → g ≡ h }
 {
     given();
 }

@@ -9,7 +9,7 @@ returns c = record {
   stays = λ all v s d p. settles_self c.given.ensures all v s d p;
   one_at_hub = λ all. settles_hub_one c.given.ensures all;
   whole = λ all. settles_hub_whole c.given.ensures all;
-  stays_at_hub = settles_hub_self;
-  left = left_at_spoke;
+  stays_at_hub = λ all. settles_hub_self c.given.ensures all;
+  left = λ all v s d p. left_at_spoke c.given.ensures all v s d p;
   left_at_hub = left_at_hub;
 }
