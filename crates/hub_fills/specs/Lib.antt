@@ -10,3 +10,6 @@ pub mod FillsCode
 pub mod SeenFills
 pub mod FillsFalls
 pub mod Inside
+pub mod LateNames
+pub mod LateLaws
+pub mod UnderLaws

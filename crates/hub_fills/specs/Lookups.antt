@@ -22,3 +22,8 @@ cell_in k (Some l) = cell_at k (cells_in l)
 abbrev pub level_in : Name → Option Level → Option Level
 level_in k None = None
 level_in k (Some l) = level_at k (inners_in l)
+
+-- these names of objects lead to it
+abbrev pub level_under : List Name → Option Level → Option Level
+level_under [] m = m
+level_under (k ∷ ks) m = level_under ks (level_in k m)

@@ -9,6 +9,7 @@
 
 mod fills;
 mod laws;
+mod lookups;
 
 pub use fills::{Deeper, Fills};
-pub use laws::right;
+pub use laws::{none_late, right};
