@@ -6,3 +6,5 @@ pub mod Cells
 pub mod Objects
 pub mod Levels
 pub mod Settled
+pub mod Filling
+pub mod Lacking

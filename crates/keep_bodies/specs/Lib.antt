@@ -5,3 +5,4 @@ pub mod Spots
 pub mod Lookup
 pub mod Turned
 pub mod Held
+pub mod Filling

@@ -1,0 +1,7 @@
+use Rattle.std.proofs.Common.{sym, ◌∙◌, arith}
+use Rattle.keep_bodies.proofs.Lacking.{cells_fill_all}
+use Rattle.keep_bodies.proofs.completing.fill_cells.Goals as goal
+
+pub returns-then-i-values : goal.returns-then-i-values
+returns-then-i-values c =
+    sym (cells_fill_all c.args.cells.now c.args.values.now c.loop-i.i c.loop-i.x (omega (arith, c.if-i-values.true))) ∙ c.loop-i.invariant
