@@ -8,7 +8,7 @@ use Rattle.hub_cells.specs.Level.{Name}
 use Rattle.keep_laws.specs.Spokes.{Spokes}
 use Rattle.keep_laws.specs.Keys.{key_kind}
 use Rattle.keep_laws.specs.Notes.{with_note}
-use Rattle.keep_laws.specs.Settling.{OtherNote, Carries}
+use Rattle.keep_laws.specs.Judging.{OtherNote, Carries}
 use Rattle.keep_laws.specs.Over.{HubIsRead}
 use Rattle.keep_laws.proofs.Texts.{with_last}
 use Rattle.keep_laws.proofs.Carried.{carry_start, carry_step, spoke_bad}

@@ -1,19 +1,16 @@
 -- What was read, and what a fault says of the first annotation.
-use Rattle.std.proofs.Common.{◌≡◌, List, [], ◌∷◌, ◌++◌, true, Option, Some, None, Result, Ok, Err, IfOk, refl, ap, sym, subst, ◌∙◌}
+use Rattle.std.proofs.Common.{◌≡◌, List, true, Option, Some, None, Result, Ok, Err, IfOk, refl, ap, sym, subst, ◌∙◌}
 use Rattle.std.specs.Prelude.{is_some}
 use Rattle.kj_value.specs.Fields.{Pairs, field}
 use Rattle.kube_meta.specs.View.{Texts, MetaView, ObjectView}
 use Rattle.kept_entries.specs.declared.entry.Entry.{Entry}
 use Rattle.kept_entries.specs.Entry.{are_in_order}
 use Rattle.kept_entries.specs.Text.{IsKept}
-use Rattle.hub_cells.specs.Level.{Name, IsFresh}
-use Rattle.hub_cells.specs.Fit.{IsFitted}
-use Rattle.keep_laws.specs.FittedBody.{HasRoom}
-use Rattle.keep_laws.specs.Spokes.{Spoke, Spokes, spoke_names, ShareHub, IsDefinition, api_version}
+use Rattle.hub_cells.specs.Level.{Name}
+use Rattle.keep_laws.specs.Spokes.{Spokes, api_version}
 use Rattle.keep_laws.specs.Keys.{hub_key}
 use Rattle.keep_laws.specs.Notes.{Spells}
 use Rattle.keep_laws.specs.Over.{HubIsRead}
-use Rattle.keep_laws.proofs.Adding.{definition_last}
 use Rattle.keep_laws.proofs.Carried.{hub_bad}
 use Rattle.spoke_keep.specs.declared.fault.KeepFault.{KeepFault}
 use Rattle.spoke_keep.specs.declared.fault.KeepFault.TheVariants.{BadKept, NoMemory}
@@ -54,10 +51,6 @@ hub_fault all n k ns NoMemory q bad = tt
 pub if_ok : {A E : Type 0} (P Q : A → Type 0) (r : Result A E) → ((x : A) → P x → Q x) → IfOk r P → IfOk r Q
 if_ok P Q (Ok x) f h = f x h
 if_ok P Q (Err e) f h = h
-
-pub added : (all inside : Spokes) (s : Spoke) (items : List Spoke) → all ≡ inside → IsDefinition inside → IsFresh s.name (all.hub ∷ spoke_names all.items) → ShareHub s.fit.hub all.items → s.fit.depth ≡ 0 → HasRoom s.fit → IsFitted s.fit → items ≡ inside.items ++ s ∷ [] → IsDefinition (record inside { items = items })
-added all inside s items e d f a b c g h =
-    subst (λ (is : List Spoke). IsDefinition (record inside { items = is })) (sym h) (definition_last inside s d (subst (λ (u : Spokes). IsFresh s.name (u.hub ∷ spoke_names u.items)) e f) (subst (λ (u : Spokes). ShareHub s.fit.hub u.items) e a) b c g)
 
 -- a fact of an object that was made of its parts
 pub made_of : (P : ObjectView → Type 0) (o : ObjectView) (v w kind : Name) (m : MetaView) (b : Pairs) → o ≡ record { api_version = v; kind = kind; meta = m; body = b } → v ≡ w → P (record { api_version = w; kind = kind; meta = m; body = b }) → P o

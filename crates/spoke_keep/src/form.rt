@@ -108,7 +108,7 @@ fn form(alloc: Global, all: &Spokes, s: &Spoke, h: &Object) -> Result<Object, No
 }
 
 // The object of a shape, its kind and its other metadata moved.
-fn formed(alloc: Global, all: &Spokes, s: &Spoke, h: Object) -> Result<Object, NoMemory>
+pub(crate) fn formed(alloc: Global, all: &Spokes, s: &Spoke, h: Object) -> Result<Object, NoMemory>
     requires place { (v : ℕ) × (slice_get all.now.items v ≡ Some s.now) }
     requires whole { IsWholeHub all.now (object_of h) }
     ensures pair { IfOk result (λ x. IsPairOf all.now s.now (object_of x) (object_of h)) }

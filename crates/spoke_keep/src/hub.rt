@@ -25,8 +25,9 @@ use crate::keys::{hub_key, version_text};
 use crate::notes::{kept_at, put_note, write_note};
 use crate::spokes::{Spoke, Spokes};
 use hub_cells::Side;
-use keep_bodies::{KeptBody, convert};
-use keep_laws::object_laws::{given, going_over, settling};
+use hub_fills::Fills;
+use keep_bodies::{KeptBody, complete, convert};
+use keep_laws::object_laws::{given, going_over};
 use kept_entries::{KEPT_LEVELS, Kept};
 use kj_value::{JFields, NoMemory, TextMap};
 use kube_meta::{Object, Shape};
@@ -34,7 +35,8 @@ use std::alloc::Global;
 use std::mem;
 
 /// The object of the hub that a spoke's object, which stands at place `v`, becomes: the whole one that is
-/// paired with what `settle` leaves of it. Its metadata are moved. `BadKept` comes exactly where an annotation
+/// paired with what `settle` leaves of it. A name that isn't there takes its default, that of the hub or else that
+/// of the first spoke that has one, before the entries of other spokes are judged. Its metadata are moved. `BadKept` comes exactly where an annotation
 /// that is read spells no entries.
 pub fn to_hub(alloc: Global, all: &Spokes, v: u8, x: Object) -> Result<Object, KeepFault>
     requires { StandsAt all.now (Some v) (object_of x) }
@@ -49,18 +51,25 @@ pub fn to_hub(alloc: Global, all: &Spokes, v: u8, x: Object) -> Result<Object, K
     going_over();
     let _ = all.items();
     let _ = x.body.len();
-    over(alloc, all, all.at(v), x)
+    over(alloc, all, all.at(v), all.fills_at(v), x)
 }
 
-fn over(alloc: Global, all: &Spokes, s: &Spoke, x: Object) -> Result<Object, KeepFault>
+pub(crate) fn over(
+    alloc: Global,
+    all: &Spokes,
+    s: &Spoke,
+    fills: &Fills,
+    x: Object,
+) -> Result<Object, KeepFault>
     requires place { (v : ℕ) × (slice_get all.now.items v ≡ Some s.now) }
+    requires fills { fills.now ≡ laws.fills_at all.now s.now }
     requires body { IsBodyOf sides.spoke s.now.fit x.body }
     ensures over { IfOk result (λ h. GoesOver all.now s.now (object_of x) (object_of h)) }
     ensures err { IfErr result (IsFaultOf all.now (Some s.now.name) x.meta.annotations) }
 {
     let mut hub = x;
     let annotations = mem::replace(&mut hub.meta.annotations, TextMap::new(alloc));
-    let made = shape_over(alloc, all, s, &hub.body, annotations)?;
+    let made = shape_over(alloc, all, s, fills, &hub.body, annotations)?;
     Ok(reshaped(hub, made))
 }
 
@@ -69,10 +78,12 @@ fn shape_over(
     alloc: Global,
     all: &Spokes,
     s: &Spoke,
+    fills: &Fills,
     body: &JFields,
     annotations: TextMap,
 ) -> Result<Shape, KeepFault>
     requires place { (v : ℕ) × (slice_get all.now.items v ≡ Some s.now) }
+    requires fills { fills.now ≡ laws.fills_at all.now s.now }
     requires body { IsBodyOf sides.spoke s.now.fit body.now }
     ensures over { IfOk result (λ p. ShapesOver all.now s.now body.now annotations p) }
     ensures err { IfErr result (IsFaultOf all.now (Some s.now.name) annotations) }
@@ -83,8 +94,10 @@ fn shape_over(
     let kept = kept_at(alloc, &annotations, hub_key())?;
     let made = convert(alloc, s.fitted(), Side::Spoke, body, &kept)?;
     let KeptBody { fields, kept: left } = made;
-    let notes = carried_over(alloc, all, Some(s), &fields, annotations)?;
-    let shape = shape_with(alloc, all, s, fields, &left, notes)?;
+    let full = complete(alloc, s.fitted(), fills, fields)?;
+    let _ = full.len();
+    let notes = carried_over(alloc, all, Some(s), &full, annotations)?;
+    let shape = shape_with(alloc, all, s, full, &left, notes)?;
     Ok(shape)
 }
 
@@ -115,7 +128,8 @@ fn shape_with(
 }
 
 /// The object of the hub that a settled object of the spoke at place `v` becomes. Its metadata are moved. What its
-/// annotations keep of other spokes isn't asked, since all of it is alive.
+/// annotations keep of other spokes isn't asked, since all of it is alive, and no name is completed, since each that has
+/// a default is there.
 pub fn back_to_hub(alloc: Global, all: &Spokes, v: u8, x: Object) -> Result<Object, NoMemory>
     requires { (s : laws.Spoke) × (slice_get all.now.items v ≡ Some s) × IsSettledAt all.now s (object_of x) }
     ensures { (s : laws.Spoke) → slice_get all.now.items v ≡ Some s
@@ -160,7 +174,6 @@ fn shape_back(
     ensures { IfOk result (λ p. ShapesOver all.now s.now body.now annotations p) }
 {
     given();
-    settling();
     let _ = all.items();
     let _ = body.len();
     let mut notes = annotations;

@@ -1,6 +1,7 @@
 //! The versions of a definition.
 use crate::keys::spoke_key;
 use hub_cells::Fitted;
+use hub_fills::Fills;
 use kj_value::{NoMemory, Txt};
 use std::alloc::Global;
 use std::marker::Model;
@@ -63,12 +64,15 @@ impl Spoke {
 }
 
 /// The versions of a definition: the hub, and the spokes in the definition's order. Its type keeps that the
-/// names differ, and that all rules are fitted from the root on to one schema of the hub.
+/// names differ, that all rules are fitted from the root on to one schema of the hub, that each default is a value
+/// that its side allows, and that none comes too late for some spoke; and for each spoke what the hub's names
+/// become where they aren't there.
 #[derive(Drop)]
 pub struct Spokes {
     group: Txt,
     hub: Txt,
     items: Vec<Spoke>,
+    fills: Vec<Fills>,
 }
 
 impl Model for Spokes {
@@ -81,39 +85,33 @@ impl Model for Spokes {
 
     ghost view = { λ a. record { group = a.group.bytes; hub = a.hub.bytes; items = a.items.items } };
 
-    ghost invariant = { λ a. laws.IsDefinition (record { group = a.group.bytes; hub = a.hub.bytes; items = a.items.items }) };
+    ghost use Rattle.std.specs.Prelude.{◌≡◌, map};
+
+    ghost invariant = { λ a. laws.IsDefinition (record { group = a.group.bytes; hub = a.hub.bytes; items = a.items.items })
+        × (a.fills.items ≡ map (laws.fills_at (record { group = a.group.bytes; hub = a.hub.bytes; items = a.items.items })) a.items.items) };
 }
 
 impl Spokes {
-    ghost use Rattle.std.specs.Prelude.{◌≡◌, ◌<◌, [], ◌∷◌, ◌++◌, length, Some, slice_get, OnOk, OnErr};
-    ghost use Rattle.hub_cells.specs.Level.{IsFresh};
-    ghost use Rattle.keep_laws.specs.FittedBody.{HasRoom};
+    ghost use Rattle.std.specs.Prelude.{◌≡◌, ◌<◌, length, map, Some, slice_get};
     ghost use Rattle.keep_laws.specs.Spokes as laws;
 
-    /// A definition with no spoke yet. It takes no memory.
-    pub fn new(alloc: Global, group: Txt, hub: Txt) -> Spokes
-        ensures { result ≡ record { group = group.bytes; hub = hub.bytes; items = [] } }
+    /// The definition of these spokes, for each of which stands beside it what the hub's names become. It takes no
+    /// memory.
+    pub fn new(group: Txt, hub: Txt, items: Vec<Spoke>, fills: Vec<Fills>) -> Spokes
+        requires definition { laws.IsDefinition (record { group = group.bytes; hub = hub.bytes; items = items.items }) }
+        requires fills { fills.items ≡ map (laws.fills_at (record {
+          group = group.bytes;
+          hub = hub.bytes;
+          items = items.items;
+        })) items.items }
+        ensures { result ≡ record { group = group.bytes; hub = hub.bytes; items = items.items } }
     {
         Spokes {
             group,
             hub,
-            items: Vec::new(alloc),
+            items,
+            fills,
         }
-    }
-
-    /// Adds a spoke behind the others. Its name is new, and its rules are fitted from the root on, to the
-    /// schema of the hub that the others have. After an error the definition is as it was.
-    pub fn add(&mut self, spoke: Spoke) -> Result<(), NoMemory>
-        requires name { IsFresh spoke.name (self.old.hub ∷ laws.spoke_names self.old.items) }
-        requires root { spoke.fit.depth ≡ 0 }
-        requires room { HasRoom spoke.fit }
-        requires hub { laws.ShareHub spoke.fit.hub self.old.items }
-        ensures ok { OnOk result (self.new ≡ record self.old { items = self.old.items ++ spoke ∷ [] }) }
-        ensures err { OnErr result (self.new ≡ self.old) }
-    {
-        let _ = spoke.fitted().cells();
-        self.items.push(spoke)?;
-        Ok(())
     }
 
     /// The definition's group.
@@ -144,5 +142,13 @@ impl Spokes {
         ensures { slice_get self.now.items v ≡ Some result.now }
     {
         &self.items[v as usize]
+    }
+
+    /// What the hub's names become where they aren't there, along the level of the spoke at a place, counted from 0.
+    pub fn fills_at(&self, v: u8) -> &Fills
+        requires { v < length self.now.items }
+        ensures { (s : laws.Spoke) → slice_get self.now.items v ≡ Some s → result.now ≡ laws.fills_at self.now s }
+    {
+        &self.fills[v as usize]
     }
 }

@@ -24,5 +24,5 @@ returns-clause-pair c =
     let x : ObjectView = object_of c.args.x in
     let same = one_at c.args.all.now.items c.args.v c.at.result.now s c.at.ensures e in
     if_ok (λ (h : Object). GoesOver c.args.all.now c.at.result.now x (object_of h)) (λ (h : Object). IsPairOf c.args.all.now s y (object_of h)) c.over.result (
-    λ h g. c.going_over.ensures.pair c.args.all.now c.args.v s c.items.ensures.definition e x y (object_of h) (c.requires.1 s e).0 c.len.ensures.sound (c.requires.1 s e).1 (subst (λ (u : Spoke). GoesOver c.args.all.now u x (object_of h)) same g) t
+    λ h g. c.going_over.ensures.pair c.args.all.now c.args.v s c.items.ensures.definition e x y (object_of h) (subst (λ (u : Spoke). GoesOver c.args.all.now u x (object_of h)) same g) t
     ) c.over.ensures.over
