@@ -1,1 +1,4 @@
 pub mod Under
+pub mod Chosen
+pub mod LateFolds
+pub mod Growing

@@ -1,5 +1,5 @@
 -- A path whose first name isn't there leads nowhere.
-use Rattle.std.proofs.Common.{◌≡◌, ℕ, ◌<◌, ◌+◌, List, ◌∷◌, length, map, get_or, drop, Option, Some, None, ap, sym, ◌∙◌, arith}
+use Rattle.std.proofs.Common.{◌≡◌, ℕ, ◌<◌, ◌+◌, List, ◌∷◌, length, map, get_or, drop, Some, None, ap, sym, ◌∙◌}
 use Rattle.std.proofs.lemmas.List.{drop_more}
 use Rattle.kj_value.specs.Texts.{bytes_of}
 use Rattle.kj_value.specs.declared.txt.Txt.{Txt}

@@ -1,5 +1,5 @@
 -- Where there is no first late name, none is late.
-use Rattle.std.proofs.Common.{◌≡◌, ℕ, List, [], ◌∷◌, ◌++◌, map, Bool, true, false, cond, Option, Some, None, refl, ap, sym, subst, ◌∙◌}
+use Rattle.std.proofs.Common.{◌≡◌, ℕ, List, [], ◌∷◌, ◌++◌, map, Bool, true, false, cond, Option, Some, None, refl, ap, sym, ◌∙◌}
 use Rattle.std.specs.Prelude.{fold, is_some}
 use Rattle.std.proofs.lemmas.Bool.{false≢true}
 use Rattle.struct_schema.specs.Fault.{lesser}
@@ -10,7 +10,7 @@ use Rattle.std.specs.Cmp.Lexicographic.{slice_cmp}
 use Rattle.hub_fills.specs.Lookups.{level_in}
 use Rattle.hub_fills.specs.Late.{is_late, NoneLate, NoLate, NoLateWithin}
 use Rattle.hub_fills.specs.LateNames.{joined, late_cells, late_in, late_within, late_among, first_late}
-use Rattle.hub_fills.specs.Sound.{IfThere, EachLevel}
+use Rattle.hub_fills.specs.Sound.{EachLevel}
 
 lesser_some : (m n : List ℕ) → is_some (lesser (Some m) n) ≡ true
 lesser_some m n = by_test (is_lt (slice_cmp nat_cmp n m))

@@ -13,3 +13,4 @@ pub mod Inside
 pub mod LateNames
 pub mod LateLaws
 pub mod UnderLaws
+pub mod EachFit

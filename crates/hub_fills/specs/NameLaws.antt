@@ -1,10 +1,10 @@
 -- A name of a level finds the cell or the object that has it, and no other.
-use Rattle.std.proofs.Common.{◌≡◌, List, [], ◌∷◌, ◌++◌, Bool, true, false, ◌||◌, cond, ◌⊎◌, inl, inr, Option, Some, None, refl, ap, sym, subst, ◌∙◌}
+use Rattle.std.proofs.Common.{◌≡◌, List, [], ◌∷◌, ◌++◌, Bool, true, false, ◌||◌, cond, ◌⊎◌, inl, inr, Some, refl, ap, sym, subst, ◌∙◌}
 use Rattle.std.specs.Str.{bytes_eq}
 use Rattle.std.proofs.lemmas.Bool.{false≢true}
 use Rattle.std.proofs.lemmas.Slice.Eq.{bytes_eq-Decides}
 use Rattle.hub_cells.specs.Side.{hub}
-use Rattle.hub_cells.specs.Level.{Name, Cell, names, Level, level, Inners, no_inner, inner, cells_names, inner_names, IsFresh, AreDistinct}
+use Rattle.hub_cells.specs.Level.{Name, Cell, names, Level, Inners, no_inner, inner, cells_names, inner_names, IsFresh, AreDistinct}
 use Rattle.hub_cells.specs.Fit.{has_name}
 use Rattle.hub_fills.specs.Lookups.{cell_at, level_at}
 

@@ -1,5 +1,5 @@
 -- What is so of defaults, and of what a level's names become.
-use Rattle.std.specs.Prelude.{◌≡◌, ℕ, List, [], ◌∷◌, true, Option, None, Some, is_some, IfSome}
+use Rattle.std.specs.Prelude.{◌≡◌, ℕ, List, [], ◌∷◌, true, Option, Some, is_some, IfSome}
 use Rattle.kj_value.specs.Json.{Json}
 use Rattle.struct_schema.specs.Shape.{own}
 use Rattle.hub_cells.specs.Side.{Side, hub}

@@ -10,13 +10,13 @@ use Rattle.struct_schema.specs.Names.{property}
 use Rattle.struct_schema.specs.Fault.{or_else}
 use Rattle.hub_cells.specs.Side.{Side, spoke, hub}
 use Rattle.hub_cells.specs.Cell.{Kind, same, spoke_only, hub_only, split, table, scale, Tuple, one}
-use Rattle.hub_cells.specs.Cross.{matched, shown}
-use Rattle.hub_cells.specs.Level.{Name, Place, Cell, places, names, allowed_at, all_allowed, allows, some_there, have_default, may_default, can_default, has_one_name, is_one, MatchAllowed, MatchThere, CellFits, CellsFit, Level, level, cells_in, Inners, no_inner, inner, inners_in, Fits, InnersFit, NoNameTwice, NoneTwice, AreDistinct, cells_names, inner_names}
+use Rattle.hub_cells.specs.Cross.{matched}
+use Rattle.hub_cells.specs.Level.{Name, Place, Cell, places, names, allowed_at, all_allowed, allows, some_there, have_default, may_default, can_default, has_one_name, is_one, MatchAllowed, MatchThere, CellFits, CellsFit, Level, level, cells_in, Inners, no_inner, inner, inners_in, InnersFit, NoneTwice, AreDistinct, inner_names}
 use Rattle.hub_cells.specs.Fit.{has_name, IsPlaceOf, ArePlacesOf, CellsStand, Stands, InnersStand}
 use Rattle.hub_fills.specs.Lookups.{cell_at, level_at, cell_in, level_in}
-use Rattle.hub_fills.specs.Fills.{Fills, fills, Within, within, default_of, one_value, value_in, match_of, hub_default, spoke_default, cell_default, default_from, first_default, fill_of, fills_of, fills_within}
+use Rattle.hub_fills.specs.Fills.{default_of, one_value, value_in, match_of, hub_default, spoke_default, cell_default, default_from, first_default, fill_of, fills_of, fills_within}
 use Rattle.hub_fills.specs.Late.{is_plain, pairs_plainly, all_pair, is_one_sided, is_late_at, is_late, NoneLate, NoLate, NoLateWithin}
-use Rattle.hub_fills.specs.Right.{DefaultsAllowed, CellsAllow, AllowDefaults, AllowWithin, IsRight, AreRight, RightFills, RightWithin}
+use Rattle.hub_fills.specs.Right.{DefaultsAllowed, CellsAllow, AllowWithin, IsRight, AreRight, RightFills, RightWithin}
 use Rattle.hub_fills.specs.Sound.{IsAmong, IfThere, EachLevel, AreAmong, HasLevel}
 use Rattle.hub_fills.specs.NameLaws.{same_name, one_name, has_cases, HasCell, cell_found, HasInner, level_found, distinct_inner}
 

@@ -7,9 +7,13 @@
 //! It knows nothing of objects, of annotations, nor of the document that rules stand in.
 #![tactic(auto)]
 
+mod choosing;
 mod fills;
+mod lateness;
 mod laws;
 mod lookups;
 
+pub use choosing::fills_of;
 pub use fills::{Deeper, Fills};
+pub use lateness::late;
 pub use laws::{none_late, right};
