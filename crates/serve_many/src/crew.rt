@@ -15,11 +15,10 @@ use api_calls::{Tools, Versions};
 use migrate_workers::{Gate, WorkEnd, work};
 use shared_api::{Pass, SharedApi};
 use std::alloc::Global;
-use std::sync::atomic::{AtomicBool, Ordering};
-use std::sync::{Arc, Wait};
+use std::sync::Wait;
 use std::thread::{Scope, Threads};
 use std::time;
-use thread_jobs::{Runner, Running, begin, two_flags};
+use thread_jobs::{Flag, Runner, Running, begin, two_flags};
 
 /// So many turns a worker without a thread has after each connection.
 pub const TURNS_BETWEEN: u64 = 64;
@@ -87,13 +86,13 @@ impl<V: Versions + Drop, G: Gate + Drop> Runner<Shift<G, Pass<V>>, Pass<V>> for 
 #[derive(Drop)]
 pub struct Hired<V: Versions + Drop, G: Gate + Drop> {
     pub running: Running<SharedApi<V>, Shift<G, Pass<V>>, Pass<V>>,
-    open: Arc<AtomicBool, Global>,
+    shut: Flag,
 }
 
 impl<V: Versions + Drop, G: Gate + Drop> Hired<V, G> {
     // The gate says no from now on.
     fn close(&self) {
-        self.open.store(false, Ordering::SeqCst);
+        self.shut.raise();
     }
 }
 
@@ -112,7 +111,7 @@ fn start_work<
     scope: &'s Scope<'s, E>,
     api: &'s SharedApi<V>,
     shift: Shift<RestingGate<'s, R>, Pass<V>>,
-    open: Arc<AtomicBool, Global>,
+    shut: Flag,
 ) -> Result<HiredHere<'s, V, R>, Pass<V>>
 where
     V::Tool: Send + 's,
@@ -120,8 +119,8 @@ where
     ensures begun { IfOk result (λ h. h.running.handle.promise.job.value ≡ shift.entry) }
     ensures done { IfErr result (λ r. Retires V.meaning shift.entry.pass r) }
 {
-    match begin(rt, alloc, scope, api, shift, Some(&open)) {
-        Ok(running) => Ok(Hired { running, open }),
+    match begin(rt, alloc, scope, api, shift, Some(&shut)) {
+        Ok(running) => Ok(Hired { running, shut }),
         Err(pass) => Err(pass),
     }
 }
@@ -154,7 +153,7 @@ where
         → Going (IsAnswered V.Tool.faults (front_of V.meaning api.now.base told)) n v0 h0 g0 (map (λ h. h.running.handle.promise.job.value.pass.view) crew.old.items) jobs pass.old.view count handed given
         → Going (IsAnswered V.Tool.faults (front_of V.meaning api.now.base told)) n v0 h0 g0 (map (λ h. h.running.handle.promise.job.value.pass.view) crew.new.items) jobs pass.new.view count handed given }
 {
-    let Ok((open, theirs)) = two_flags(alloc, true) else {
+    let Ok((shut, theirs)) = two_flags(alloc) else {
         return false;
     };
     let Some(own) = make_pass(rt, alloc, api, pass, tools) else {
@@ -164,11 +163,11 @@ where
         pass: own,
         gate: RestingGate {
             system: rt,
-            open: theirs,
+            shut: theirs,
             pause: PAUSE_MILLIS,
         },
     };
-    match start_work(rt, alloc, scope, api, shift, open) {
+    match start_work(rt, alloc, scope, api, shift, shut) {
         Ok(hired) => {
             crew.push_reserved(hired);
             true

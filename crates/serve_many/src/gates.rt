@@ -3,11 +3,10 @@ ghost use Rattle.std.specs.Prelude.{[], false};
 
 use migrate_workers::Gate;
 use shared_api::TurnStep;
-use std::alloc::Global;
-use std::sync::atomic::{AtomicBool, Ordering};
-use std::sync::{Arc, Wait};
+use std::sync::Wait;
 use std::thread;
 use std::time::{Clock, Duration};
+use thread_jobs::Flag;
 
 /// So many milliseconds a worker rests at first where it finds nothing to do.
 pub const PAUSE_MILLIS: u64 = 2;
@@ -15,12 +14,12 @@ pub const PAUSE_MILLIS: u64 = 2;
 /// So many milliseconds it rests at most, where it found nothing to do many times.
 pub const MOST_PAUSE_MILLIS: u64 = 100;
 
-/// A gate that says yes while it is open, and rests before the turn after one that found nothing to do, twice as long each
+/// A gate that says yes until its flag is raised, and rests before the turn after one that found nothing to do, twice as long each
 /// time. Its parameter has no bound, so that it may be sent.
 #[derive(Drop)]
 pub struct RestingGate<'s, T> {
     pub system: &'s T,
-    pub open: Arc<AtomicBool, Global>,
+    pub shut: Flag,
     /// So many milliseconds the next rest takes.
     pub pause: u64,
 }
@@ -33,11 +32,11 @@ impl<'s, T: Clock> Gate for RestingGate<'s, T> {
     fn go_on<R: Wait>(&mut self, _rt: &R, last: TurnStep) -> bool {
         if last != TurnStep::Idle {
             self.pause = PAUSE_MILLIS;
-        } else if self.open.load(Ordering::SeqCst) {
+        } else if self.shut.raised().is_none() {
             thread::sleep(self.system, Duration::from_millis(self.pause));
             self.pause = self.pause.saturating_mul(2).min(MOST_PAUSE_MILLIS);
         }
-        self.open.load(Ordering::SeqCst)
+        self.shut.raised().is_none()
     }
 }
 

@@ -138,7 +138,7 @@ fn reap_at<V: Versions + Drop, A: Ears, C: Clock, R: Threads>(
         → Going (IsAnswered V.Tool.faults (front_of V.meaning api.now.base (C.told clock.now))) n v0 h0 g0 crew (map (λ h. (h.handle.promise.job.value.pass.view, A.In.origin h.handle.promise.job.value.input)) running.old.items) pass.old.view count handed (A.returned ears.old)
         → Going (IsAnswered V.Tool.faults (front_of V.meaning api.now.base (C.told clock.now))) n v0 h0 g0 crew (map (λ h. (h.handle.promise.job.value.pass.view, A.In.origin h.handle.promise.job.value.input)) running.new.items) pass.new.view count handed (A.returned ears.new) }
 {
-    if !running[at].is_over() {
+    if running[at].is_over().is_none() {
         return false;
     }
     let link = running.remove(at);

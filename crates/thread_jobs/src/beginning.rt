@@ -1,17 +1,16 @@
 //! The beginning of a job.
 ghost use Rattle.std.specs.Prelude.{◌≡◌, IfErr, IfOk};
 
-use crate::flags::{shut, two_flags};
+use crate::flags::{Flag, raise, two_flags};
 use crate::running::{JobDone, Runner, Running};
 use std::alloc::Global;
 use std::marker::PhantomData;
 use std::snapshot::Snapshot;
 use std::sync::Wait;
-use std::sync::atomic::{AtomicBool, Ordering};
 use std::thread::{Scope, Threads};
 
 /// Does the job in a thread of the scope, whose handle promises what comes of this job. Where no thread or no memory can
-/// be had, it shuts the gate, if there is one, does the job here, and answers what came of it as the `Err`.
+/// be had, it raises the flag that shuts the job's gate, if there is one, does the job here, and answers what came of it as the `Err`.
 pub fn begin<
     's,
     E,
@@ -25,14 +24,14 @@ pub fn begin<
     scope: &'s Scope<'s, E>,
     runner: &'s W,
     job: J,
-    gate: Option<&AtomicBool>,
+    shut: Option<&Flag>,
 ) -> Result<Running<W, J, D>, D>
     requires ready { W.ready runner.now job }
     ensures begun { IfOk result (λ h. h.handle.promise.job.value ≡ job) }
     ensures done { IfErr result (λ r. W.done job r) }
 {
-    let Ok((over, theirs)) = two_flags(alloc, false) else {
-        shut(gate);
+    let Ok((over, theirs)) = two_flags(alloc) else {
+        raise(shut);
         return Err(runner.run(rt, job));
     };
     let promise = JobDone {
@@ -44,13 +43,13 @@ pub fn begin<
         ensures { W.done job result }
     {
         let done = runner.run(rt, job);
-        theirs.store(true, Ordering::SeqCst);
+        theirs.raise();
         done
     };
     match scope.spawn_with(promise, work) {
         Ok(handle) => Ok(Running { handle, over }),
         Err(refused) => {
-            shut(gate);
+            raise(shut);
             Err((refused.value)())
         }
     }

@@ -9,5 +9,5 @@ mod flags;
 mod running;
 
 pub use beginning::begin;
-pub use flags::two_flags;
+pub use flags::{Flag, Raised, two_flags};
 pub use running::{JobDone, Runner, Running};

@@ -1,11 +1,10 @@
 //! A job that a thread does.
-ghost use Rattle.std.specs.Prelude.{◌≡◌};
+ghost use Rattle.std.specs.Prelude.{◌≡◌, IfSome};
 
-use std::alloc::Global;
+use crate::flags::{Flag, Raised};
 use std::marker::PhantomData;
 use std::snapshot::Snapshot;
-use std::sync::atomic::{AtomicBool, Ordering};
-use std::sync::{Arc, Wait};
+use std::sync::Wait;
 use std::thread::{Promise, PromisedHandle, Threads};
 
 /// What does jobs, in any thread.
@@ -37,13 +36,16 @@ impl<J, D, W: Runner<J, D>> Promise<D> for JobDone<W, J, D> {
 #[derive(Drop)]
 pub struct Running<W: Runner<J, D>, J, D> {
     pub handle: PromisedHandle<D, JobDone<W, J, D>>,
-    pub(crate) over: Arc<AtomicBool, Global>,
+    pub over: Flag,
 }
 
 impl<J, D, W: Runner<J, D>> Running<W, J, D> {
-    /// Whether the job was done. Its thread ends then, so that joining it doesn't wait for the job.
-    pub fn is_over(&self) -> bool {
-        self.over.load(Ordering::SeqCst)
+    /// Shows that the job was done, if it is over: its own flag is up. Its thread ends then, so that joining it doesn't wait for the
+    /// job.
+    pub fn is_over(&self) -> Option<Raised<'_>>
+        ensures { IfSome result (λ r. r ≡ self.now.over) }
+    {
+        self.over.raised()
     }
 
     /// Waits for the job's end, and answers what came of it.
