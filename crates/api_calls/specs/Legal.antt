@@ -8,7 +8,7 @@ use Rattle.api_calls.specs.declared.flags.Flags.{Flags}
 use Rattle.api_calls.specs.Meaning.{Meaning, Weighs}
 use Rattle.api_calls.specs.Versions.{AreFlags}
 use Rattle.api_calls.specs.Item.{Entry, Create, Replace, Mark, Release, Touch, Delete, SetVersions, Trim, StartMigration, MarkSucceeded, Note, Claim, RangeDone, GiveBack, Item, entry, note, Logged, items, items_of}
-use Rattle.api_calls.specs.Objects.{Stored, find, elsewhere}
+use Rattle.api_calls.specs.Objects.{Stored, find, elsewhere, marked}
 use Rattle.api_calls.specs.State.{State, has, opening, effect, number_after}
 use Rattle.api_calls.specs.Room.{lacking, lacking_chunks, lacking_migrations}
 
@@ -76,10 +76,12 @@ pub record MayReplace (m : Meaning) (limits : Limits) (k : KeyView) (over : ℕ)
   pub changes : IsTrue m.honest → h ≡ stands.old.h → stands.old.at ≢ s.flags.storage
   pub room : lacking_chunks limits s.objects stands.old.weight w ≡ None
 
-pub record MayMark (m : Meaning) (k : KeyView) (over : ℕ) (s : State) : Type 0 where
+pub record MayMark (m : Meaning) (k : KeyView) (over : ℕ) (stamp : List ℕ) (s : State) : Type 0 where
   pub stands : HasNumber k over s
   pub held : IsTrue m.honest → HasFinalizer stands.old.h
   pub unmarked : IsTrue m.honest → stands.old.h.meta.deleted ≡ None
+  -- the value with the stamp may be stored under the key, with the weight that it had: so the stamp is one that a value may have
+  pub value : IsTrue m.honest → IsValue m k (marked stamp stands.old.h) stands.old.weight
 
 pub record MayRelease (m : Meaning) (k : KeyView) (over : ℕ) (s : State) : Type 0 where
   pub stands : HasNumber k over s
@@ -135,7 +137,7 @@ pub record MaySucceed (s : State) : Type 0 where
 abbrev pub entry_guard : Meaning → Limits → State → Entry → Type 0
 entry_guard m limits s (Create k h w) = MayCreate m limits k h w s
 entry_guard m limits s (Replace k over h w) = MayReplace m limits k over h w s
-entry_guard m limits s (Mark k over stamp) = MayMark m k over s
+entry_guard m limits s (Mark k over stamp) = MayMark m k over stamp s
 entry_guard m limits s (Release k over) = MayRelease m k over s
 entry_guard m limits s (Touch k c) = MayTouch k c s
 entry_guard m limits s (Delete k) = MayDelete m k s

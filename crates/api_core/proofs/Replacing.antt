@@ -16,7 +16,7 @@ use Rattle.api_calls.specs.Item.{Item, entry, Replace, Mark}
 use Rattle.api_calls.specs.Objects.{Stored, find, marked, marked_at, born_or}
 use Rattle.api_calls.specs.State.{served, next_number, revision, state}
 use Rattle.api_calls.specs.Room.{lacking_chunks}
-use Rattle.api_calls.specs.Legal.{MayReplace, MayMark}
+use Rattle.api_calls.specs.Legal.{IsValue, MayReplace, MayMark}
 use Rattle.api_calls.specs.GrowthLaws.{next_number-revision}
 use Rattle.api_calls.specs.Ends.{WriteEnd, done, kept, unserved, gone, newer, storage_moved, full, Decision, says, enters, EndsAsDecided, bound}
 use Rattle.api_calls.specs.Writes.{replace_commit, mark_commit, with_room, if_storage, at_number}
@@ -230,10 +230,13 @@ module _ (m : Meaning) (c : CoreView) (log : List Item) (stands : Stands m c log
   mark_puts p over h stamp r a prepares known same weight =
       let storage : p.at ≡ (state m log).flags.storage = same ∙ ap (λ f. f.storage) stands.present.flags in
       let key : a.object.key ≡ p.key = find-key p.key (state m log).objects a.object a.there in
-      let may : MayMark m p.key over (state m log) = record {
+      let may : MayMark m p.key over stamp (state m log) = record {
         stands = record { old = a.object; there = a.there; at_number = a.at_number };
         held = λ honest. (known a.object a.there a.at_number honest).0;
         unmarked = λ honest. (known a.object a.there a.at_number honest).1;
+        value = λ honest.
+            subst (λ (g : ObjectView). IsValue m p.key g a.object.weight) (known a.object a.there a.at_number honest).2
+            (subst (λ (w : ℕ). IsValue m p.key h w) (weight ∙ a.keeps.weight) (prepares.value honest));
       } in
       let object : Stored = marked_at (next_number log) (state m log).flags.storage stamp a.object in
       let text : IsText m p.at (marked stamp a.object.h) p.bytes.bytes = record {

@@ -1,5 +1,6 @@
 -- The premises of the laws are met by a history of two creates: it is legal, whatever its values are, where nothing is known of what they mean.
-use Rattle.std.proofs.Common.{◌≡◌, refl, ℕ, false, IsTrue, List, [], ◌∷◌, ◌++◌, None, Some, codes}
+use Rattle.std.proofs.Common.{◌≡◌, refl, ℕ, true, false, IsTrue, List, [], ◌∷◌, ◌++◌, None, Some, codes}
+use Rattle.kube_meta.specs.View.{ObjectView}
 use Rattle.kube_meta.specs.Page.{listed}
 use Rattle.api_calls.specs.Item.{Create, Item, entry}
 use Rattle.api_calls.specs.Laws.{KeepsStorage}
@@ -10,7 +11,6 @@ use Rattle.api_calls.specs.Snap.{snap}
 use Rattle.api_calls.specs.State.{state}
 use Rattle.api_calls.proofs.ExampleServer.{example, fresh, key, standing, v1beta1}
 use Rattle.list_laws.specs.Keys.{IsAbsentOrAt}
-use Rattle.list_laws.specs.Stamps.{IsMarkedByStamp}
 
 module _ (other : Meaning) where
   -- a definition of which it isn't known what its values mean
@@ -42,8 +42,6 @@ module _ (other : Meaning) where
   absent : IsAbsentOrAt v1beta1 (key (codes "b")) (state unknown (a ∷ []))
   absent = tt
 
-  marked_by_stamps : Each IsMarkedByStamp (a ∷ b ∷ [])
-  marked_by_stamps = (tt, (tt, tt))
 
   abbrev object : List ℕ → ℕ → Stored
   object name number = record { key = key name; h = fresh name; number = number; at = v1beta1; born = number; weight = 1 }

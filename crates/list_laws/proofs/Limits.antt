@@ -1,12 +1,12 @@
 -- How many objects and migrations a legal list has.
-use Rattle.std.proofs.Common.{◌≡◌, refl, ap, ℕ, ◌+◌, ◌-◌, ◌<◌, ◌≤◌, Bool, true, false, nat_eq, nat_lt, List, [], ◌∷◌, ◌++◌, length, None, Some, arith}
+use Rattle.std.proofs.Common.{◌≡◌, ◌∙◌, refl, sym, ap, ℕ, ◌+◌, ◌-◌, ◌<◌, ◌≤◌, Bool, true, false, nat_eq, nat_lt, List, [], ◌∷◌, ◌++◌, length, Option, None, Some, arith}
 use Rattle.std.specs.Prelude.{if◌then◌else◌}
 use Rattle.std.specs.Ordering.{match_ordering}
 use Rattle.std.specs.declared.cmp.Ordering.{Ordering}
 use Rattle.std.specs.declared.cmp.Ordering.TheVariants.{Less, Equal, Greater}
 use Rattle.std.proofs.lemmas.Bool.Decides.{nat_tests}
 use Rattle.kube_meta.specs.Key.{KeyView, key_cmp}
-use Rattle.kube_meta.specs.Plan.{Migration, ended}
+use Rattle.kube_meta.specs.Plan.{Migration, ended, runs}
 use Rattle.kube_meta.specs.declared.limits.Condition.{Condition}
 use Rattle.kube_meta.specs.declared.limits.Condition.TheVariants.{Running, Succeeded, Failed}
 use Rattle.kube_meta.specs.declared.limits.Limits.{Limits}
@@ -16,7 +16,7 @@ use Rattle.api_calls.specs.Item.{Create, Replace, Mark, Release, Touch, Delete, 
 use Rattle.api_calls.specs.Legal.{guard, legal, legal_from}
 use Rattle.api_calls.specs.Meaning.{Meaning}
 use Rattle.api_calls.specs.Objects.{Stored, find, live, marked_at, moved, put, updated, without, born_or}
-use Rattle.api_calls.specs.Room.{lacking_migrations}
+use Rattle.api_calls.specs.Room.{lacking, lacking_chunks, lacking_migrations}
 use Rattle.api_calls.specs.State.{State, effect, moved_storage, number_after, opening, state, state_from, target_of}
 
 pub record IsWithin (limits : Limits) (s : State) : Type 0 where

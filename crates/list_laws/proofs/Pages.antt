@@ -1,13 +1,13 @@
 -- What stands behind a key in a rising list.
-use Rattle.std.proofs.Common.{◌≡◌, ◌∙◌, refl, sym, ap, subst, ℕ, ◌+◌, Bool, true, false, not, List, [], ◌∷◌, ◌++◌, Option, None, Some, nat_lt}
+use Rattle.std.proofs.Common.{◌≡◌, ◌∙◌, refl, sym, ap, subst, ℕ, ◌+◌, Bool, true, false, not, List, [], ◌∷◌, ◌++◌, Option, None, Some, nat_lt, arith}
 use Rattle.std.specs.Prelude.{◌&&◌, filter, cond, if◌then◌else◌}
 use Rattle.std.specs.Ordering.{is_gt}
 use Rattle.std.specs.declared.cmp.Ordering.{Ordering}
 use Rattle.std.specs.declared.cmp.Ordering.TheVariants.{Less, Equal, Greater}
-use Rattle.std.proofs.lemmas.Bool.{and_parts, and_right, cond-false}
+use Rattle.std.proofs.lemmas.Bool.{and_parts, and_right, cond-true, cond-false, not-true}
 use Rattle.kube_meta.specs.Key.{KeyView, key_cmp}
 use Rattle.kube_meta.specs.Page.{bound_after, in_namespace, listed, page_of}
-use Rattle.kube_meta.specs.Plan.{passed}
+use Rattle.kube_meta.specs.Plan.{After, passed}
 use Rattle.kube_meta.specs.declared.limits.Limits.{Limits}
 use Rattle.api_calls.specs.GrowthLaws.{legal-front}
 use Rattle.api_calls.specs.Item.{Item, entry, note}

@@ -15,9 +15,7 @@ ghost use Rattle.api_calls.specs.Objects.{Stored, live, object_key};
 ghost use Rattle.api_calls.specs.Snap.{page_at, snap, upto};
 ghost use Rattle.api_calls.specs.State.{state};
 ghost use Rattle.list_laws.specs.Keys.{IsAbsentOrAt};
-ghost use Rattle.list_laws.specs.Stamps.{IsMarkedByStamp};
 
-use api_calls::Versions;
 use api_calls::laws::Means;
 
 /// Of objects by rising key, those of a namespace behind the key of one of them are what is left behind it.
@@ -55,11 +53,10 @@ pub fn stays_at_storage<V: Means>()
         × IsAbsentOrAt (state (V.meaning it) before).flags.storage k (state (V.meaning it) (before ++ after)) }
 {}
 
-/// The value of each object is whole, now and at each number, where it is known what values mean and each mark was by a stamp. A
-/// legal list alone doesn't say so, since no guard looks at what a mark is by.
-pub fn objects_are_whole<V: Versions>()
-    ensures now { (it : V) (limits : Limits) (log : List Item) → IsTrue V.HONEST → legal (V.meaning it) limits log → Each IsMarkedByStamp log
+/// The value of each object is whole, now and at each number, where it is known what values mean.
+pub fn objects_are_whole<V: Means>()
+    ensures now { (it : V) (limits : Limits) (log : List Item) → IsTrue (V.meaning it).honest → legal (V.meaning it) limits log
         → Each (λ e. (V.meaning it).whole e.h) (state (V.meaning it) log).objects }
-    ensures at { (it : V) (limits : Limits) (log : List Item) (r : ℕ) → IsTrue V.HONEST → legal (V.meaning it) limits log → Each IsMarkedByStamp log
+    ensures at { (it : V) (limits : Limits) (log : List Item) (r : ℕ) → IsTrue (V.meaning it).honest → legal (V.meaning it) limits log
         → Each (λ e. (V.meaning it).whole e.h) (snap (V.meaning it) log r) }
 {}
