@@ -121,6 +121,11 @@ pub record Stand (m : Meaning) : Type 0 where
   pub whole : (h : ObjectView) → m.whole h → StandsAt m m.hub h
   pub pair : (v : ℕ) (h x : ObjectView) → v < m.count → m.whole h → m.pair v h x → StandsAt m v x
 
+-- the form of a hub value has its key
+pub record KeepsKey (m : Meaning) : Type 0 where
+  pub name : (v : ℕ) (h x : ObjectView) → v < m.count → m.whole h → m.pair v h x → x.meta.name ≡ h.meta.name
+  pub namespace : (v : ℕ) (h x : ObjectView) → v < m.count → m.whole h → m.pair v h x → x.meta.namespace ≡ h.meta.namespace
+
 -- the form of a hub value has its finalizers
 pub record KeepsFinalizers (m : Meaning) : Type 0 where
   pub same : (v : ℕ) (h x : ObjectView) → v < m.count → m.whole h → m.pair v h x → x.meta.finalizers ≡ h.meta.finalizers

@@ -6,7 +6,7 @@ ghost use Rattle.kube_meta.specs.Names.{is_namespace};
 ghost use Rattle.kube_meta.specs.Shapes.{shaped};
 ghost use Rattle.kube_meta.specs.View.{ObjectView, object_of};
 ghost use Rattle.api_calls.specs.Meaning.{Meaning, Weighs, stamped, stored_text};
-ghost use Rattle.api_calls.specs.Versions.{AdmitsWhole, AreFlags, DecidesAdmission, DecidesBodies, IgnoresStamps, IsOneToOne, IsRequest, IsStored, IsStoredList, KeepsFinalizers, NamesDiffer, Refused, RefusesOnce, RefusesUnread, Stand, StandsAt, request_of, versions_of};
+ghost use Rattle.api_calls.specs.Versions.{AdmitsWhole, AreFlags, DecidesAdmission, DecidesBodies, IgnoresStamps, IsOneToOne, IsRequest, IsStored, IsStoredList, KeepsFinalizers, KeepsKey, NamesDiffer, Refused, RefusesOnce, RefusesUnread, Stand, StandsAt, request_of, versions_of};
 ghost use Rattle.api_calls.specs.declared.flags.Flags.{Flags};
 ghost use Rattle.object_reading.specs.Refusal.{refusal};
 
@@ -251,6 +251,9 @@ pub trait Versions {
 
     /// The form at each version is a one-to-one function on whole hub values.
     ghost one_to_one: { (it : Self) → IsTrue HONEST → IsOneToOne (meaning it) };
+
+    /// The form of a hub value has its key.
+    ghost same_key: { (it : Self) → IsTrue HONEST → KeepsKey (meaning it) };
 
     /// The form of a hub value has its finalizers.
     ghost finalizers: { (it : Self) → IsTrue HONEST → KeepsFinalizers (meaning it) };

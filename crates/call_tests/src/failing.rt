@@ -41,6 +41,8 @@ impl<V: Versions<Tool = NoTool> + Drop> Versions for Failing<V> {
 
     ghost one_to_one = { λ it honest. V.one_to_one it.inner honest };
 
+    ghost same_key = { λ it honest. V.same_key it.inner honest };
+
     ghost finalizers = { λ it honest. V.finalizers it.inner honest };
 
     ghost admitted = { λ it. V.admitted it.inner };

@@ -4,7 +4,7 @@ use Rattle.std.proofs.Math.Logic.{∥∥₁_elim}
 use Rattle.std.specs.Coded.{×_prop, le_prop}
 use Rattle.kube_meta.specs.View.{ObjectView}
 use Rattle.api_calls.specs.Meaning.{Request, Weighs}
-use Rattle.api_calls.specs.Versions.{AreFlags, StandsAt, Stand, IgnoresStamps, IsOneToOne, KeepsFinalizers, NamesDiffer, IsAdmitted, AdmitsWhole, DecidesAdmission, RefusesOnce, RefusesUnread}
+use Rattle.api_calls.specs.Versions.{AreFlags, StandsAt, Stand, IgnoresStamps, IsOneToOne, KeepsFinalizers, KeepsKey, NamesDiffer, IsAdmitted, AdmitsWhole, DecidesAdmission, RefusesOnce, RefusesUnread}
 use Rattle.crd_reading.specs.Accepted.{AreOffered}
 use Rattle.keep_laws.specs.Given.{OneList}
 use Rattle.crd_meaning.specs.Definition.{Definition, count_of, opening_of, IsLoaded}
@@ -50,6 +50,12 @@ module _ (d : Definition) (o : Settings) where
 
   pub names : AreOffered d.view.versions → NamesDiffer (loaded_meaning d o)
   names offered = record { differ = names_apart d offered }
+
+  pub same_key : KeepsKey (loaded_meaning d o)
+  same_key = record {
+    name = λ v h x known w p. (places.same_key o d).name v h x known w.1 p;
+    namespace = λ v h x known w p. (places.same_key o d).namespace v h x known w.1 p;
+  }
 
   pub finalizers : KeepsFinalizers (loaded_meaning d o)
   finalizers = record { same = λ v h x known w p. (places.finalizers o d).same v h x known w.1 p }

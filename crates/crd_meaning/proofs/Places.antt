@@ -7,7 +7,7 @@ use Rattle.kj_value.specs.Fields.{AreInOrder}
 use Rattle.kube_meta.specs.View.{MetaView, ObjectView}
 use Rattle.object_reading.specs.Keeping.{KeepsRules}
 use Rattle.api_calls.specs.Meaning.{stamped}
-use Rattle.api_calls.specs.Versions.{AreStamps, StandsAt, Stand, KeepsFinalizers, IgnoresStamps}
+use Rattle.api_calls.specs.Versions.{AreStamps, StandsAt, Stand, KeepsFinalizers, KeepsKey, IgnoresStamps}
 use Rattle.struct_schema.specs.Shape.{Shape}
 use Rattle.api_calls.specs.declared.versions.TheConstants.{OBJECT_LEVELS}
 use Rattle.hub_cells.specs.Side.{spoke, hub}
@@ -96,7 +96,23 @@ module _ (given : Given) (o : Settings) (d : Definition) (loaded : IsLoaded d) w
     pair = λ v h x known w p. form_stands v h x known w (seat d v) refl (loaded.seats v known) p;
   }
 
--- ---- finalizers
+-- ---- the key, and finalizers
+
+same_name : (d : Definition) (z : Seat) (h x : ObjectView) → PairsAt d.spokes z h x → x.meta.name ≡ h.meta.name
+same_name d at_hub h x p = ap (λ (w : ObjectView). w.meta.name) p
+same_name d (at_spoke s) h x p = ap (λ (m : MetaView). m.name) p.1.meta
+same_name d nowhere h x p = absurd p
+
+same_namespace : (d : Definition) (z : Seat) (h x : ObjectView) → PairsAt d.spokes z h x → x.meta.namespace ≡ h.meta.namespace
+same_namespace d at_hub h x p = ap (λ (w : ObjectView). w.meta.namespace) p
+same_namespace d (at_spoke s) h x p = ap (λ (m : MetaView). m.namespace) p.1.meta
+same_namespace d nowhere h x p = absurd p
+
+pub same_key : (o : Settings) (d : Definition) → KeepsKey (meaning_of d o)
+same_key o d = record {
+  name = λ v h x known w p. same_name d (seat d v) h x p;
+  namespace = λ v h x known w p. same_namespace d (seat d v) h x p;
+}
 
 same_finalizers : (d : Definition) (z : Seat) (h x : ObjectView) → PairsAt d.spokes z h x → x.meta.finalizers ≡ h.meta.finalizers
 same_finalizers d at_hub h x p = ap (λ (w : ObjectView). w.meta.finalizers) p

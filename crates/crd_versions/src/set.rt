@@ -74,7 +74,7 @@ impl Versions for VersionSet {
     ghost use Rattle.crd_settings.specs.SettledLaws.{settings_of};
     ghost use Rattle.crd_settings.specs.Decided.{decides_flags, decides_keep};
     ghost use Rattle.crd_laws.specs.Loaded.{loaded_meaning};
-    ghost use Rattle.crd_laws.specs.Laws.{few, opens, names, stand, unstamped, one_to_one, finalizers, admits_whole, decides, refuses_once, unread};
+    ghost use Rattle.crd_laws.specs.Laws.{few, opens, names, stand, unstamped, one_to_one, same_key, finalizers, admits_whole, decides, refuses_once, unread};
 
     type Tool = NoTool;
 
@@ -97,6 +97,8 @@ impl Versions for VersionSet {
     ghost unstamped = { λ it. unstamped it.set (settings_of it.set.view) };
 
     ghost one_to_one = { λ it honest. one_to_one it.set (settings_of it.set.view) it.one_list };
+
+    ghost same_key = { λ it honest. same_key it.set (settings_of it.set.view) };
 
     ghost finalizers = { λ it honest. finalizers it.set (settings_of it.set.view) };
 

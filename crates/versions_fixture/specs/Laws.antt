@@ -15,7 +15,7 @@ use Rattle.api_calls.specs.Cause.{CauseView, not_json, too_deep, not_whole, not_
 use Rattle.api_calls.specs.Meaning.{Request, Fault, bad_request, invalid, Weighs, stamped, unnumbered, widest, chunks, measure}
 use Rattle.api_calls.specs.Readings.{IsFaulty, one_fault}
 use Rattle.api_calls.specs.Readings as reading
-use Rattle.api_calls.specs.Versions.{AreFlags, AreStamps, IsBody, StandsAt, Stand, IgnoresStamps, IsOneToOne, IsRequest, KeepsFinalizers, NamesDiffer, IsAdmitted, AdmitsWhole, DecidesAdmission, RefusesOnce, RefusesUnread, DecidesBodies}
+use Rattle.api_calls.specs.Versions.{AreFlags, AreStamps, IsBody, StandsAt, Stand, IgnoresStamps, IsOneToOne, IsRequest, KeepsFinalizers, KeepsKey, NamesDiffer, IsAdmitted, AdmitsWhole, DecidesAdmission, RefusesOnce, RefusesUnread, DecidesBodies}
 use Rattle.api_calls.specs.declared.flags.Flags.{Flags}
 use Rattle.api_calls.specs.declared.versions.TheConstants.{OBJECT_LEVELS}
 use Rattle.versions_fixture.specs.Parts.{PartsView, body_at, meta_at, object_at, bare, version_at, version_name}
@@ -118,6 +118,12 @@ stand = record {
   pair = λ v h x known w one.
       let legal = parts_legal h one.parts w one.hub in
       subst (λ (y : ObjectView). StandsAt two_names v y) (sym one.form) (stands v one.parts legal.0 legal.1 legal.2);
+}
+
+pub same_key : KeepsKey two_names
+same_key = record {
+  name = λ v h x known w one. ap (λ (y : ObjectView). y.meta.name) one.form ∙ sym (ap (λ (y : ObjectView). y.meta.name) one.hub);
+  namespace = λ v h x known w one. ap (λ (y : ObjectView). y.meta.namespace) one.form ∙ sym (ap (λ (y : ObjectView). y.meta.namespace) one.hub);
 }
 
 pub finalizers : KeepsFinalizers two_names

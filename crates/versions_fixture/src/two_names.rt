@@ -56,7 +56,7 @@ impl Versions for TwoNames {
     ghost use Rattle.std.specs.Prelude.{true, refl};
     ghost use Rattle.std.proofs.Common.{arith};
     ghost use Rattle.versions_fixture.specs.Definition.{two_names};
-    ghost use Rattle.versions_fixture.specs.Laws.{admits_whole, decides, decides_flags, decides_keep, finalizers, legal_opening, names_differ, one_to_one, refuses_once, stand, unread, unstamped};
+    ghost use Rattle.versions_fixture.specs.Laws.{admits_whole, decides, decides_flags, decides_keep, finalizers, legal_opening, names_differ, one_to_one, refuses_once, same_key, stand, unread, unstamped};
 
     type Tool = NoTool;
 
@@ -79,6 +79,8 @@ impl Versions for TwoNames {
     ghost unstamped = { λ it. unstamped };
 
     ghost one_to_one = { λ it honest. one_to_one };
+
+    ghost same_key = { λ it honest. same_key };
 
     ghost finalizers = { λ it honest. finalizers };
 

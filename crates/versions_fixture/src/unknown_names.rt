@@ -53,6 +53,8 @@ impl Versions for UnknownNames {
 
     ghost one_to_one = { λ it honest. not_honest honest };
 
+    ghost same_key = { λ it honest. not_honest honest };
+
     ghost finalizers = { λ it honest. not_honest honest };
 
     ghost admitted = { λ it. admits_whole };

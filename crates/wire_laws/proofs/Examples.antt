@@ -1,5 +1,5 @@
 -- The premises of the laws can be met.
-use Rattle.std.proofs.Common.{refl, [], codes, arith}
+use Rattle.std.proofs.Common.{refl, List, [], codes, arith}
 use Rattle.httparse.specs.Grammar.{is_token_byte}
 use Rattle.wire_laws.specs.Sendable.{IsSendable, is_visible}
 use Rattle.wire_laws.proofs.Digits.{passes}

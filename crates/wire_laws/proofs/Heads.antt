@@ -1,12 +1,12 @@
 -- The heads that the writers write, as heads of the grammar.
-use Rattle.std.proofs.Common.{◌≡◌, ◌∙◌, refl, sym, ap, ℕ, ◌+◌, ◌/◌, ◌%◌, ◌<◌, ◌≤◌, Bool, true, false, List, [], ◌∷◌, ◌++◌, length, map, codes, decimal, Some, All, append_assoc, length-append, arith}
+use Rattle.std.proofs.Common.{◌≡◌, ◌∙◌, refl, sym, ap, ℕ, ◌+◌, ◌/◌, ◌%◌, ◌^◌, ◌<◌, ◌≤◌, Bool, true, false, List, [], ◌∷◌, ◌++◌, length, map, codes, decimal, Option, Some, IsTrue, All, append_assoc, length-append, arith}
 use Rattle.std.specs.Prelude.{if◌then◌else◌, ◌==◌}
 use Rattle.std.specs.List.{flat_map}
 use Rattle.std.specs.Str.Parse.{digits_value}
 use Rattle.std.proofs.lemmas.List.{append-nil}
 use Rattle.std.proofs.lemmas.List.Elements.{All-cons, All-nil}
 use Rattle.std.proofs.lemmas.Fmt.{decimal_digit, decimal_step, decimal_is_IsNumeral}
-use Rattle.httparse.specs.Grammar.{AllPass, Field, IsField, RequestHead, ResponseHead, crlf, is_token_byte, is_value_byte, print_field, print_request, print_response, print_section, trim_ows}
+use Rattle.httparse.specs.Grammar.{AllPass, Field, IsField, IsRequestHead, IsResponseHead, RequestHead, ResponseHead, crlf, is_token_byte, is_value_byte, print_field, print_request, print_response, print_section, trim_ows}
 use Rattle.httparse.specs.Spans.{name_and_value}
 use Rattle.httparse.proofs.GrammarLemmas.{print_request-append, print_response-append}
 use Rattle.http_wire.specs.Fields.{values}

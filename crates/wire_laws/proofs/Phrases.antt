@@ -1,5 +1,5 @@
 -- Each canonical phrase is short, and its bytes may stand in a status line.
-use Rattle.std.proofs.Common.{◌≡◌, refl, sym, inl, inr, ℕ, zero, suc, ◌<◌, ◌≤◌, Bool, true, ◌&&◌, nat_le, length, arith, subst}
+use Rattle.std.proofs.Common.{◌≡◌, refl, sym, inl, inr, ℕ, zero, suc, ◌<◌, ◌≤◌, Bool, true, ◌&&◌, nat_le, List, length, arith, subst, add-one}
 use Rattle.std.specs.List.{list_all}
 use Rattle.std.proofs.lemmas.Bool.{and_parts, leb-true, cases_eq}
 use Rattle.httparse.specs.Grammar.{AllPass, is_value_byte}
