@@ -4,3 +4,4 @@ pub mod Standing
 pub mod Accepting
 pub mod Few
 pub mod SoundDefaults
+pub mod ValidDefaults

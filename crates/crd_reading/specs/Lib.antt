@@ -12,3 +12,4 @@ pub mod Refusal
 pub mod Walk
 pub mod First
 pub mod Told
+pub mod ValidDefaults

@@ -20,7 +20,7 @@ mod walk;
 mod words;
 
 pub use definition::{Definition, Version};
-pub use laws::accepts;
+pub use laws::{accepts, valid_defaults};
 pub use parts::{is_yes, items_in};
 pub use places::{KIND_BYTES, MAX_VERSIONS, MIN_VERSIONS};
 pub use reading::{DefinitionFault, read_definition};

@@ -9,3 +9,4 @@ pub mod Shares
 pub mod Accepting
 pub mod OwnDefaults
 pub mod SoundDefaults
+pub mod ValidDefaults

@@ -7,3 +7,4 @@ pub mod Visit
 pub mod Visits
 pub mod Told
 pub mod Accepted
+pub mod ValidDefaults

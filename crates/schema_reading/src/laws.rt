@@ -9,6 +9,7 @@ ghost use Rattle.schema_reading.specs.Visits.{first_refusal};
 ghost use Rattle.prune_default.specs.SoundDefaults.{HasSoundDefaults};
 ghost use Rattle.schema_reading.specs.ShapeRead.{shape_read};
 ghost use Rattle.schema_reading.specs.Accepted.{IsSchema};
+ghost use Rattle.schema_reading.specs.ValidDefaults.{HasValidDefaults};
 
 /// Nothing of a document is refused exactly where it is a schema, which is said with no order in it.
 pub fn accepts()
@@ -27,4 +28,10 @@ pub fn own_fillings()
 /// have 64 bits, and the names of its objects rise.
 pub fn sound_defaults()
     ensures { (j : Json) → IsSoundJson j → HasSoundDefaults (shape_read true j) }
+{}
+
+/// Each default of the schema that an accepted document spells is valid at its node and its own filling, and at most
+/// `MAX_DEFAULT_DEPTH` deep.
+pub fn valid_defaults()
+    ensures { (j : Json) → IsSchema j → HasValidDefaults (shape_read true j) }
 {}

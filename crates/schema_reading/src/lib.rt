@@ -20,6 +20,6 @@ mod trouble;
 mod walk;
 mod words;
 
-pub use laws::{accepts, own_fillings, sound_defaults};
+pub use laws::{accepts, own_fillings, sound_defaults, valid_defaults};
 pub use trouble::SchemaFault;
 pub use walk::{MAX_DEFAULT_DEPTH, MAX_NESTING, MAX_NODES, read_schema};

@@ -1,0 +1,5 @@
+use Rattle.schema_reading.proofs.ValidDefaults.{valid_defaults}
+use Rattle.schema_reading.proofs.laws.valid_defaults.Goals as goal
+
+pub returns : goal.returns
+returns c = valid_defaults
