@@ -12,7 +12,8 @@ use Rattle.object_reading.specs.Keeping.{is_annotation_pair}
 use Rattle.keep_laws.specs.Spokes.{Spoke, Spokes}
 use Rattle.keep_laws.specs.Keys.{hub_key, spoke_prefix, spoke_key, KeyKind, plain, of_hub, of_spoke, of_none, kind_among, key_kind}
 use Rattle.keep_laws.specs.Notes.{noted}
-use Rattle.keep_laws.specs.Settling.{IsJudged, OtherNote, SettlesAtHub}
+use Rattle.keep_laws.specs.Judging.{IsJudged, OtherNote}
+use Rattle.keep_laws.specs.Settling.{SettlesAtHub}
 use Rattle.keep_laws.specs.Over.{SpokeNoteOver, NoteOver, GoesOver}
 use Rattle.crd_meaning.proofs.Annotations.{found, all_found}
 
@@ -81,4 +82,4 @@ over_keys all s x h own r g =
 pub settled_keys : (all : Spokes) (x h : ObjectView) → list_all is_annotation_pair x.meta.annotations ≡ true
     → SettlesAtHub all x h → list_all is_annotation_pair h.meta.annotations ≡ true
 settled_keys all x h r l =
-    all_found h.meta.annotations l.rest.object.annotations (λ k t e. settled_ruled x.body k (key_kind all k) (noted k x) (noted k h) t (λ u q. found x.meta.annotations k u r q) (l.notes k) e)
+    all_found h.meta.annotations l.rest.object.annotations (λ k t e. settled_ruled h.body k (key_kind all k) (noted k x) (noted k h) t (λ u q. found x.meta.annotations k u r q) (l.notes k) e)

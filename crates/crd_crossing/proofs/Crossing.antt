@@ -18,6 +18,8 @@ use Rattle.hub_cells.specs.contracts.cell.Names as Names
 use Rattle.hub_cells.specs.contracts.cell.CellKind as CellKind
 use Rattle.hub_cells.specs.contracts.cell.Cell as Cell
 use Rattle.hub_cells.specs.contracts.fitted.Fitted as Fitted
+use Rattle.hub_fills.proofs.fills.Fills.TheLaws.TheKnot as fills
+use Rattle.hub_fills.specs.contracts.fills.Fills as Fills
 use Rattle.spoke_keep.specs.contracts.spokes.Spoke as Spoke
 use Rattle.spoke_keep.specs.contracts.spokes.Spokes as Spokes
 use Rattle.crd_reading.specs.contracts.definition.Version as Version
@@ -64,8 +66,11 @@ fitted_send = search (fitteds.crosses, cell_send, schema_send, txt.the_send, sen
 spoke_send : IsSend Spoke.the_row
 spoke_send = search (fitted_send, txt.the_send, sendable, crosses, maps.crosses) depth 60 fits 200000
 
+fills_send : IsSend Fills.the_row
+fills_send = search (fills.crosses, values.crosses, sendable, crosses, maps.crosses) depth 60 fits 200000
+
 spokes_send : IsSend Spokes.the_row
-spokes_send = search (spoke_send, txt.the_send, sendable, crosses, maps.crosses) depth 60 fits 200000
+spokes_send = search (spoke_send, fills_send, txt.the_send, sendable, crosses, maps.crosses) depth 60 fits 200000
 
 version_send : IsSend Version.the_row
 version_send = declared_send Version.the_type (txt.the_send, (search sendable, (search sendable, (schema_send, tt))))
@@ -108,8 +113,11 @@ fitted_sync = search (fitteds.crosses, cell_sync, schema_sync, txt.the_sync, sen
 spoke_sync : IsSync Spoke.the_row
 spoke_sync = search (fitted_sync, txt.the_sync, sendable, crosses, maps.crosses) depth 60 fits 200000
 
+fills_sync : IsSync Fills.the_row
+fills_sync = search (fills.crosses, values.crosses, sendable, crosses, maps.crosses) depth 60 fits 200000
+
 spokes_sync : IsSync Spokes.the_row
-spokes_sync = search (spoke_sync, txt.the_sync, sendable, crosses, maps.crosses) depth 60 fits 200000
+spokes_sync = search (spoke_sync, fills_sync, txt.the_sync, sendable, crosses, maps.crosses) depth 60 fits 200000
 
 version_sync : IsSync Version.the_row
 version_sync = declared_sync Version.the_type (txt.the_sync, (search sendable, (search sendable, (schema_sync, tt))))

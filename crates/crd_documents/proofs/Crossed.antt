@@ -28,8 +28,8 @@ use Rattle.crd_meaning.proofs.Seats.{first_spoke}
 use Rattle.crd_meaning.specs.Converted.{IsOneWith}
 use Rattle.crd_admission.specs.NoHub.{IsUnreadAt, IsTold}
 use Rattle.crd_documents.specs.Steps.{IsOfVersion, HasHub}
-use Rattle.crd_meaning.proofs.Left.{form_left}
-use Rattle.crd_documents.proofs.Standing.{spoke_version, spoke_body}
+use Rattle.keep_laws.proofs.Trips.{back_settles}
+use Rattle.crd_documents.proofs.Standing.{spoke_body}
 
 pub if_ok : {A E : Type 0} (P Q : A → Type 0) (r : Result A E) → ((x : A) → P x → Q x) → IfOk r P → IfOk r Q
 if_ok P Q (Ok x) f h = f x h
@@ -56,7 +56,7 @@ module _ (d : Definition) (loaded : IsLoaded d) where
     gone_over laws s p e place h rises g w =
         let form = spoke_form laws d.spokes p s loaded.definition place (loaded.tables p s place) h w in
         let left =
-        form_left laws d.spokes p s loaded.definition place x h form.0 (spoke_version d loaded v x of s p e place) rises (spoke_body d loaded v x of s p e place) g form.1.0 form.1.1 in record {
+        back_settles laws d.spokes p s loaded.definition place x h form.0 rises (spoke_body d loaded v x of s p e place) g form.1.0 form.1.1 in record {
           left = form.0;
           settles = subst (λ (z : Seat). LeftAt d.spokes z x form.0) (sym e) left;
           whole = w;

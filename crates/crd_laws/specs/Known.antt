@@ -1,5 +1,5 @@
 -- What the laws of a definition take of other crates, from this alone, that a text spells one list of entries.
-use Rattle.keep_laws.proofs.Fitted.{body_known, body_allowed, whole_body}
+use Rattle.keep_laws.proofs.Fitted.{body_known, body_allowed, body_set, whole_body}
 use Rattle.keep_laws.proofs.Settled.{whole_settled}
 use Rattle.prune_default.proofs.Fillings.{one_value}
 use Rattle.prune_default.proofs.Existing.{filling}
@@ -13,6 +13,7 @@ laws one = record {
   one = one;
   known = body_known;
   allowed = body_allowed;
+  set = body_set;
   body = whole_body;
   words = λ d l x r w. whole_settled d l x r w;
 }

@@ -131,6 +131,7 @@ module _ (o : Settings) (d : Definition) where
       version = w.hub.version;
       object = record { annotations = w.hub.object.annotations; body = w.hub.object.body };
       body = w.hub.body;
+      complete = w.hub.complete;
       notes = w.hub.notes;
     };
     kind = w.kind;

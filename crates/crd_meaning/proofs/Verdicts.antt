@@ -142,7 +142,7 @@ if_some_along (Some n) a b e h = e ∙ h
 
 meta_same : (all : Spokes) (z : Seat) (x y h : ObjectView) → LeftAt all z x y → PairsAt all z h y → without_notes h.meta ≡ without_notes x.meta
 meta_same all at_hub x y h s p = ap (λ (w : ObjectView). without_notes w.meta) (sym p) ∙ s.rest.meta
-meta_same all (at_spoke t) x y h s p = sym p.1.meta ∙ s.rest.meta
+meta_same all (at_spoke t) x y h s p = sym p.1.meta ∙ s.pair.meta ∙ s.over.meta
 meta_same all nowhere x y h s p = absurd p
 
 module _ (known : Given) (o : Settings) (d : Definition) (loaded : IsLoaded d) where

@@ -50,7 +50,8 @@ IsUnread d r x k = IsFirstBad d.spokes (own_name (seat d r.version)) x.meta.anno
 
 -- ---- the hub value
 
--- y is x without what has no place there: its own side's annotation, those of no known spoke, and dead entries
+-- y is x without what has no place there: its own side's annotation, those of no known spoke, and dead entries; and with each
+-- name that wasn't there and has a default in some version
 abbrev pub LeftAt : Spokes → Seat → ObjectView → ObjectView → Type 0
 LeftAt all at_hub x y = SettlesAtHub all x y
 LeftAt all (at_spoke s) x y = SettlesAtSpoke all s x y

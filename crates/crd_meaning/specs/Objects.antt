@@ -20,8 +20,8 @@ pub record IsMeta (m : MetaView) : Type 0 where
   pub owners : AreSoundItems (items_of m.owners)
   pub levels : 2 + depth (list (items_of m.owners)) ≤ OBJECT_LEVELS
 
--- a hub value: its body is valid and filled, each reserved annotation keeps entries that are all alive, and the metadata
--- keep their rules
+-- a hub value: its body is valid and filled, each name that has a default in some version is there, each reserved annotation
+-- keeps entries that are all alive, and the metadata keep their rules
 pub record IsWholeValue (d : Definition) (h : ObjectView) : Type 0 where
   pub hub : IsWholeHub d.spokes h
   pub kind : h.kind ≡ d.view.kind

@@ -1,6 +1,6 @@
 -- The filled fields are read as the marks with the absent tuples filled.
-use Rattle.std.proofs.Common.{◌≡◌, List, [], ◌∷◌, ◌++◌, map, Bool, true, false, ◌&&◌, ◌||◌, cond, ◌⊎◌, inl, inr, Option, Some, None, Ordering, Less, Equal, Greater, nat_cmp, bytes_eq, refl, ap, ap₂, sym, subst, ◌∙◌}
-use Rattle.std.specs.Prelude.{is_none, is_some}
+use Rattle.std.proofs.Common.{◌≡◌, List, [], ◌∷◌, ◌++◌, map, Bool, true, false, ◌||◌, Option, Some, None, Ordering, Less, Equal, Greater, nat_cmp, bytes_eq, refl, ap, ap₂, sym, subst, ◌∙◌}
+use Rattle.std.specs.Prelude.{is_none}
 use Rattle.std.specs.Ordering.{match_ordering}
 use Rattle.std.specs.Cmp.Lexicographic.{slice_cmp}
 use Rattle.kj_value.specs.Json.{Json, null, boolean, whole, text, list, object, members_of}
@@ -8,22 +8,21 @@ use Rattle.kj_value.specs.Fields.{Pairs, field, with_field}
 use Rattle.kj_value.specs.KindLaws.{pairs_members}
 use Rattle.hub_cells.specs.Side.{hub}
 use Rattle.hub_cells.specs.Cell.{Tuple}
-use Rattle.hub_cells.specs.Level.{Name, Place, Cell, names, tuple_of, can_default, CellFits, CellsFit, Fits, InnersFit, Level, level, Inners, no_inner, inner, cells_names, inner_names, AreDistinct, NoNameTwice, NoneTwice}
+use Rattle.hub_cells.specs.Level.{Name, Place, Cell, names, tuple_of, CellFits, CellsFit, Fits, InnersFit, Level, level, Inners, no_inner, inner, cells_names, inner_names, AreDistinct, NoNameTwice, NoneTwice}
 use Rattle.hub_cells.specs.Fit.{has_name}
 use Rattle.hub_fills.specs.Fills.{Fills, fills, Within, nothing_within, within}
 use Rattle.hub_fills.specs.Right.{IsRight, AreRight, RightFills, RightWithin}
 use Rattle.hub_fills.specs.RightLaws.{one_place}
 use Rattle.keep_laws.specs.Entry.{all_named}
 use Rattle.keep_laws.specs.Marked.{Marks, Marked, MarkedInners, IfThere, there}
-use Rattle.keep_laws.specs.Body.{pairs_of, as_object, object_in, read_cells, read, read_inners, body}
+use Rattle.keep_laws.specs.Body.{pairs_of, object_in, read_cells, read, read_inners, body}
 use Rattle.keep_laws.specs.Complete.{where_absent, filled_tuple, filled_marks, filled, filled_inners, completed, IsFilled, CellsFilled, IsComplete, InnersComplete}
-use Rattle.keep_laws.specs.Known.{IsRising, IsObject, IfPresent, IsKnown, InnersKnown}
+use Rattle.keep_laws.specs.Known.{IsRising, IfPresent, IsKnown, InnersKnown}
 use Rattle.keep_laws.proofs.Bodies.{body_read}
-use Rattle.keep_laws.proofs.Fields.{bytes_same, field_same, field_other, equal_same, Disjoint, fresh_absent, distinct_right, distinct_apart, disjoint_turned, has_left, has_right, disjoint_left, disjoint_right}
+use Rattle.keep_laws.proofs.Fields.{bytes_same, field_same, field_other, Disjoint, fresh_absent, distinct_right, distinct_apart, disjoint_turned, has_left, has_right}
 use Rattle.keep_laws.proofs.FittedWritten.{rising_put}
 use Rattle.keep_laws.proofs.Marks.{completed_same}
-use Rattle.keep_laws.proofs.Tests.{lies, both_true, and_true, none_some}
-use Rattle.keep_laws.proofs.Texts.{name_cases}
+use Rattle.keep_laws.proofs.Tests.{lies, both_true, and_true}
 use Rattle.keep_bodies.specs.Filling.{with_absent, fill_place, fill_cells, put_object, fill_level, fill_inners, is_absent, cells_lack, object_lacks, lacks, inners_lack}
 
 -- ---- names that aren't touched

@@ -1,6 +1,6 @@
 -- For private clauses: the fields of the hub's object with the names that aren't there filled, in the root and in each object
 -- that is there; and whether such a name isn't there.
-use Rattle.std.specs.Prelude.{List, [], ◌∷◌, Bool, true, false, ◌||◌, Option, None, Some, is_none}
+use Rattle.std.specs.Prelude.{List, [], ◌∷◌, Bool, false, ◌||◌, Option, None, Some, is_none}
 use Rattle.kj_value.specs.Json.{Json, object, members_of}
 use Rattle.kj_value.specs.Fields.{Pairs, field, with_field}
 use Rattle.hub_cells.specs.Level.{Name, Place, Cell, Level, level, Inners, no_inner, inner}

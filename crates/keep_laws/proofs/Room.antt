@@ -22,7 +22,7 @@ mutual
   rule_room n s h (table a b ps x y) is m p = omega arith
   rule_room n s h (scale a b k) is m p = omega arith
 
-  rules_room : (n : ℕ) (s h : Shape) (rs : Rules) → inners_depth (inners_of n s h rs) ≤ inner_depth rs
+  pub rules_room : (n : ℕ) (s h : Shape) (rs : Rules) → inners_depth (inners_of n s h rs) ≤ inner_depth rs
   rules_room n s h no_rules = omega arith
   rules_room n s h (rule r rs) = rule_room n s h r (inners_of n s h rs) (inner_depth rs) (rules_room n s h rs)
 

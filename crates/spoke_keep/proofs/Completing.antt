@@ -19,16 +19,9 @@ use Rattle.keep_laws.proofs.SpokesFitted.{fits, hub_body_at}
 use Rattle.keep_laws.proofs.Made.{first_is, settles_hub}
 use Rattle.keep_laws.proofs.Trips.{settles_hub_whole}
 
-pub no_spokes : (all : Spokes) (ss : List Spoke) (body : Pairs) → length ss ≡ 0 → body ≡ completed_first all ss body
-no_spokes all [] body e = refl
-no_spokes all (s ∷ ss) body e = absurd (omega (arith, e))
-
 pub first_known : Laws → (all : Spokes) (s : Spoke) → IsDefinition all → slice_get all.items 0 ≡ Some s → (body : Pairs) → AreRising (members_of body) → IsHubBody all.items body → IsKnown sides.hub s.fit.level body
 first_known laws all s def place body rises bodies =
     laws.known sides.hub s.fit body (fits all 0 s def place) rises (hub_body_at all.items 0 s body bodies place)
-
-pub first_full : (all : Spokes) (s : Spoke) (body full : Pairs) → slice_get all.items 0 ≡ Some s → full ≡ completed (fills_at all s) s.fit.level body → full ≡ completed_hub all body
-first_full all s body full place e = e ∙ first_is all all.items s body place
 
 -- no annotation stays none
 stays_none : (body : Pairs) (c : KeyKind) → OtherNote None body c None None
@@ -52,7 +45,3 @@ mapped_at g (t ∷ ss) zero s f e h =
     let same : t ≡ s = cc in
     h ∙ ap g same
 mapped_at g (t ∷ ss) (suc v) s f e h = mapped_at g ss v s f e h
-
-pub mapped_length : (g : Spoke → Fills) (ss : List Spoke) → length (map g ss) ≡ length ss
-mapped_length g [] = refl
-mapped_length g (s ∷ ss) = ap suc (mapped_length g ss)

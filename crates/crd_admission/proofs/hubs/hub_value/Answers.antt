@@ -28,3 +28,6 @@ returns-in-Ok-None-clause-refused c =
     refused_so (λ (f : Fault). f ≡ breaks name object_path rule.Size) (HasNoHub d c.args.v x) c.too_large.result (
     told_heavy d c.args.v c.args.storage x h name c.in-Ok-None.field-0 same (c.one_hub.ensures.read d c.args.v x h hub) (λ g a. c.one_hub.ensures.one d c.hub.ensures.loaded c.args.v x g h a hub) c.in-Ok-None.field-0-is c.in-Ok-None.ensures
     ) c.too_large.ensures
+
+pub returns-in-Ok-Some-clause-read : goal.returns-in-Ok-Some-clause-read
+returns-in-Ok-Some-clause-read c = c.one_hub.ensures.read c.args.set.now c.args.v (object_of c.args.x) (object_of c.in-Ok-hub_of.hub) c.in-Ok-hub_of.ensures.hub

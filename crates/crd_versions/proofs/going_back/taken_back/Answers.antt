@@ -13,5 +13,5 @@ back_to_hub-requires c =
 pub returns : goal.returns
 returns c = λ h f.
     if_ok (λ (g : Object). GoesOver c.args.all.now f.spoke (object_of c.args.x) (object_of g)) (λ (g : Object). object_of g ≡ h) c.back_to_hub.result (
-    λ g over. c.over_and_back.ensures.whole c.args.all.now c.args.p f.spoke c.items.ensures.definition f.place h (object_of c.args.x) (object_of g) f.whole f.object f.pair over
+    λ g over. c.over_and_back.ensures.whole c.args.all.now c.args.p f.spoke c.items.ensures.definition f.place h (object_of c.args.x) (object_of g) f.whole f.pair over
     ) (c.back_to_hub.ensures f.spoke f.place)

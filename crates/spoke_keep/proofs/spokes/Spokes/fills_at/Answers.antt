@@ -1,7 +1,7 @@
 use Rattle.std.proofs.Common.{◌≡◌, List, length, get_or, map, ap, sym, subst, ◌∙◌}
 use Rattle.hub_fills.specs.Fills.{Fills}
 use Rattle.keep_laws.specs.Spokes.{Spoke, Spokes, fills_at}
-use Rattle.spoke_keep.proofs.Completing.{mapped_at, mapped_length}
+use Rattle.spoke_keep.proofs.Completing.{mapped_at}
 use Rattle.spoke_keep.proofs.spokes.Spokes.fills_at.Goals as goal
 
 pub returns : goal.returns
