@@ -9,4 +9,6 @@ pub mod Following
 pub mod Roots
 pub mod Tables
 pub mod LoadedSet
+pub mod OwnAllowed
+pub mod Defined
 pub mod Parts

@@ -5,12 +5,11 @@ use Rattle.std.proofs.lemmas.Bool.Decides.{Decides-eqb, Decides-ltb}
 use Rattle.std.proofs.lemmas.Option.{slice_get-get_or, slice_get_within, get_or_from_slice_get}
 use Rattle.struct_schema.specs.Shape.{Shape}
 use Rattle.hub_cells.specs.declared.allowed.TheConstants.{STORED_LEVELS}
-use Rattle.hub_cells.specs.Level.{Name}
 use Rattle.hub_cells.specs.Fit.{Fit}
 use Rattle.hub_rules.specs.Rule.{Rules, inner_depth}
 use Rattle.hub_fit.specs.Chosen.{fit_of}
 use Rattle.keep_laws.specs.FittedBody.{HasRoom}
-use Rattle.keep_laws.specs.Spokes.{Spoke, Spokes, IsDefinition}
+use Rattle.keep_laws.specs.Spokes.{Spoke, IsDefinition}
 use Rattle.crd_reading.specs.View.{VersionView, DefinitionView}
 use Rattle.crd_reading.specs.Spelled.{version_items}
 use Rattle.crd_reading.specs.Whole.{HaveOwnDefaults, HaveSoundDefaults}
@@ -18,9 +17,7 @@ use Rattle.crd_loading.specs.Fits.{IsRuled, spokes_of}
 use Rattle.crd_loading.specs.View.{LoadedView, FitVersions, FitHub, IsTogether}
 use Rattle.crd_meaning.specs.Definition.{no_version, version_at, at_hub, spoke_seat, spoke_place, seat, IsRoot, IsSpokeOf, IsSeated, IsLoaded}
 use Rattle.crd_loading.specs.Set.{named_fits, spokes_in, set_of}
-use Rattle.crd_loading.specs.Following.{CanFollow}
 use Rattle.crd_loading.proofs.Without.{without, get_before, get_behind, length_without, spokes_are}
-use Rattle.crd_loading.proofs.Names.{all_names}
 use Rattle.crd_loading.proofs.Following.{named}
 use Rattle.crd_loading.proofs.Roots.{roots}
 use Rattle.crd_loading.proofs.Tables.{ruled_sound}
@@ -32,41 +29,25 @@ ruled_room law f r = subst HasRoom (sym r.is) (law 0 f.spoke f.hub r.rules (omeg
 
 -- ---- the hub
 
-record Hub (l : LoadedView) : Type 0 where
-  version : VersionView
-  at : slice_get l.definition.versions l.hub ≡ Some version
-  fits : FitVersions version.schema (spokes_of l.hub l.definition.versions) l.spokes
+pub record Hub (l : LoadedView) : Type 0 where
+  pub version : VersionView
+  pub at : slice_get l.definition.versions l.hub ≡ Some version
+  pub fits : FitVersions version.schema (spokes_of l.hub l.definition.versions) l.spokes
 
-hub_of : (l : LoadedView) → IsTogether l → Hub l
+pub hub_of : (l : LoadedView) → IsTogether l → Hub l
 hub_of l t = by_hub (slice_get l.definition.versions l.hub) refl t.fits
   where
     by_hub : (o : Option VersionView) → slice_get l.definition.versions l.hub ≡ o → FitHub o l.hub l.definition.versions l.spokes → Hub l
     by_hub None e h = absurd h
     by_hub (Some v) e h = record { version = v; at = e; fits = h }
 
-hub_is : (l : LoadedView) (h : Hub l) → h.version ≡ slice_index_or l.definition.versions l.hub no_version
+pub hub_is : (l : LoadedView) (h : Hub l) → h.version ≡ slice_index_or l.definition.versions l.hub no_version
 hub_is l h = sym (get_or_from_slice_get l.definition.versions l.hub h.version no_version h.at)
 
 pub hub_within : (l : LoadedView) → IsTogether l → l.hub < length l.definition.versions
 hub_within l t =
     let h = hub_of l t in
     slice_get_within l.definition.versions l.hub h.version h.at
-
--- ---- the versions behind the hub's name
-
-abbrev pub begun : Name → Name → Spokes
-begun g n = record { group = g; hub = n; items = [] }
-
-pub all_follow : (l : LoadedView) (g : Name) (a : Spokes) → IsTogether l → a ≡ begun g (slice_index_or l.definition.versions l.hub no_version).name → CanFollow (spokes_of l.hub l.definition.versions) l.spokes a
-all_follow l g a t e =
-    let h = hub_of l t in
-    let is : a ≡ begun g h.version.name = e ∙ ap (λ (v : VersionView). begun g v.name) (sym (hub_is l h)) in
-    subst (λ (b : Spokes). CanFollow (spokes_of l.hub l.definition.versions) l.spokes b) (sym is) (record {
-      schema = h.version.schema;
-      names = all_names l.hub l.definition.versions h.version t.whole.offered.differ h.at;
-      share = tt;
-      fits = h.fits;
-    })
 
 -- ---- each spoke
 

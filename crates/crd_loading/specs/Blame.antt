@@ -1,7 +1,7 @@
 -- What is refused: its path as text, and a word.
 use Rattle.std.specs.Prelude.{ℕ, List, Option, None, Some, Result, Ok, Err}
 use Rattle.struct_schema.specs.PathText.{Path}
-use Rattle.hub_rules.specs.Refusal.{Fault}
+use Rattle.hub_rules.specs.Refusal.{Fault, unpaired_default}
 use Rattle.hub_rules.specs.Told.{path_text}
 use Rattle.crd_reading.specs.Words.{shape_word}
 use Rattle.crd_reading.specs.Refusal.{Refusal}
@@ -28,3 +28,8 @@ of_rules (Err p) = Some (blame p.text shape_word)
 abbrev pub of_fit : Option Fault → Option Blame
 of_fit None = None
 of_fit (Some f) = Some (blame (path_text f.path) (fit_word f.why))
+
+-- of a name whose default comes too late for some spoke, by the bytes of its path
+abbrev pub of_late : Option (List ℕ) → Option Blame
+of_late None = None
+of_late (Some p) = Some (blame p (fit_word unpaired_default))

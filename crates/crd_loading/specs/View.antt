@@ -7,7 +7,8 @@ use Rattle.struct_schema.specs.PathText.{Path}
 use Rattle.rule_reading.specs.SetRead.{Spoke}
 use Rattle.crd_reading.specs.View.{VersionView, DefinitionView}
 use Rattle.crd_reading.specs.Whole.{IsWholeDefinition}
-use Rattle.crd_loading.specs.Fits.{IsRuled, Placed, version_from, spokes_of, fits_of, RuleSet, rules_in}
+use Rattle.hub_fills.specs.LateNames.{first_late}
+use Rattle.crd_loading.specs.Fits.{IsRuled, Placed, version_from, spokes_of, fits_of, levels_in, RuleSet, rules_in}
 
 pub record LoadedView : Type 0 where
   pub definition : DefinitionView
@@ -31,6 +32,7 @@ FitHub (Some h) hub vs fs = FitVersions h.schema (spokes_of hub vs) fs
 pub record IsTogether (l : LoadedView) : Type 0 where
   pub whole : IsWholeDefinition l.definition
   pub fits : FitHub (slice_get l.definition.versions l.hub) l.hub l.definition.versions l.spokes
+  pub late : first_late (levels_in l.spokes) ≡ None
 
 -- ---- what a document of rules makes of a definition. Where it is refused, it says nothing
 

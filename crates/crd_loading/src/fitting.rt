@@ -11,7 +11,8 @@ ghost use Rattle.crd_reading.specs.Seen.{version_of};
 ghost use Rattle.crd_reading.specs.Offered.{has_version};
 ghost use Rattle.crd_loading.specs.Words.{fit_word};
 ghost use Rattle.crd_loading.specs.Blame.{blame, of_fit};
-ghost use Rattle.crd_loading.specs.Fits.{IsRuled, version_from, spokes_of, rules_or_none, rules_for, fits_blame, fits_of, fit_blame};
+ghost use Rattle.hub_fills.specs.LateNames.{first_late};
+ghost use Rattle.crd_loading.specs.Fits.{IsRuled, version_from, spokes_of, rules_or_none, rules_for, fits_blame, fits_of, levels_in, late_blame, fit_blame};
 ghost use Rattle.crd_loading.specs.View.{FitVersions, FitHub, placed_by};
 ghost use Rattle.crd_loading.specs.Told.{blame_of, blamed_in};
 ghost use Rattle.crd_loading.specs.AllFitted.{AllFitted};
@@ -20,6 +21,7 @@ use crate::blamed::{Blamed, blame};
 use crate::words::fit_word;
 use crd_reading::Version;
 use hub_cells::Fitted;
+use hub_fills::late;
 use hub_fit::fit;
 use hub_rules::{FitFault, Rules, Why};
 use kj_value::{NoMemory, Txt};
@@ -173,6 +175,17 @@ fn fit_spokes(
     Ok(Ok(fits))
 }
 
+// The first name whose default comes too late for some spoke.
+fn late_name(alloc: Global, fits: &[Fitted]) -> Result<Option<Blamed>, NoMemory>
+    ensures blame { IfOk result (λ o. option_map blame_of o ≡ late_blame fits.now) }
+    ensures none { IfOk result (λ o. IfNone o (first_late (levels_in fits.now) ≡ None)) }
+{
+    match late(alloc, fits)? {
+        None => Ok(None),
+        Some(path) => Ok(Some(unfit(alloc, path, Why::UnpairedDefault)?)),
+    }
+}
+
 // The hub's place, and the fits of the spokes.
 pub(crate) fn fit_set(
     alloc: Global,
@@ -184,6 +197,7 @@ pub(crate) fn fit_set(
         (p.0, p.1.items) ≡ placed_by (Ok (set_of set.now)) (map version_of versions.now))) }
     ensures together { IfOk result (λ r. IfOk r (λ p. FitHub
         (slice_get (map version_of versions.now) p.0) p.0 (map version_of versions.now) p.1.items)) }
+    ensures late { IfOk result (λ r. IfOk r (λ p. first_late (levels_in p.1.items) ≡ None)) }
     ensures blame { IfOk result (λ r. blamed_in r
         ≡ fit_blame (Ok (set_of set.now)) (map version_of versions.now)) }
 {
@@ -192,7 +206,10 @@ pub(crate) fn fit_set(
         Some((hub, version)) => {
             match fit_spokes(alloc, versions, hub, &version.schema, &set.spokes)? {
                 Err(blamed) => Ok(Err(blamed)),
-                Ok(fits) => Ok(Ok((hub, fits))),
+                Ok(fits) => match late_name(alloc, fits.as_slice())? {
+                    Some(blamed) => Ok(Err(blamed)),
+                    None => Ok(Ok((hub, fits))),
+                },
             }
         }
     }

@@ -38,7 +38,7 @@ pub enum LoadFault {
     /// `NotWhole` for bytes that aren't read at 100 levels; `Unknown` for a name that may not stand in the
     /// definition; a keyword, or `Limit`, in a schema; `NameTwice`, `NameMissing`, `SchemaDiffers`,
     /// `UnpairedDefault`, `RequiredLost` or `RangeLost` for rules that don't fit, at the path of a name of a
-    /// schema; and else `Shape`.
+    /// schema, or for a default that comes too late for some spoke; and else `Shape`.
     Refused { file: Which, path: Txt, word: Txt },
     NoMemory,
 }
@@ -128,8 +128,10 @@ fn load_rules(
 ///
 /// The whole definition is tried before the rules are read; both are read at 100 levels. The document of
 /// rules is tried as `read_rules` of `rule_reading` does it, where a hub or a spoke that is no version is
-/// refused at its path before what stands inside it. Last the rules are fitted to the schemas, spoke by spoke
-/// in the order of the versions; a version but the hub that the document doesn't name has no rules.
+/// refused at its path before what stands inside it. Then the rules are fitted to the schemas, spoke by spoke
+/// in the order of the versions; a version but the hub that the document doesn't name has no rules. Last, where a
+/// name of the hub's has no default and a spoke has one for it, every spoke has to pair it by `same` or `scale`: else
+/// the first such name by the bytes of its path is refused, with `UnpairedDefault`.
 /// `NoMemory` may come for any texts.
 pub fn load(alloc: Global, crd: &[u8], rules: &[u8]) -> Result<Loaded, LoadFault>
     ensures loaded { IfOk result (Loads crd.now rules.now) }

@@ -1,16 +1,17 @@
 //! The versions but the hub, by their names, with their rules.
-ghost use Rattle.std.specs.Prelude.{◌≡◌, ◌++◌, ◌<◌, [], ◌∷◌, length, map, Some, IfOk, OnOk, slice_get, slice_index_or};
-ghost use Rattle.hub_cells.specs.Level.{IsFresh};
+ghost use Rattle.std.specs.Prelude.{◌≡◌, ◌++◌, ◌<◌, ◌+◌, [], ◌∷◌, length, map, Some, IfOk, slice_get};
+ghost use Rattle.hub_fills.specs.Fills.{fills_of};
+ghost use Rattle.hub_fills.specs.EachFit.{EachAllows};
 ghost use Rattle.keep_laws.specs.FittedBody.{HasRoom};
-ghost use Rattle.keep_laws.specs.Spokes.{spoke_names, ShareHub, IsDefinition};
+ghost use Rattle.keep_laws.specs.Spokes.{IsDefinition};
 ghost use Rattle.crd_reading.specs.Seen.{version_of};
-ghost use Rattle.crd_loading.specs.Fits.{IsRuled, spokes_of};
+ghost use Rattle.crd_loading.specs.Fits.{IsRuled, spokes_of, levels_in};
 ghost use Rattle.crd_loading.specs.View.{IsTogether};
 ghost use Rattle.crd_loading.specs.Set.{spokes_in, named_fits};
-ghost use Rattle.crd_loading.specs.Following.{CanFollow};
 
-use crd_reading::{Definition, Version};
+use crd_reading::{Definition, Version, valid_defaults};
 use hub_cells::Fitted;
+use hub_fills::{Fills, fills_of, none_late};
 use keep_laws::fitted_laws::room_of_rules;
 use kj_value::{NoMemory, Txt};
 use spoke_keep::{Spoke, Spokes};
@@ -36,50 +37,43 @@ fn other_version(versions: &[Version], hub: usize, i: usize) -> &Version
     &versions[place]
 }
 
-// The rules of a document nest no deeper than bodies may.
-fn has_room(fitted: &Fitted)
-    requires { IsRuled fitted.now }
-    ensures { HasRoom fitted.now }
+// What the hub's names become, for each fit.
+fn all_fills(alloc: Global, fits: &[Fitted]) -> Result<Vec<Fills>, NoMemory>
+    requires { EachAllows fits.now }
+    ensures { IfOk result (λ fs. fs.items ≡ map (λ f. fills_of (levels_in fits.now) f.level) fits.now) }
 {
-    room_of_rules();
+    let mut fills = Vec::new(alloc);
+    for i in 0..fits.len() {
+        let fill = fills_of(alloc, fits, i)?;
+        fills.push(fill)?;
+    }
+    Ok(fills)
 }
 
-// Adds a version with its rules behind the others.
-fn add_spoke(alloc: Global, name: &Txt, fitted: Fitted, spokes: &mut Spokes) -> Result<(), NoMemory>
-    requires name { IsFresh name.now.bytes (spokes.old.hub ∷ spoke_names spokes.old.items) }
-    requires root { fitted.depth ≡ 0 }
-    requires ruled { IsRuled fitted }
-    requires hub { ShareHub fitted.hub spokes.old.items }
-    ensures { OnOk result (spokes.new ≡ record spokes.old {
-      items = spokes.old.items ++ record { name = name.now.bytes; fit = fitted } ∷ [];
-    }) }
+fn named_spoke(alloc: Global, name: &Txt, fitted: Fitted) -> Result<Spoke, NoMemory>
+    ensures { IfOk result (λ s. s ≡ record { name = name.now.bytes; fit = fitted }) }
 {
-    has_room(&fitted);
     let name = Txt::of(alloc, name.as_str())?;
-    let spoke = Spoke::new(alloc, name, fitted)?;
-    spokes.add(spoke)?;
-    Ok(())
+    Spoke::new(alloc, name, fitted)
 }
 
-// Adds all versions but the hub, each with its rules.
-fn add_spokes(
+// All versions but the hub, each with its rules.
+fn named_spokes(
     alloc: Global,
     versions: &[Version],
     hub: usize,
     fits: Vec<Fitted>,
-    spokes: &mut Spokes,
-) -> Result<(), NoMemory>
-    requires none { spokes.old.items ≡ [] }
-    requires follow { CanFollow (spokes_of hub (map version_of versions.now)) fits.items spokes.old }
-    ensures { OnOk result (spokes.new ≡ record spokes.old {
-      items = named_fits (spokes_of hub (map version_of versions.now)) fits.items;
-    }) }
+) -> Result<Vec<Spoke>, NoMemory>
+    requires { length fits.items ≡ length (spokes_of hub (map version_of versions.now)) }
+    ensures { IfOk result (λ ss. ss.items ≡ named_fits (spokes_of hub (map version_of versions.now)) fits.items) }
 {
+    let mut spokes = Vec::new(alloc);
     for fitted in fits {
-        let version = other_version(versions, hub, spokes.items().len());
-        add_spoke(alloc, &version.name, fitted, spokes)?;
+        let version = other_version(versions, hub, spokes.as_slice().len());
+        let spoke = named_spoke(alloc, &version.name, fitted)?;
+        spokes.push(spoke)?;
     }
-    Ok(())
+    Ok(spokes)
 }
 
 // The hub's name, and the other versions with their rules.
@@ -97,11 +91,15 @@ pub(crate) fn name_spokes(
     })) }
     ensures definition { IfOk result IsDefinition }
 {
+    room_of_rules();
+    valid_defaults();
+    none_late();
     let versions = definition.versions();
     let group = Txt::of(alloc, definition.group().as_str())?;
     let name = Txt::of(alloc, versions[hub].name.as_str())?;
-    let mut spokes = Spokes::new(alloc, group, name);
-    add_spokes(alloc, versions, hub, fits, &mut spokes)?;
+    let fills = all_fills(alloc, fits.as_slice())?;
+    let items = named_spokes(alloc, versions, hub, fits)?;
+    let spokes = Spokes::new(group, name, items, fills);
     let _ = spokes.items();
     Ok(spokes)
 }
