@@ -28,14 +28,19 @@ pub trait Ears {
     /// What a closed connection tells.
     ghost ending: { Self.Ended → Ending };
 
+    /// It was asked to listen at a place, and does.
+    ghost hears: { Self → List ℕ → Type 0 };
+
     /// Waits for connections at a place from now on.
     fn listen(&mut self, place: &str) -> Result<(), Failed>
+        ensures hears { IfOk result (λ _. hears self.new place.now) }
         ensures origins { origins self.new ≡ origins self.old }
         ensures returned { returned self.new ≡ returned self.old }
         ensures cause { HasCause (faults self.old) (faults self.new) result };
 
     /// Hands out the next connection, from which nothing was read and to which nothing was written.
     fn next(&mut self) -> Result<(Self::In, Self::Out), Failed>
+        ensures hears { (place : List ℕ) → hears self.old place → hears self.new place }
         ensures origins { MatchResult result
             (λ c. HandsOut (origins self.old) (origins self.new) (Self.In.origin c.0))
             (λ _. origins self.new ≡ origins self.old) }
@@ -54,6 +59,7 @@ pub trait Ears {
 
     /// Takes a closed connection back. It takes no memory and never fails.
     fn back(&mut self, ended: Self::Ended)
+        ensures hears { (place : List ℕ) → hears self.old place → hears self.new place }
         ensures origins { origins self.new ≡ origins self.old }
         ensures returned { AddsOne (returned self.old) (returned self.new) (ending ended) }
         ensures faults { faults self.new ≡ faults self.old };

@@ -1,5 +1,5 @@
 //! Connections in memory.
-ghost use Rattle.std.specs.Prelude.{◌≡◌, ◌↔◌, ◌<◌, ◌≤◌, ◌++◌, ◌∷◌, [], None, Some, ℕ, List, length, map, IsErr, IfOk, IfSome, MatchOption, MatchResult};
+ghost use Rattle.std.specs.Prelude.{◌≡◌, ◌↔◌, ◌<◌, ◌≤◌, ◌++◌, ◌∷◌, [], None, Some, ℕ, List, length, map, IsErr, IfOk, IfSome, MatchOption, MatchResult, ⊤};
 ghost use Rattle.std.specs.Io.{ReadsAtMost};
 ghost use Rattle.std.specs.Io.KnownBytes.{IsAtEnd};
 ghost use Rattle.edge_io.specs.Calls.{IsListed, answered, failed};
@@ -275,6 +275,8 @@ impl Ears for MemEars {
     ghost faults = { λ e. e.calls.faults };
 
     ghost ending = { ending_of };
+
+    ghost hears = { λ e place. ⊤ };
 
     ghost numbers_differ = { λ e. numbered_differ 0 e.heard };
 

@@ -8,7 +8,7 @@ ghost use Rattle.crd_loading.specs.View.{LoadedView};
 ghost use Rattle.crd_loading.specs.Set.{set_of};
 ghost use Rattle.crd_versions.specs.Set.{definition_of};
 ghost use Rattle.kubeconv_cmd.specs.Status.{error_line};
-ghost use Rattle.kubeconv_cmd.specs.Listening.{listening_line, Told, ToldSome, Announced};
+ghost use Rattle.kubeconv_cmd.specs.Listening.{listening_line, Told, ToldSome, Announced, NamesPlace};
 ghost use Rattle.kubeconv_cmd.specs.Beside.{AnsweredAll, ServesAll};
 ghost use Rattle.kubeconv_cmd.specs.Served.{OnUnheard, UnlessUnheard, OnUntold, Silent, served_status};
 
@@ -53,6 +53,7 @@ fn listen_at<K: Sink, A: Ears + Place>(
     output: &mut K,
     ears: &mut A,
 ) -> Result<(), Unserved>
+    ensures place { NamesPlace (A.is_told place.now) (K.written output.old) (K.written output.new) }
     ensures told { OnOk result (Announced (K.written output.old) (K.written output.new) (K.flushed output.new)) }
     ensures silent { IfErr result (Silent (K.written output.new ≡ K.written output.old) (ToldSome (K.written output.old) (K.written output.new)) (Told (K.written output.old) (K.written output.new))) }
     ensures unheard_untold { IfErr result (OnUnheard (K.written output.new ≡ K.written output.old)) }
@@ -97,6 +98,7 @@ fn serve_connections<
     requires { workers ≤ 15 }
     ensures done { OnOk result ((count : ℕ) × (connections ≡ Some count)
         × AnsweredAll (V.meaning versions) (record { boot = boot; told = C.told clock.now }) count (A.origins ears.old) (A.origins ears.new) (A.returned ears.old) (A.returned ears.new)) }
+    ensures place { NamesPlace (A.is_told place.now) (K.written output.old) (K.written output.new) }
     ensures told { OnOk result (Announced (K.written output.old) (K.written output.new) (K.flushed output.new)) }
     ensures silent { IfErr result (Silent (K.written output.new ≡ K.written output.old) (ToldSome (K.written output.old) (K.written output.new)) (Told (K.written output.old) (K.written output.new))) }
     ensures unheard { IfErr result (OnUnheard (Rose (A.faults ears.old) (A.faults ears.new)
@@ -151,6 +153,7 @@ pub(crate) fn serve_set<
     ensures done { OnOk result ((count : ℕ) × (service.entry.connections ≡ Some count)
         × ((crd rules : List ℕ) (l : LoadedView) → Loads crd rules l → definition_of versions ≡ set_of l
         → ServesAll crd rules (record { boot = boot; told = C.told clock.now }) count (A.origins ears.old) (A.origins ears.new) (A.returned ears.old) (A.returned ears.new))) }
+    ensures place { NamesPlace (A.is_told service.entry.place.now) (K.written output.old) (K.written output.new) }
     ensures told { OnOk result (Announced (K.written output.old) (K.written output.new) (K.flushed output.new)) }
     ensures silent { IfErr result (Silent (K.written output.new ≡ K.written output.old) (ToldSome (K.written output.old) (K.written output.new)) (Told (K.written output.old) (K.written output.new))) }
     ensures unheard { IfErr result (OnUnheard (Rose (A.faults ears.old) (A.faults ears.new)

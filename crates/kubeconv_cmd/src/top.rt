@@ -3,6 +3,7 @@ ghost use Rattle.std.specs.Prelude.{◌≡◌, ◌≢◌, ◌↔◌, ℕ, List};
 ghost use Rattle.std.specs.Io.KnownBytes.{append_known};
 ghost use Rattle.edge_io.specs.Causes.{Rose};
 ghost use Rattle.kubeconv_cmd.specs.Lines.{Line, IsLine};
+ghost use Rattle.kubeconv_cmd.specs.Listening.{IfServes, NamesPlace};
 ghost use Rattle.kubeconv_cmd.specs.Outcome.{Outcome};
 ghost use Rattle.kubeconv_cmd.specs.Status.{error_line};
 ghost use Rattle.kubeconv_cmd.specs.Given.{line_of};
@@ -76,6 +77,7 @@ fn run_command<
       ears_before = ears.old;
       ears = ears.new;
     }) (line_of command.entry) result }
+    ensures place { IfServes (line_of command.entry) (λ s. NamesPlace (A.is_told s.place) (K.written output.old) (K.written output.new)) }
     ensures errors { result ≢ REFUSED → result ≢ BAD_INPUT → ¬ (Rose (E.faults errors.old) (E.faults errors.new))
         → E.written errors.new ≡ append_known (E.written errors.old) (error_line result) }
     ensures kept { (name : List ℕ) → F.file files.new name ≡ F.file files.old name }
@@ -215,6 +217,8 @@ pub fn run<
       ears_before = ears.old;
       ears = ears.new;
     }) line result }
+    // What `serve` writes names a place that the ears may tell where they were asked for that of the words.
+    ensures place { (line : Line) → IsLine words.now line → IfServes line (λ s. NamesPlace (A.is_told s.place) (K.written output.old) (K.written output.new)) }
     ensures is_line { result ≢ BAD_WORDS → (line : Line) × IsLine words.now line }
     // The words are no line exactly at 2, and then nothing is touched but the error stream.
     ensures words_refused { (result ≡ BAD_WORDS) ↔ ((line : Line) → IsLine words.now line → ⊥) }

@@ -133,7 +133,7 @@ where
 
     type Ended = TcpClosed;
 
-    ghost use Rattle.std.specs.Prelude.{None};
+    ghost use Rattle.std.specs.Prelude.{None, ⊤};
 
     ghost origins = { λ e. None };
 
@@ -142,6 +142,8 @@ where
     ghost faults = { λ e. e.faults };
 
     ghost ending = { λ c. record { origin = None; read_faults = c.read_faults; write_faults = c.write_faults; written = None } };
+
+    ghost hears = { λ e place. ⊤ };
 
     fn listen(&mut self, place: &str) -> Result<(), Failed> {
         match bound(self.net, self.alloc, place) {
@@ -179,8 +181,16 @@ where
     ghost numbers_differ = { λ s. tt };
 }
 
-impl<'a, R: Net> Place for TcpEars<'a, R> {
+impl<'a, R: Net + Clock + Sync> Place for TcpEars<'a, R>
+where
+    R::Listener: Send,
+    R::Stream: Send,
+{
+    ghost use Rattle.std.specs.Prelude.{None, ⊤};
+
     ghost place = { λ e. None };
+
+    ghost is_told = { λ place told. ⊤ };
 
     fn place(&self, alloc: Global) -> Result<Txt, NoMemory> {
         match &self.listening {

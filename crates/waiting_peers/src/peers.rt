@@ -1,5 +1,5 @@
 //! Connections whose peers wait for each other: one gives a word, and others wait for it before they send anything.
-ghost use Rattle.std.specs.Prelude.{◌≡◌, ◌≤◌, None, Some, ℕ};
+ghost use Rattle.std.specs.Prelude.{◌≡◌, ◌≤◌, None, Some, ℕ, ⊤};
 
 use edge_io::{Ears, Failed, Sink, Source};
 use kj_value::{NoMemory, Txt};
@@ -274,6 +274,8 @@ impl Ears for Peers {
 
     ghost ending = { λ c. record { origin = None; read_faults = c.read_faults; write_faults = c.write_faults; written = None } };
 
+    ghost hears = { λ e place. ⊤ };
+
     fn listen(&mut self, _place: &str) -> Result<(), Failed> {
         Ok(())
     }
@@ -321,6 +323,8 @@ impl Ears for Peers {
 
 impl Place for Peers {
     ghost place = { λ e. None };
+
+    ghost is_told = { λ asked text. ⊤ };
 
     fn place(&self, alloc: Global) -> Result<Txt, NoMemory> {
         Txt::of(alloc, "here")

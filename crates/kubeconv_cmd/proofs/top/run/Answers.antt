@@ -22,3 +22,9 @@ returns-in-None-clause-outcome g c = λ line is. absurd (c.in-None.ensures.only 
 
 pub returns-in-None-clause-is_line : goal.returns-in-None-clause-is_line
 returns-in-None-clause-is_line g c = λ other. absurd (other c.ended.ensures.status)
+
+pub returns-in-Some-clause-place : goal.returns-in-Some-clause-place
+returns-in-Some-clause-place g c = λ line is. rw (c.in-Some.ensures.only line is) c.run_command.ensures.place
+
+pub returns-in-None-clause-place : goal.returns-in-None-clause-place
+returns-in-None-clause-place g c = λ line is. absurd (c.in-None.ensures.only line is)

@@ -1,4 +1,4 @@
-use Rattle.std.proofs.Common.{◌≡◌, ℕ, List, refl, ap, subst}
+use Rattle.std.proofs.Common.{◌≡◌, ℕ, List, refl, ap, subst, inl}
 use Rattle.std.specs.Io.KnownBytes.{append_known}
 use Rattle.crd_versions.specs.Set.{definition_of}
 use Rattle.kubeconv_cmd.specs.Given.{named_of, task_of}
@@ -105,3 +105,24 @@ returns-in-Err-load_named-2-clause-errors g c =
     λ other input ne.
     subst (λ (text : List ℕ). g.E.Sink.written c.tell_stop-in-Err-load_named-2.new.errors ≡ append_known (g.E.Sink.written c.args.errors.now) text)
     (stopped_line c.in-Err-load_named-2.stop c.tell_stop-in-Err-load_named-2.result c.tell_stop-in-Err-load_named-2.ensures.status other) (c.tell_stop-in-Err-load_named-2.ensures.line ne)
+
+pub returns-in-Ok-clause-place : goal.returns-in-Ok-clause-place
+returns-in-Ok-clause-place g c = rw c.in-Pipe.is tt
+
+pub returns-in-Err-clause-place : goal.returns-in-Err-clause-place
+returns-in-Err-clause-place g c = rw c.in-Pipe.is tt
+
+pub returns-in-Ok-load_named-clause-place : goal.returns-in-Ok-load_named-clause-place
+returns-in-Ok-load_named-clause-place g c = rw c.in-Task.is tt
+
+pub returns-in-Err-load_named-clause-place : goal.returns-in-Err-load_named-clause-place
+returns-in-Err-load_named-clause-place g c = rw c.in-Task.is tt
+
+pub returns-in-Drill-clause-place : goal.returns-in-Drill-clause-place
+returns-in-Drill-clause-place g c = rw c.in-Drill.is tt
+
+pub returns-in-Ok-load_named-2-clause-place : goal.returns-in-Ok-load_named-2-clause-place
+returns-in-Ok-load_named-2-clause-place g c = rw c.in-Serve.is c.serve_set-came.ensures.place
+
+pub returns-in-Err-load_named-2-clause-place : goal.returns-in-Err-load_named-2-clause-place
+returns-in-Err-load_named-2-clause-place g c = rw c.in-Serve.is (inl refl)
