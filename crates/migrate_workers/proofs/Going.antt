@@ -1,13 +1,11 @@
 -- Turns of a worker so far, and how they end.
-use Rattle.std.proofs.Common.{◌≡◌, ◌<◌, ◌+◌, ℕ, Bool, true, false, List, [], ◌∷◌, ◌++◌, Ok, Err, length, ap, sym, subst, refl, ◌∙◌, arith, append_assoc}
-use Rattle.std.specs.Prelude.{IsTrue}
-use Rattle.std.proofs.lemmas.List.{append-nil}
+use Rattle.std.proofs.Common.{◌≡◌, ◌<◌, ◌+◌, ℕ, Bool, true, false, List, [], ◌∷◌, ◌++◌, Ok, Err, length, ap, sym, subst, refl, ◌∙◌, arith}
 use Rattle.api_calls.specs.Calls.{Server}
 use Rattle.shared_api.specs.declared.step.TurnStep.{TurnStep}
 use Rattle.shared_api.specs.declared.step.TurnStep.TheVariants.{Idle}
 use Rattle.shared_api.specs.declared.step.WorkFault.{WorkFault}
 use Rattle.shared_api.specs.declared.step.WorkFault.TheVariants as fault
-use Rattle.migrate_workers.specs.Works.{Outcome, Question, At, IsTurn, AreTurns, outcomes, asked, IsCounted, Ran, end_of_fault}
+use Rattle.migrate_workers.specs.Works.{Outcome, Question, At, IsTurn, AreTurns, outcomes, asked, Asks, IsCounted, Ran, end_of_fault}
 use Rattle.migrate_workers.specs.declared.working.WorkEnd.TheVariants as ended
 
 -- how the last of the turns came out
@@ -55,56 +53,57 @@ length-more : (ss : List TurnStep) (s : TurnStep) → length (ss ++ s ∷ []) �
 length-more [] s = refl
 length-more (x ∷ ss) s = let more = length-more ss s in omega (arith, more)
 
+asks-more : {G : Type 0} (answers : G → TurnStep → Bool → G → Type 0) (g h k : G) (qs : List Question) (last : TurnStep) (may : Bool) → Asks answers g qs h → answers h last may k → Asks answers g (qs ++ (last, may) ∷ []) k
+asks-more answers g h k [] last may is more = (k, subst (λ x. answers x last may k) (sym is) more, refl)
+asks-more answers g h k (q ∷ qs) last may is more = (is.0, is.1, asks-more answers is.0 h k qs last may is.2 more)
+
 -- ---- so far
 
 -- so many turns came out as steps, and the gate said yes before each
-pub record Going {B : Type 0} (s : Server) (n : ℕ) (p q : At B) (before_next : TurnStep) (tells : Bool) (before now : List Question) : Type 0 where
+pub record Going {B G : Type 0} (s : Server) (n : ℕ) (p q : At B) (before_next : TurnStep) (answers : G → TurnStep → Bool → G → Type 0) (before now : G) : Type 0 where
   pub steps : List TurnStep
   pub turns : AreTurns s p (outcomes steps ended.Spent) q
   pub counted : length steps ≡ n
-  pub questions : IsTrue tells → now ≡ before ++ asked Idle steps ended.Spent
+  pub questions : Asks answers before (asked Idle steps ended.Spent) now
   pub last : before_next ≡ last_of Idle steps
 
-pub going-begins : {B : Type 0} (s : Server) (p : At B) (tells : Bool) (before : List Question) → Going s 0 p p Idle tells before before
-going-begins s p tells before = record { steps = []; turns = refl; counted = refl; questions = λ told. sym (append-nil before); last = refl }
+pub going-begins : {B G : Type 0} (s : Server) (p : At B) (answers : G → TurnStep → Bool → G → Type 0) (before : G) → Going s 0 p p Idle answers before before
+going-begins s p answers before = record { steps = []; turns = refl; counted = refl; questions = refl; last = refl }
 
-module _ {B : Type 0} (s : Server) (n : ℕ) (p q : At B) (last : TurnStep) (tells : Bool) (before now after : List Question) (g : Going s n p q last tells before now) where
+module _ {B G : Type 0} (s : Server) (n : ℕ) (p q : At B) (last : TurnStep) (answers : G → TurnStep → Bool → G → Type 0) (before now after : G) (g : Going s n p q last answers before now) where
   -- the questions with one more
-  more_asked : (may : Bool) → (IsTrue tells → after ≡ now ++ (last, may) ∷ []) → IsTrue tells → after ≡ before ++ (asked Idle g.steps ended.Spent ++ (last_of Idle g.steps, may) ∷ [])
-  more_asked may more told =
-      more told ∙ ap (λ (qs : List Question). qs ++ (last, may) ∷ []) (g.questions told)
-      ∙ append_assoc before (asked Idle g.steps ended.Spent) ((last, may) ∷ [])
-      ∙ ap (λ (l : TurnStep). before ++ (asked Idle g.steps ended.Spent ++ (l, may) ∷ [])) g.last
+  more_asked : (may : Bool) → answers now last may after → Asks answers before (asked Idle g.steps ended.Spent ++ (last_of Idle g.steps, may) ∷ []) after
+  more_asked may more = asks-more answers before now after (asked Idle g.steps ended.Spent) (last_of Idle g.steps) may g.questions (subst (λ (l : TurnStep). answers now l may after) g.last more)
 
-  pub going-on : (r : At B) (step : TurnStep) → (IsTrue tells → after ≡ now ++ (last, true) ∷ []) → IsTurn s q r (Ok step) → Going s (n + 1) p r step tells before after
+  pub going-on : (r : At B) (step : TurnStep) → answers now last true after → IsTurn s q r (Ok step) → Going s (n + 1) p r step answers before after
   going-on r step more turn = record {
     steps = g.steps ++ step ∷ [];
     turns = subst (λ (os : List Outcome). AreTurns s p os r) (sym (outcomes-more g.steps step)) (turns-more s p q r (outcomes g.steps ended.Spent) (Ok step) g.turns turn);
     counted = length-more g.steps step ∙ ap (λ (k : ℕ). k + 1) g.counted;
-    questions = λ told. more_asked true more told ∙ ap (λ (qs : List Question). before ++ qs) (sym (asked-more Idle g.steps step));
+    questions = subst (λ (qs : List Question). Asks answers before qs after) (sym (asked-more Idle g.steps step)) (more_asked true more);
     last = last-more Idle g.steps step;
   }
 
-  pub ran-stopped : (most : ℕ) → n < most → (IsTrue tells → after ≡ now ++ (last, false) ∷ []) → Ran s most p q ended.Stopped tells before after
+  pub ran-stopped : (most : ℕ) → n < most → answers now last false after → Ran s most p q ended.Stopped answers before after
   ran-stopped most few more = record {
     steps = g.steps;
     turns = subst (λ (os : List Outcome). AreTurns s p os q) (sym (outcomes-stopped g.steps)) g.turns;
     counted = (let is = g.counted in omega (arith, is, few));
-    questions = λ told. more_asked false more told ∙ ap (λ (qs : List Question). before ++ qs) (sym (asked-stopped Idle g.steps));
+    questions = subst (λ (qs : List Question). Asks answers before qs after) (sym (asked-stopped Idle g.steps)) (more_asked false more);
   }
 
   counted_fault : (most : ℕ) (f : WorkFault) → n < most → IsCounted most (length g.steps) (end_of_fault f)
   counted_fault most fault.Converter few = let is = g.counted in omega (arith, is, few)
   counted_fault most fault.NoMemory few = let is = g.counted in omega (arith, is, few)
 
-  pub ran-failed : (most : ℕ) (r : At B) (f : WorkFault) → n < most → (IsTrue tells → after ≡ now ++ (last, true) ∷ []) → IsTurn s q r (Err f) → Ran s most p r (end_of_fault f) tells before after
+  pub ran-failed : (most : ℕ) (r : At B) (f : WorkFault) → n < most → answers now last true after → IsTurn s q r (Err f) → Ran s most p r (end_of_fault f) answers before after
   ran-failed most r f few more turn = record {
     steps = g.steps;
     turns = subst (λ (os : List Outcome). AreTurns s p os r) (sym (outcomes-fault g.steps f)) (turns-more s p q r (outcomes g.steps ended.Spent) (Err f) g.turns turn);
     counted = counted_fault most f few;
-    questions = λ told. more_asked true more told ∙ ap (λ (qs : List Question). before ++ qs) (sym (asked-fault Idle g.steps f));
+    questions = subst (λ (qs : List Question). Asks answers before qs after) (sym (asked-fault Idle g.steps f)) (more_asked true more);
   }
 
-pub ran-spent : {B : Type 0} (s : Server) (n : ℕ) (p q : At B) (last : TurnStep) (tells : Bool) (before now : List Question) → Going s n p q last tells before now
-    → Ran s n p q ended.Spent tells before now
-ran-spent s n p q last tells before now g = record { steps = g.steps; turns = g.turns; counted = g.counted; questions = g.questions }
+pub ran-spent : {B G : Type 0} (s : Server) (n : ℕ) (p q : At B) (last : TurnStep) (answers : G → TurnStep → Bool → G → Type 0) (before now : G) → Going s n p q last answers before now
+    → Ran s n p q ended.Spent answers before now
+ran-spent s n p q last answers before now g = record { steps = g.steps; turns = g.turns; counted = g.counted; questions = g.questions }

@@ -1,5 +1,5 @@
 -- What a worker does: its turns, one after another, and giving its claim back.
-use Rattle.std.specs.Prelude.{◌≡◌, ◌<◌, ℕ, Bool, true, false, List, [], ◌∷◌, ◌++◌, Option, None, Result, Ok, Err, length, IsTrue}
+use Rattle.std.specs.Prelude.{◌≡◌, ◌<◌, ℕ, Bool, true, false, List, [], ◌∷◌, Option, None, Result, Ok, Err, length}
 use Rattle.api_calls.specs.Calls.{Server, Told, work, give_back, gave_back}
 use Rattle.turn_cell.specs.declared.view.View.{View}
 use Rattle.shared_api.specs.Answered.{CallsOn}
@@ -51,6 +51,11 @@ asked last [] ended.Converter = (last, true) ∷ []
 asked last [] ended.NoMemory = (last, true) ∷ []
 asked last (s ∷ ss) end = (last, true) ∷ asked s ss end
 
+-- a gate was asked these questions, one after another, each as the answer before left it
+abbrev pub Asks : {G : Type 0} → (G → TurnStep → Bool → G → Type 0) → G → List Question → G → Type 0
+Asks answers g [] h = g ≡ h
+Asks {G} answers g (q ∷ qs) h = (m : G) × answers g q.0 q.1 m × Asks answers m qs h
+
 -- it is spent exactly after so many turns
 abbrev pub IsCounted : ℕ → ℕ → WorkEnd → Type 0
 IsCounted most n ended.Stopped = n < most
@@ -59,16 +64,16 @@ IsCounted most n ended.Converter = n < most
 IsCounted most n ended.NoMemory = n < most
 
 -- a worker's turns, up to so many
-pub record Ran {B : Type 0} (s : Server) (most : ℕ) (p q : At B) (end : WorkEnd) (tells : Bool) (before after : List Question) : Type 0 where
+pub record Ran {B G : Type 0} (s : Server) (most : ℕ) (p q : At B) (end : WorkEnd) (answers : G → TurnStep → Bool → G → Type 0) (before after : G) : Type 0 where
   pub steps : List TurnStep
   pub turns : AreTurns s p (outcomes steps end) q
   pub counted : IsCounted most (length steps) end
-  pub questions : IsTrue tells → after ≡ before ++ asked Idle steps end
+  pub questions : Asks answers before (asked Idle steps end) after
 
 -- a worker without a claim ran, and then gave its claim back
-pub record Works {B : Type 0} (s : Server) (most : ℕ) (v z : View B) (n m : ℕ) (end : WorkEnd) (tells : Bool) (before after : List Question) : Type 0 where
+pub record Works {B G : Type 0} (s : Server) (most : ℕ) (v z : View B) (n m : ℕ) (end : WorkEnd) (answers : G → TurnStep → Bool → G → Type 0) (before after : G) : Type 0 where
   pub last : At B
-  pub ran : Ran s most (record { view = v; claim = None; faults = n }) last end tells before after
+  pub ran : Ran s most (record { view = v; claim = None; faults = n }) last end answers before after
   pub held : Bool
   pub gave : CallsOn s ⊥ [] last.view z (give_back last.claim) (gave_back held)
   pub faults : last.faults ≡ m

@@ -1,18 +1,16 @@
 //! What a worker asks before each turn.
-ghost use Rattle.std.specs.Prelude.{◌≡◌, ◌++◌, ◌∷◌, [], Bool, IsTrue, List};
+ghost use Rattle.std.specs.Prelude.{Bool};
 ghost use Rattle.shared_api.specs.declared.step.TurnStep.{TurnStep as Step};
 
 use shared_api::TurnStep;
 use std::sync::Wait;
 
-/// What a worker asks before each turn. A gate may tell the questions that it was asked, each with its answer.
+/// What a worker asks before each turn.
 pub trait Gate {
-    /// Whether it tells them.
-    ghost tells: { Bool };
-
-    ghost questions: { Self → List (Step × Bool) };
+    /// How it may answer a question, and what it is after that.
+    ghost answers: { Self → Step → Bool → Self → Type 0 };
 
     /// Whether the worker may take a turn. `last` is how its turn before came out, at first `Idle`. It may wait.
     fn go_on<R: Wait>(&mut self, rt: &R, last: TurnStep) -> bool
-        ensures { IsTrue tells → questions self.new ≡ questions self.old ++ (last, result) ∷ [] };
+        ensures { answers self.old last result self.new };
 }

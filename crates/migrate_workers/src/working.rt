@@ -47,7 +47,7 @@ fn take_turns<V: Versions + Drop, G: Gate, R: Wait>(
     ensures ran { Ran (server_of V.meaning api.now.base) turns
         (record { view = pass.old.view; claim = w.old.claim; faults = V.Tool.faults pass.old.tool })
         (record { view = pass.new.view; claim = w.new.claim; faults = V.Tool.faults pass.new.tool })
-        result G.tells (G.questions gate.old) (G.questions gate.new) }
+        result G.answers gate.old gate.new }
 {
     let mut last = TurnStep::Idle;
     for _i in 0..turns {
@@ -76,7 +76,7 @@ pub fn work<V: Versions + Drop, G: Gate, R: Wait>(
     requires of { IsOf V.meaning api.now pass.old }
     ensures of { IsOf V.meaning api.now pass.new }
     ensures works { Works (server_of V.meaning api.now.base) turns pass.old.view pass.new.view (V.Tool.faults pass.old.tool) (V.Tool.faults pass.new.tool)
-        result G.tells (G.questions gate.old) (G.questions gate.new) }
+        result G.answers gate.old gate.new }
 {
     let mut w = Worker { claim: None };
     let end = take_turns(rt, api, pass, gate, turns, &mut w);

@@ -9,8 +9,9 @@ use Rattle.api_calls.specs.Objects.{Stored, elsewhere}
 use Rattle.api_calls.specs.State.{State, revision, state}
 use Rattle.api_calls.specs.Work.{Turn, Work, work_of, idle_turn, claim_turn, work_turn, whole_turn, work_decision, give_back_of, give_back_decision}
 use Rattle.shared_api.specs.Answered.{CallsOn}
+use Rattle.shared_api.specs.declared.step.TurnStep.{TurnStep}
 use Rattle.turn_cell.specs.declared.view.View.{View}
-use Rattle.migrate_workers.specs.Works.{At, Outcome, Question, AreTurns, outcomes, Works}
+use Rattle.migrate_workers.specs.Works.{At, Outcome, AreTurns, outcomes, Works}
 use Rattle.migrate_workers.specs.declared.working.WorkEnd.{WorkEnd}
 use Rattle.serve_spans.specs.Owners.{IsWorkIf, TakesTurns}
 use Rattle.serve_spans.proofs.Alone.{takes_none, takes_more}
@@ -79,9 +80,9 @@ module _ {B : Type 0} (m : ℕ) (v : View B) (named : v.number ≡ Some m) where
       let r : At B = turns.0 in
       turns_more s r os q (turn_more s (p.faults < r.faults) p.view r.view p.claim turns.1.told h turns.1.calls) turns.2
 
-  works_more : (s : Server) (most : ℕ) (p q : View B) (j k : ℕ) (end : WorkEnd) (tells : Bool) (before after : List Question) → TakesTurns m v p
-      → Works s most p q j k end tells before after → TakesTurns m v q
-  works_more s most p q j k end tells before after h works =
+  works_more : (s : Server) (most : ℕ) (p q : View B) (j k : ℕ) (end : WorkEnd) {G : Type 0} (answers : G → TurnStep → Bool → G → Type 0) (before after : G) → TakesTurns m v p
+      → Works s most p q j k end answers before after → TakesTurns m v q
+  works_more s most p q j k end answers before after h works =
       back_more s works.last.view q works.last.claim (gave_back works.held)
       (turns_more s (record { view = p; claim = None; faults = j }) (outcomes works.ran.steps end) works.last h works.ran.turns) works.gave
 
@@ -89,6 +90,6 @@ pub worked_none : {B : Type 0} (v : View B) → Worked v v
 worked_none v m named = takes_none m v
 
 -- a worker worked once more
-pub worked_more : {B : Type 0} (v p q : View B) (s : Server) (most j k : ℕ) (end : WorkEnd) (tells : Bool) (before after : List Question) → Worked v p
-    → Works s most p q j k end tells before after → Worked v q
-worked_more v p q s most j k end tells before after worked works m named = works_more m v named s most p q j k end tells before after (worked m named) works
+pub worked_more : {B : Type 0} (v p q : View B) (s : Server) (most j k : ℕ) (end : WorkEnd) {G : Type 0} (answers : G → TurnStep → Bool → G → Type 0) (before after : G) → Worked v p
+    → Works s most p q j k end answers before after → Worked v q
+worked_more v p q s most j k end answers before after worked works m named = works_more m v named s most p q j k end answers before after (worked m named) works

@@ -226,7 +226,7 @@ fn dismiss_one<V: Versions + Drop, G: Gate + Drop, R: Threads>(
     ensures of { IsOf V.meaning api.now pass.new }
     ensures joined { (r : Known (CoreBase V) V.Tool) × Worked hired.running.handle.promise.job.value.pass.view r.view × Meets pass.old.view r.view pass.new.view }
 {
-    let Hired { running, open: _ } = hired;
+    let Hired { running, shut: _ } = hired;
     let back = running.join(rt);
     api.meet(pass, back);
 }

@@ -1,5 +1,6 @@
 //! What workers ask before each turn.
-ghost use Rattle.std.specs.Prelude.{[], false};
+ghost use Rattle.std.specs.Prelude.{◌≡◌, IsTrue};
+ghost use Rattle.serve_many.specs.Gates.{Rests};
 
 use migrate_workers::Gate;
 use shared_api::TurnStep;
@@ -25,9 +26,7 @@ pub struct RestingGate<'s, T> {
 }
 
 impl<'s, T: Clock> Gate for RestingGate<'s, T> {
-    ghost tells = { false };
-
-    ghost questions = { λ g. [] };
+    ghost answers = { λ g last may h. Rests last g.pause h.pause × (h.shut ≡ g.shut) };
 
     fn go_on<R: Wait>(&mut self, _rt: &R, last: TurnStep) -> bool {
         if last != TurnStep::Idle {
@@ -45,9 +44,7 @@ impl<'s, T: Clock> Gate for RestingGate<'s, T> {
 pub struct OpenGate;
 
 impl Gate for OpenGate {
-    ghost tells = { false };
-
-    ghost questions = { λ g. [] };
+    ghost answers = { λ g last may h. IsTrue may };
 
     fn go_on<R: Wait>(&mut self, _rt: &R, _last: TurnStep) -> bool {
         true

@@ -9,5 +9,5 @@ invariant-loop-i g l = record {
   going : Going (server_of g.V.Versions.meaning l.api.base) l._i
       (record { view = l.initial.pass.view; claim = l.initial.w.claim; faults = g.V.Tool.Tool.faults l.initial.pass.tool })
       (record { view = l.pass.view; claim = l.w.claim; faults = g.V.Tool.Tool.faults l.pass.tool })
-      l.last g.G.Gate.tells (g.G.Gate.questions l.initial.gate) (g.G.Gate.questions l.gate);
+      l.last g.G.Gate.answers l.initial.gate l.gate;
 }
