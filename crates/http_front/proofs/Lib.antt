@@ -3,3 +3,4 @@ pub mod Sound
 pub mod Calling
 pub mod Talking
 pub mod Failures
+pub mod Pacing

@@ -5,4 +5,5 @@ pub mod Talk
 pub mod One
 pub mod Link
 pub mod Going
+pub mod Paced
 pub mod Failures

@@ -1,6 +1,6 @@
 -- A conversation over any step: requests, their answers and how it ends. A step leads from a state by a request and its
 -- answer to a state.
-use Rattle.std.specs.Prelude.{◌≡◌, ◌-◌, ◌<◌, ◌++◌, ℕ, List, [], ◌∷◌, map, Option, Some, MatchBool}
+use Rattle.std.specs.Prelude.{◌≡◌, ◌-◌, ◌<◌, ◌++◌, ℕ, List, [], ◌∷◌, map, Option, Some, MatchBool, IsUtf8}
 use Rattle.std.specs.Io.KnownBytes.{append_known}
 use Rattle.api_calls.specs.Reply.{ReplyView}
 use Rattle.http_wire.specs.Head.{Request, Reads}
@@ -8,9 +8,11 @@ use Rattle.http_wire.specs.Response.{says}
 use Rattle.http_wire.specs.Stream.{End, Asks}
 use Rattle.http_front.specs.Faults.{last_words}
 
+-- a request and its answer, whose text is UTF-8
 pub record Exchange : Type 0 where
   pub request : Request
   pub answer : ReplyView
+  pub utf8 : IsUtf8 answer.text
 
 abbrev pub asked : List Exchange → List Request
 asked xs = map (λ x. x.request) xs

@@ -1,11 +1,12 @@
 //! One connection.
-ghost use Rattle.std.specs.Prelude.{◌≡◌, ◌≤◌, ◌<◌, ℕ, [], Some};
+ghost use Rattle.std.specs.Prelude.{◌≡◌, ◌⊎◌, ◌≤◌, ◌<◌, ℕ, List, [], Some};
 ghost use Rattle.edge_io.specs.Causes.{Rose};
 ghost use Rattle.http_wire.specs.declared.limits.TheConstants.{MOST_REQUESTS};
 ghost use Rattle.shared_api.specs.Base.{server_of};
 ghost use Rattle.shared_api.specs.Passes.{IsOf};
 ghost use Rattle.http_front.specs.Steps.{StepAnswers, IsSameBut, Quiet, point_of};
 ghost use Rattle.http_front.specs.Link.{LinkBlames, Links, UnlessUnwritten};
+ghost use Rattle.http_front.specs.Paced.{Paced};
 
 use crate::one::{OneEnd, serve_one};
 use crate::reply::refuse_link;
@@ -50,6 +51,10 @@ pub fn serve_requests<V: Versions + Drop, S: Source, K: Sink, C: Clock, R: Wait>
     ensures links { (n : ℕ) → pass.old.view.number ≡ Some n
         → Links (StepAnswers (record { server = server_of V.meaning api.now.base; told = C.told clock.now }) n) MOST_REQUESTS ⊥ result
         (point_of V.Tool.faults pass.old) (point_of V.Tool.faults pass.new) (S.left input.old) (K.written output.old) (K.written output.new) }
+    ensures paced { (n : ℕ) → pass.old.view.number ≡ Some n
+        → Paced (StepAnswers (record { server = server_of V.meaning api.now.base; told = C.told clock.now }) n) (S.most input.old) result
+        (point_of V.Tool.faults pass.old) (record { held = inbox.old.bytes; left = S.left input.old; written = K.written output.old; flushed = K.flushed output.old })
+        (point_of V.Tool.faults pass.new) (record { held = inbox.new.bytes; left = S.left input.new; written = K.written output.new; flushed = K.flushed output.new }) }
     ensures same { IsSameBut pass.old.view pass.new.view }
     ensures quiet { (n : ℕ) → pass.old.view.number ≡ Some n → Quiet n pass.old.view pass.new.view }
     ensures flushed { UnlessUnwritten result (K.flushed output.old ≡ K.written output.old → K.flushed output.new ≡ K.written output.new) }
@@ -91,6 +96,12 @@ pub fn serve_link<V: Versions + Drop, S: Source, K: Sink, C: Clock, R: Wait>(
     ensures links { (n : ℕ) → pass.old.view.number ≡ Some n
         → Links (StepAnswers (record { server = server_of V.meaning api.now.base; told = C.told clock.now }) n) MOST_REQUESTS (input.new ≡ input.old) result
         (point_of V.Tool.faults pass.old) (point_of V.Tool.faults pass.new) (S.left input.old) (K.written output.old) (K.written output.new) }
+    // Where anything was read, each request was answered and its answer handed on before more was read, and nothing was read behind one
+    // that asked for closing but what came with it.
+    ensures paced { (n : ℕ) → pass.old.view.number ≡ Some n → (input.new ≡ input.old) ⊎ ((held : List ℕ)
+        × Paced (StepAnswers (record { server = server_of V.meaning api.now.base; told = C.told clock.now }) n) (S.most input.old) result
+        (point_of V.Tool.faults pass.old) (record { held = []; left = S.left input.old; written = K.written output.old; flushed = K.flushed output.old })
+        (point_of V.Tool.faults pass.new) (record { held = held; left = S.left input.new; written = K.written output.new; flushed = K.flushed output.new })) }
     // Of the pass only its list changes, and no item is new of a pass that was met into it; where it is alone, none of any other.
     ensures same { IsSameBut pass.old.view pass.new.view }
     ensures quiet { (n : ℕ) → pass.old.view.number ≡ Some n → Quiet n pass.old.view pass.new.view }

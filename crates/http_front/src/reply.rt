@@ -1,5 +1,5 @@
 //! Answers as they are made and written.
-ghost use Rattle.std.specs.Prelude.{◌≡◌, ◌⊎◌, IfOk, OnOk, true};
+ghost use Rattle.std.specs.Prelude.{◌≡◌, ◌⊎◌, IfOk, OnOk, true, IsUtf8};
 ghost use Rattle.edge_io.specs.Causes.{HasCause};
 ghost use Rattle.edge_io.specs.Sends.{Sends};
 ghost use Rattle.http_wire.specs.Response.{HasPhrase, says};
@@ -124,6 +124,7 @@ fn write_answer<K: Sink>(out: &mut K, answer: &Answer, closing: bool) -> Result<
     ensures sent { Sends (K.written out.old) (K.written out.new) (says (answer_of answer.now).code (answer_of answer.now).text closing) result }
     ensures cause { HasCause (K.faults out.old) (K.faults out.new) result }
     ensures number { K.number out.new ≡ K.number out.old }
+    ensures utf8 { IsUtf8 (answer_of answer.now).text }
 {
     match answer {
         Answer::Reply(reply) => {
@@ -141,6 +142,8 @@ pub fn hand_on<K: Sink>(output: &mut K, answer: &Answer, closing: bool) -> Resul
     ensures flushed { OnOk result (K.flushed output.new ≡ K.written output.new) }
     ensures cause { HasCause (K.faults output.old) (K.faults output.new) result }
     ensures number { K.number output.new ≡ K.number output.old }
+    // The text of an answer is UTF-8.
+    ensures utf8 { IsUtf8 (answer_of answer.now).text }
 {
     write_answer(output, answer, closing)?;
     output.flush()

@@ -1,4 +1,5 @@
-use Rattle.std.proofs.Common.{refl}
+use Rattle.std.proofs.Common.{refl, inl, inr, ap}
+use Rattle.http_front.proofs.Pacing.{from_empty}
 use Rattle.http_front.proofs.Talking.{broke_memory, had_memory}
 use Rattle.http_front.proofs.link.serve_link.Goals as goal
 
@@ -10,3 +11,12 @@ returns-in-Ok-refuse_link-clause-flushed g c = λ first. c.in-Ok-refuse_link.ens
 
 pub returns-in-Ok-clause-links : goal.returns-in-Ok-clause-links
 returns-in-Ok-clause-links g c = λ n named. had_memory _ _ _ c.serve_requests.result _ _ _ _ _ (c.serve_requests.ensures.links n named)
+
+pub returns-in-Err-refuse_link-clause-paced : goal.returns-in-Err-refuse_link-clause-paced
+returns-in-Err-refuse_link-clause-paced g c = λ n named. inl refl
+
+pub returns-in-Ok-refuse_link-clause-paced : goal.returns-in-Ok-refuse_link-clause-paced
+returns-in-Ok-refuse_link-clause-paced g c = λ n named. inl refl
+
+pub returns-in-Ok-clause-paced : goal.returns-in-Ok-clause-paced
+returns-in-Ok-clause-paced g c = λ n named. inr (c.serve_requests.new.inbox.bytes, from_empty _ (ap (λ i. i.bytes) c.in-Ok.ensures) (c.serve_requests.ensures.paced n named))

@@ -1,6 +1,8 @@
 use Rattle.std.proofs.Common.{◌∙◌, None, refl, arith, inl, inr}
 use Rattle.http_front.specs.Steps.{point_of}
 use Rattle.http_front.proofs.Calling.{quiet_on, same_number, same_on}
+use Rattle.http_front.specs.Paced.{none_yet, one_more}
+use Rattle.http_front.proofs.Pacing.{took, finished, quiet_hands}
 use Rattle.http_front.proofs.Talking.{so_far_from, so_far_more, ended_so, ended_last, ended_spent, broke_reading, broke}
 use Rattle.http_front.proofs.link.serve_requests.Goals as goal
 
@@ -8,6 +10,8 @@ pub loop-count-init : goal.loop-count-init
 loop-count-init g c = record {
   of = c.requires.of;
   so_far = λ n named. so_far_from _ _ _ _ _ c.requires.empty;
+  paced = λ n named. none_yet;
+  most = refl;
   same = refl;
   quiet = λ n named m other known. refl;
   flushed = λ first. first;
@@ -22,6 +26,9 @@ pub loop-count-preserved : goal.loop-count-preserved
 loop-count-preserved g c = record {
   of = c.in-Answered.ensures.of;
   so_far = λ n named. so_far_more _ _ _ _ _ _ _ _ _ _ _ (c.loop-count.invariant.so_far n named) (c.in-Answered.ensures.did n (same_number c.args.pass.now.view c.loop-count.pass.view n c.loop-count.invariant.same named));
+  paced = λ n named. one_more _ _ _ _ (c.loop-count.invariant.paced n named) (took g.S.Source.left g.S.Source.most (c.in-Answered.ensures.did n (same_number c.args.pass.now.view c.loop-count.pass.view n c.loop-count.invariant.same named))
+      c.in-Answered.ensures.ready c.in-Answered.ensures.prompt c.in-Answered.ensures.flushed c.loop-count.invariant.most);
+  most = c.in-Answered.ensures.most ∙ c.loop-count.invariant.most;
   same = same_on c.args.pass.now.view c.loop-count.pass.view c.serve_one.new.pass.view c.loop-count.invariant.same c.in-Answered.ensures.same;
   quiet = λ n named. quiet_on n c.args.pass.now.view c.loop-count.pass.view c.serve_one.new.pass.view c.loop-count.invariant.same (c.loop-count.invariant.quiet n named)
       (c.in-Answered.ensures.quiet n (same_number c.args.pass.now.view c.loop-count.pass.view n c.loop-count.invariant.same named));
@@ -120,3 +127,42 @@ returns-in-ReadFault-clause-flushed g c = λ first. rw c.in-ReadFault.ensures.fl
 
 pub returns-clause-flushed : goal.returns-clause-flushed
 returns-clause-flushed g c = c.loop-count.invariant.flushed
+
+pub returns-in-Last-clause-paced : goal.returns-in-Last-clause-paced
+returns-in-Last-clause-paced g c = λ n named.
+    finished _ _ (c.loop-count.invariant.paced n named)
+    (inr (took g.S.Source.left g.S.Source.most (c.in-Last.ensures.did n (same_number c.args.pass.now.view c.loop-count.pass.view n c.loop-count.invariant.same named))
+    c.in-Last.ensures.ready c.in-Last.ensures.prompt c.in-Last.ensures.flushed c.loop-count.invariant.most))
+
+pub returns-in-Closed-clause-paced : goal.returns-in-Closed-clause-paced
+returns-in-Closed-clause-paced g c = λ n named.
+    finished _ _ (c.loop-count.invariant.paced n named)
+    (inl (took g.S.Source.left g.S.Source.most (c.in-Closed.ensures.did n (same_number c.args.pass.now.view c.loop-count.pass.view n c.loop-count.invariant.same named))
+    c.in-Closed.ensures.ready c.in-Closed.ensures.prompt (quiet_hands g.K.Sink.written g.K.Sink.flushed c.in-Closed.ensures.flushed) c.loop-count.invariant.most))
+
+pub returns-in-Torn-clause-paced : goal.returns-in-Torn-clause-paced
+returns-in-Torn-clause-paced g c = λ n named.
+    finished _ _ (c.loop-count.invariant.paced n named)
+    (took g.S.Source.left g.S.Source.most (c.in-Torn.ensures.did n (same_number c.args.pass.now.view c.loop-count.pass.view n c.loop-count.invariant.same named))
+    c.in-Torn.ensures.ready c.in-Torn.ensures.prompt (quiet_hands g.K.Sink.written g.K.Sink.flushed c.in-Torn.ensures.flushed) c.loop-count.invariant.most)
+
+pub returns-in-Refused-clause-paced : goal.returns-in-Refused-clause-paced
+returns-in-Refused-clause-paced g c = λ n named.
+    finished _ _ (c.loop-count.invariant.paced n named)
+    (took g.S.Source.left g.S.Source.most (c.in-Refused.ensures.did n (same_number c.args.pass.now.view c.loop-count.pass.view n c.loop-count.invariant.same named))
+    c.in-Refused.ensures.ready c.in-Refused.ensures.prompt c.in-Refused.ensures.flushed c.loop-count.invariant.most)
+
+pub returns-in-ReadFault-clause-paced : goal.returns-in-ReadFault-clause-paced
+returns-in-ReadFault-clause-paced g c = λ n named.
+    finished _ _ (c.loop-count.invariant.paced n named)
+    (took g.S.Source.left g.S.Source.most (c.in-ReadFault.ensures.did n (same_number c.args.pass.now.view c.loop-count.pass.view n c.loop-count.invariant.same named))
+    c.in-ReadFault.ensures.ready c.in-ReadFault.ensures.prompt (quiet_hands g.K.Sink.written g.K.Sink.flushed c.in-ReadFault.ensures.flushed) c.loop-count.invariant.most)
+
+pub returns-in-WriteFault-clause-paced : goal.returns-in-WriteFault-clause-paced
+returns-in-WriteFault-clause-paced g c = λ n named.
+    finished _ _ (c.loop-count.invariant.paced n named)
+    (took g.S.Source.left g.S.Source.most (c.in-WriteFault.ensures.did n (same_number c.args.pass.now.view c.loop-count.pass.view n c.loop-count.invariant.same named))
+    c.in-WriteFault.ensures.ready c.in-WriteFault.ensures.prompt tt c.loop-count.invariant.most)
+
+pub returns-clause-paced : goal.returns-clause-paced
+returns-clause-paced g c = λ n named. finished _ _ (c.loop-count.invariant.paced n named) (refl, refl)

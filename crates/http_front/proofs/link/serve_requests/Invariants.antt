@@ -4,6 +4,7 @@ use Rattle.http_wire.specs.declared.limits.TheConstants.{MOST_REQUESTS}
 use Rattle.shared_api.specs.Base.{server_of}
 use Rattle.shared_api.specs.Passes.{IsOf}
 use Rattle.http_front.specs.Steps.{StepAnswers, IsSameBut, Quiet, point_of}
+use Rattle.http_front.specs.Paced.{InTurn}
 use Rattle.http_front.proofs.Talking.{SoFar}
 use Rattle.http_front.proofs.link.serve_requests.Given as goal
 
@@ -14,6 +15,11 @@ invariant-loop-count g l = record {
       → SoFar (StepAnswers (record { server = server_of g.V.Versions.meaning l.api.base; told = g.C.Clock.told l.clock }) n)
       (point_of g.V.Tool.Tool.faults l.fn.pass) (point_of g.V.Tool.Tool.faults l.pass) l.count
       (g.S.Source.left l.fn.input) (prepend_known l.inbox.bytes (g.S.Source.left l.input)) (g.K.Sink.written l.fn.output) (g.K.Sink.written l.output);
+  paced : (n : ℕ) → l.fn.pass.view.number ≡ Some n
+      → InTurn (StepAnswers (record { server = server_of g.V.Versions.meaning l.api.base; told = g.C.Clock.told l.clock }) n) (g.S.Source.most l.fn.input)
+      (point_of g.V.Tool.Tool.faults l.fn.pass) (record { held = l.fn.inbox.bytes; left = g.S.Source.left l.fn.input; written = g.K.Sink.written l.fn.output; flushed = g.K.Sink.flushed l.fn.output })
+      (point_of g.V.Tool.Tool.faults l.pass) (record { held = l.inbox.bytes; left = g.S.Source.left l.input; written = g.K.Sink.written l.output; flushed = g.K.Sink.flushed l.output });
+  most : g.S.Source.most l.input ≡ g.S.Source.most l.fn.input;
   same : IsSameBut l.fn.pass.view l.pass.view;
   quiet : (n : ℕ) → l.fn.pass.view.number ≡ Some n → Quiet n l.fn.pass.view l.pass.view;
   flushed : g.K.Sink.flushed l.fn.output ≡ g.K.Sink.written l.fn.output → g.K.Sink.flushed l.output ≡ g.K.Sink.written l.output;

@@ -8,7 +8,7 @@ use Rattle.http_front.proofs.one.serve_one.Goals as goal
 pub returns-in-Ok-hand_on-clause-did : goal.returns-in-Ok-hand_on-clause-did
 returns-in-Ok-hand_on-clause-did g c = λ n named.
     rw c.step_of.ensures (did_either _ c.in-Ok.parts.closing _ _ _ _ _ _ (record {
-      exchange = record { request = request_at c.read_request.new.inbox.bytes c.in-Ok.parts; answer = answer_of c.answer_request-answer.result };
+      exchange = record { request = request_at c.read_request.new.inbox.bytes c.in-Ok.parts; answer = answer_of c.answer_request-answer.result; utf8 = c.in-Ok-hand_on.ensures.utf8 };
       step = c.answer_request-answer.ensures.answers n named;
       reads = λ b known. let next = c.in-Ok.ensures.asks b known in (next.0, rw c.used.ensures next.1, next.2);
       asked = refl;
@@ -18,7 +18,7 @@ returns-in-Ok-hand_on-clause-did g c = λ n named.
 pub returns-in-Ok-clause-did : goal.returns-in-Ok-clause-did
 returns-in-Ok-clause-did g c = λ n named.
     inl (record {
-      exchange = record { request = request_at c.read_request.new.inbox.bytes c.in-Ok.parts; answer = answer_of c.answer_request-answer.result };
+      exchange = record { request = request_at c.read_request.new.inbox.bytes c.in-Ok.parts; answer = answer_of c.answer_request-answer.result; utf8 = c.in-Err.ensures.utf8 };
       step = c.answer_request-answer.ensures.answers n named;
       reads = λ b known. let next = c.in-Ok.ensures.asks b known in (next.0, rw c.used.ensures next.1, next.2);
       some = c.in-Err.ensures.sent;
