@@ -42,7 +42,6 @@ module _ (other : Meaning) where
   absent : IsAbsentOrAt v1beta1 (key (codes "b")) (state unknown (a ∷ []))
   absent = tt
 
-
   abbrev object : List ℕ → ℕ → Stored
   object name number = record { key = key name; h = fresh name; number = number; at = v1beta1; born = number; weight = 1 }
 
