@@ -33,7 +33,7 @@ def read(crate):
     """Each title of a crate with its cases and their answers."""
     folder = TOP / "crates" / crate
     if not (folder / "stdin").is_file() or not (folder / "stdout").is_file():
-        having = sorted(it.parent.name for it in TOP.glob("crates/*_tests/stdin"))
+        having = sorted(it.parent.name for it in TOP.glob("crates/test_*/stdin"))
         sys.exit(f"{crate} has no cases; these have: {' '.join(having)}")
     given, wanted = ((folder / it).read_text(errors="replace").split("\n") for it in ("stdin", "stdout"))
     cases = blocks_of(given)
