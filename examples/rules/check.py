@@ -3,11 +3,13 @@
 
     python3 examples/rules/check.py PROGRAM
 
-PROGRAM is a built kubeconv, or the launcher ./kubeconv. Each NAME.http is answered by one run of `pipe`: what it creates is created,
-and what it reads at the other version gives what was created when it is converted back. Each NAME.objects.json has objects, each with
+PROGRAM is a built kubeconv, or the launcher ./kubeconv. Each NAME.http is answered by one run of `pipe`: what it writes is written,
+and what it reads of that at the other version gives what was written when it is converted back. Each NAME.objects.json has objects, each with
 the version that it is converted `to`, what is `shown` there, and what is `kept` in the annotation; converted back it is the object as
 it was. cases.json has what docs/RULES.md says of rules: the fields of a `spoke` and of its `hub`, the rules between them, and with which
-path and word they are `refused`; or fields `at_spoke` and `at_hub` that are the same, or what is `shown` of those `from_` one of them.
+path and word they are `refused`; or fields `at_spoke` and `at_hub` that are the same, or what is `shown` of those `from_` one of them,
+where something is `kept` unless it says false, and which come `back` as they were or with defaults. A case may have the fields of a
+`second` spoke, with `second_rules`.
 Of prepare/definitions.json tools/prepare_crd.py makes widgets.json, saying what stands in widgets.said, and of the other definition it
 says what stands in gadgets.said. Prints a line for each file; what differs is told on standard error, and then the status is 1.
 """
@@ -20,7 +22,9 @@ import tempfile
 
 HERE = pathlib.Path(__file__).resolve().parent
 KEPT = re.compile(r"(hub|spoke)\.kubeconv\.local/")
-HUB, SPOKE = "v1", "v1beta1"
+HUB, SPOKE, SECOND = "v1", "v1beta1", "v1alpha1"
+# What stands before a path.
+METHODS = re.compile(rb"(GET|POST|PUT) /apis/")
 
 
 class Wrong(Exception):
@@ -87,17 +91,18 @@ def answers(output):
 
 def try_requests(program, file):
     rules = Rules(program, file.stem)
-    came = list(answers(rules.run("pipe", file.read_bytes())))
-    same("codes", [code for code, _ in came], [201, 200] * (len(came) // 2))
-    for (_, created), (_, read) in zip(came[::2], came[1::2]):
-        same("the version", version_of(read) != version_of(created), True)
-        same(f"{created['metadata']['name']} converted back", rules.convert(read, version_of(created)), created)
-    return f"{len(came) // 2} objects, created and read at the other version"
+    given = file.read_bytes()
+    came = list(answers(rules.run("pipe", given)))
+    same("codes", [code for code, _ in came], [201 if it == b"POST" else 200 for it in METHODS.findall(given)])
+    for (_, written), (_, read) in zip(came[::2], came[1::2], strict=True):
+        same("the version", version_of(read) != version_of(written), True)
+        same(f"{written['metadata']['name']} converted back", rules.convert(read, version_of(written)), written)
+    return f"{len(came) // 2} objects, written and read at the other version"
 
 
 def definition(case):
-    """The definition of a case: two versions, each with its fields."""
-    schemas = [(HUB, case["hub"]), (SPOKE, case["spoke"])]
+    """The definition of a case: two versions or three, each with its fields."""
+    schemas = [(HUB, case["hub"]), (SPOKE, case["spoke"])] + ([(SECOND, case["second"])] if "second" in case else [])
     versions = [
         {"name": name, "served": True, "storage": name == HUB, "schema": {"openAPIV3Schema": {"type": "object", "properties": fields}}}
         for name, fields in schemas
@@ -114,7 +119,7 @@ def ways(case):
     """The conversions of a case: from where and of what, to where, what is shown there, and whether something is kept."""
     if "shown" in case:
         at, to = (SPOKE, HUB) if "from_spoke" in case else (HUB, SPOKE)
-        return [(at, case["from_spoke" if at == SPOKE else "from_hub"], to, case["shown"], True)]
+        return [(at, case["from_spoke" if at == SPOKE else "from_hub"], to, case["shown"], case.get("kept", True))]
     spoke, hub = case["at_spoke"], case["at_hub"]
     return [(SPOKE, spoke, HUB, hub, False), (HUB, hub, SPOKE, spoke, False)]
 
@@ -132,7 +137,8 @@ def try_case(rules, case):
         shown, kept = parted(came)
         same(case["of"], shown, crontab(to, wanted))
         same(f"{case['of']}: kept", bool(kept), is_kept)
-        same(f"{case['of']}: converted back", rules.convert(came, at), crontab(at, fields))
+        back = rules.convert(came, at)
+        same(f"{case['of']}: converted back", parted(back)[0] if "back" in case else back, crontab(at, case.get("back", fields)))
 
 
 def try_cases(program, file):
@@ -141,7 +147,8 @@ def try_cases(program, file):
         folder = pathlib.Path(to)
         for case in cases:
             (folder / "case.json").write_text(json.dumps(definition(case)))
-            (folder / "case.rules.json").write_text(json.dumps({"hub": HUB, "spokes": {SPOKE: case["rules"]}}))
+            spokes = {SPOKE: case["rules"], **({SECOND: case["second_rules"]} if "second" in case else {})}
+            (folder / "case.rules.json").write_text(json.dumps({"hub": HUB, "spokes": spokes}))
             try_case(Rules(program, "case", folder), case)
     return f"{len(cases)} cases"
 
