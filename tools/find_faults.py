@@ -4,18 +4,16 @@
     python3 tools/find_faults.py CRD RULES
 
 CRD and RULES are files of JSON. It prints a list of objects as JSON, in the order in which loading looks: `file`, which is crd or rules,
-`path` and `word`, as loading has them, and `says`. ./explain hands the list to the program `explain`, which loads the two files: it tells
-a fault only where loading does, and the one that loading tells first. So nothing that is proved rests on this search.
+`path` and `word`, as loading has them, and `says`. tools/explain.py tells them only where the program `explain` says that the two files
+don't load, and first the one that loading tells. So nothing that is proved rests on this search.
 """
 import json
 import sys
 
+from default_faults import Spokes, late_faults
 from document_faults import definition_faults, rules_faults
 from fault_texts import Faults, Unwhole, inside, list_at
 from fit_faults import fit_faults
-from schemas import Schema
-
-MOST_BYTES = 4_000_000
 
 
 def whole(text):
@@ -55,12 +53,12 @@ def document(faults, text):
 
 
 def spokes_faults(faults, versions, rules):
-    """The faults of each spoke's rules, of a definition and rules that have none by themselves."""
-    schemas = {v["name"]: Schema(v["schema"]["openAPIV3Schema"], is_root=True) for v in versions}
-    hub = rules["hub"]
-    for name, schema in schemas.items():
-        if name != hub:
-            fit_faults(faults, [name, hub], rules["spokes"].get(name, []), [schema, schemas[hub]])
+    """The faults of the rules of all spokes, of a definition and rules that have none by themselves."""
+    spokes = Spokes(faults, versions, rules)
+    for root in spokes.roots:
+        fit_faults(root)
+    if not faults.found:
+        late_faults(faults, spokes)
 
 
 def find(crd_text, rules_text):
@@ -89,17 +87,17 @@ def text_of(path):
         return file.read()
 
 
-def main(crd, rules):
+def find_in_files(crd, rules):
+    """All faults of two files. What can't be read, or is too deep for this search, has none here; the program tells of it."""
     try:
-        found = find(text_of(crd), text_of(rules))
+        return find(text_of(crd), text_of(rules))
     except (OSError, UnicodeDecodeError, RecursionError):
-        # (the program tells what can't be read, and what is too deep)
-        found = []
-    data = json.dumps(found, ensure_ascii=False).encode("utf-8", "replace")
-    while len(data) > MOST_BYTES:
-        found = found[: len(found) // 2]
-        data = json.dumps(found, ensure_ascii=False).encode("utf-8", "replace")
-    sys.stdout.buffer.write(data + b"\n")
+        return []
+
+
+def main(crd, rules):
+    found = find_in_files(crd, rules)
+    sys.stdout.buffer.write(json.dumps(found, ensure_ascii=False).encode("utf-8", "replace") + b"\n")
 
 
 if __name__ == "__main__":

@@ -1,11 +1,11 @@
 """All faults of one spoke's rules, held against the schemas of its version and of the hub. It is no command: tools/find_faults.py finds
-faults by it.
+faults by it, and tools/default_faults.py those of all spokes together.
 
 It goes over the levels as loading does: a level whole before those inside it, and at a level the reasons in one order; but it goes on
 behind the first fault. A rule that names what isn't there is told of that alone.
 """
 from fault_texts import alike, is_whole, meant, shown
-from schemas import are_equal, differences, fault
+from schemas import are_alike, differences, fault
 
 SPOKE, HUB = 0, 1
 MOST_PAIRS = 2_000
@@ -51,6 +51,13 @@ class Level:
 
     def is_ruled(self, side, name):
         return any(rule.has(side, name) for rule in self.rules)
+
+    def cells(self):
+        """The rules of fields that aren't opened, and one for each name that no rule has and that goes over as it is."""
+        there = self.schemas[HUB]
+        names = [it for it in self.schemas[SPOKE].properties if not self.is_ruled(SPOKE, it) and not self.is_ruled(HUB, it)]
+        free = [Rule(None, {"same": [name, name]}) for name in names if there.field(name)]
+        return [rule for rule in self.rules if rule.kind != "object"] + free
 
     def node(self, spot):
         return self.schemas[spot.side].field(spot.name)
@@ -140,9 +147,9 @@ def cure_of(one, two):
 
 
 def try_same(level, spots, rule=None):
-    """Tells where two fields aren't equal, or one side alone requires its own."""
+    """Tells where two fields differ in more than their own defaults, or one side alone requires its own."""
     one, two = map(level.node, spots)
-    if not are_equal(one, two):
+    if not are_alike(one, two):
         found = f"the two schemas differ: {differences(level.versions, one, two)}"
         level.tell("SchemaDiffers", f"{found}; make them equal, or {cure_of(one, two)}", spots[0], rule)
     try_alone(level, spots, "SchemaDiffers", rule)
@@ -182,28 +189,15 @@ def free_schemas(level):
 # ---- defaults
 
 def wanted_default(rule, side, v):
-    """What the default of the other side has to be: in words, and as a list of the one value where there is one."""
-    if rule.kind == "table":
-        for pair in rule.value["pairs"]:
-            if alike(pair[side], v):
-                return f"the default {shown(pair[1 - side])}", [pair[1 - side]]
-        return "a pair in the table and its value there", []
-    by = rule.value["by"]
-    if not is_whole(v):
-        return "a whole number", []
-    if side == SPOKE:
-        there = by * v
-        if not INT64[0] <= there <= INT64[1]:
-            return "a number beyond 64 bits", []
-    elif v % by:
-        return "a default, and make this one as many times as much as the factor says", []
-    else:
-        there = v // by
-    return f"the default {there}", [there]
+    """What the default of the table's other side has to be: in words, and as a list of the one value where there is one."""
+    for pair in rule.value["pairs"]:
+        if alike(pair[side], v):
+            return f"the default {shown(pair[1 - side])}", [pair[1 - side]]
+    return "a pair in the table and its value there", []
 
 
 def try_pair(level, rule):
-    """Where the defaults of two names aren't one by the rule."""
+    """Where the defaults of two names aren't one by the table."""
     one, two = map(level.node, rule.spots)
     versions = level.versions
     for own, side, beside in ((one, SPOKE, two), (two, HUB, one)):
@@ -222,15 +216,15 @@ def try_pair(level, rule):
 
 
 def rule_defaults(level, rule):
-    """Where defaults of a rule's names don't go together."""
-    if rule.kind in ("table", "scale"):
+    """Where defaults of a rule's names don't go together. At `same` and `scale` any do."""
+    if rule.kind == "table":
         try_pair(level, rule)
-        for blank in BLANKS if rule.kind == "table" and level.node(rule.spots[0]).has_default else ():
+        for blank in BLANKS if level.node(rule.spots[0]).has_default else ():
             if rule.value[blank] is None:
                 why = f"`{blank}` is null and the fields have defaults, by which an absent field is filled"
                 says = f"{why}; give `{blank}` a value, or take the defaults out"
                 level.tell_rule("UnpairedDefault", says, rule)
-    elif rule.kind != "same":
+    elif rule.kind not in ("same", "scale"):
         for spot in rule.spots:
             node = level.node(spot)
             if node.has_default:
@@ -381,17 +375,17 @@ def levels_inside(level):
             yield Level(level.faults, level.versions, paths, nodes, place, rule.value["rules"])
 
 
-def fit_faults(faults, versions, lines, schemas):
-    """All faults of a spoke's rules for its schema and the hub's, of versions of these names."""
-    is_open = False
-    for version, schema in zip(versions, schemas):
+def fit_faults(root):
+    """All faults of a spoke's rules, whose first level this is, for its schema and the hub's."""
+    faults, is_open = root.faults, False
+    for version, schema in zip(root.versions, root.schemas):
         if schema.unclosed():
-            root = "its root has to be an object with `properties` and without these"
-            faults.tell("", "SchemaDiffers", f"the schema of {version} {schema.unclosed()}; {root}")
+            why = "its root has to be an object with `properties` and without these"
+            faults.tell("", "SchemaDiffers", f"the schema of {version} {schema.unclosed()}; {why}")
             is_open = True
         elif schema.has_default:
             faults.tell("", "UnpairedDefault", f"the schema of {version} has a default at its root; take it out")
-    levels = [] if is_open else [Level(faults, versions, ["", ""], schemas, f"spokes.{versions[0]}", lines)]
+    levels = [] if is_open else [root]
     while levels:
         level = levels.pop()
         try_level(level)

@@ -46,7 +46,7 @@ class Schema:
         return max(low, self.doc.get("minimum", low)), min(high, self.doc.get("maximum", high))
 
     def keywords(self):
-        """The keywords with what they have, as texts, but for those that have nodes."""
+        """The keywords with what they have, as texts, but for those that have nodes. The last one is the default."""
         doc = self.doc
         yield "type", self.kind
         yield OPEN, "true" if doc.get(OPEN) is True else "none"
@@ -147,7 +147,7 @@ def depth(v):
 # ---- what differs
 
 def differences(versions, one, two):
-    """What differs between two schemas, keyword by keyword; of many differences the first ones."""
+    """What differs between two schemas in more than their own defaults, keyword by keyword; of many differences the first ones."""
     found, nodes = [], [("", one, two)]
 
     def add(keyword, path, first, second):
@@ -165,7 +165,7 @@ def differences(versions, one, two):
     while nodes:
         path, one, two = nodes.pop()
         for (keyword, first), (_, second) in zip(one.keywords(), two.keywords()):
-            if first != second:
+            if first != second and (path or keyword != "default"):
                 add(keyword, path, first, second)
         for name, node in (one.properties or {}).items():
             pair(path, name, node, two.field(name))
@@ -178,13 +178,15 @@ def differences(versions, one, two):
     return told or "in a long `enum`, or deep inside"
 
 
-def are_equal(one, two):
-    """Whether two schemas say the same in every keyword that is read, those inside of them too."""
+def are_alike(one, two, is_inside=False):
+    """Whether two schemas say the same in every keyword that is read, those inside of them too; but for their own defaults, where they
+    aren't inside others."""
     def own(s):
-        return list(s.keywords())[:10], s.choices, s.required, s.has_default, s.default, sorted(s.properties or {}), s.properties is None
+        default = [s.has_default, s.default] if is_inside else []
+        return list(s.keywords())[:10], s.choices, s.required, default, sorted(s.properties or {}), s.properties is None
 
     inner = [(one.additional, two.additional), (one.items, two.items)]
     if [it is None for it, _ in inner] != [it is None for _, it in inner] or not alike(own(one), own(two)):
         return False
     inner += [(node, two.field(name)) for name, node in (one.properties or {}).items()]
-    return all(are_equal(a, b) for a, b in inner if a)
+    return all(are_alike(a, b, is_inside=True) for a, b in inner if a)

@@ -3,11 +3,10 @@
 
     python3 examples/mistakes/check.py EXPLAIN [KUBECONV]
 
-EXPLAIN is a built program `explain`, to which each case is given with the faults that tools/find_faults.py finds: what it prints has to be
-what answers.txt has. KUBECONV is a built kubeconv: its line for the two files has to be the first one of the answer. README.md says how a
-case is written. Prints how many cases there are; what differs is told on standard error, and then the status is 1.
+EXPLAIN is a built program `explain`, by which tools/explain.py explains each case: what that tells has to be what answers.txt has. KUBECONV
+is a built kubeconv: its line for the two files has to be the first one of the answer. README.md says how a case is written. Prints how many
+cases there are; what differs is told on standard error, and then the status is 1.
 """
-import json
 import pathlib
 import subprocess
 import sys
@@ -16,27 +15,30 @@ import tempfile
 HERE = pathlib.Path(__file__).resolve().parent
 sys.path.insert(0, str(HERE.parent.parent / "tools"))
 
-import find_faults  # noqa: E402
+from explain import FAULTY, explained  # noqa: E402
 
 NAMES = ("crd.json", "rules.json")
+OBJECT = "object.json"
 
 
 def cases():
-    """The title and the two texts of each case."""
-    base, texts, title, old = ["", ""], ["", ""], "", ""
+    """The title, the two texts, and the version and the text of an object, of each case."""
+    base, texts, title, old, further = ["", ""], ["", ""], "", "", None
     for line in (HERE / "cases.txt").read_text().splitlines():
         word, _, text = line.partition(" ")
         if word in ("definition", "rules"):
             base[word == "rules"] = text
         elif word == "#":
-            title, texts = text, list(base)
+            title, texts, further = text, list(base), None
         elif word == "-":
             old = text
         elif word == "+":
             at = old not in texts[0]
             texts[at] = texts[at].replace(old, text, 1)
+        elif word == "object":
+            further = text.split(" ", 1)
         elif word == ".":
-            yield title, texts
+            yield title, texts, further
 
 
 def answers():
@@ -45,23 +47,29 @@ def answers():
     return dict(part.split("\n", 1) for part in parts)
 
 
-def run(program, *words, folder):
-    done = subprocess.run([program, *words], cwd=folder, stdin=subprocess.DEVNULL, capture_output=True, text=True)
-    return done.returncode, done.stdout, done.stderr
+def first_told(kubeconv, folder):
+    """The line of kubeconv for the two files."""
+    words = [kubeconv, "pipe", "--crd", NAMES[0], "--rules", NAMES[1]]
+    done = subprocess.run(words, cwd=folder, stdin=subprocess.DEVNULL, capture_output=True, text=True)
+    return done.stderr.rstrip()
 
 
-def differs(wanted, texts, explain, kubeconv, folder):
-    """What is wrong with what is said of two texts, or nothing."""
+def differs(wanted, texts, further, explain, kubeconv, folder):
+    """What is wrong with what is said of two texts, or of an object, or nothing."""
     for name, text in zip(NAMES, texts):
         (folder / name).write_text(text)
-    (folder / "found.json").write_text(json.dumps(find_faults.find(*texts)))
-    status, said, _ = run(explain, *NAMES, *NAMES, "found.json", folder=folder)
-    is_faulty = wanted.rstrip().endswith(("fault", "faults"))
-    if said != wanted or status != (3 if is_faulty else 0):
+    words = [str(folder / name) for name in NAMES]
+    if further:
+        (folder / OBJECT).write_text(further[1])
+        said, status = explained(explain, *words, NAMES, str(folder / OBJECT), further[0])
+    else:
+        said, status = explained(explain, *words, NAMES)
+    is_faulty = wanted.rstrip().endswith((" fault", " faults"))
+    if said != wanted or status != (FAULTY if is_faulty else 0):
         return f"status {status}, and it says\n{said}\nwhere is wanted\n{wanted}"
     if kubeconv and is_faulty:
-        _, _, told = run(kubeconv, "pipe", "--crd", NAMES[0], "--rules", NAMES[1], folder=folder)
-        if not told.rstrip().endswith(wanted.splitlines()[0]):
+        told = first_told(kubeconv, folder)
+        if not told.endswith(wanted.splitlines()[0]):
             return f"kubeconv tells {told}"
     return None
 
@@ -70,9 +78,9 @@ def main(explain, kubeconv=None):
     explain, kubeconv = (it and str(pathlib.Path(it).resolve()) for it in (explain, kubeconv))
     wanted, wrong, count = answers(), 0, 0
     with tempfile.TemporaryDirectory() as to:
-        for title, texts in cases():
+        for title, texts, further in cases():
             count += 1
-            said = differs(wanted.pop(title), texts, explain, kubeconv, pathlib.Path(to))
+            said = differs(wanted.pop(title), texts, further, explain, kubeconv, pathlib.Path(to))
             if said:
                 print(f"{title}: {said}", file=sys.stderr)
                 wrong = 1

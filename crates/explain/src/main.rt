@@ -1,40 +1,27 @@
-//! Explains a definition and its rules: what of them is refused, or what the rules do with each field, and what becomes of an object.
+//! What is so of a definition and its rules, and of an object, as a line of JSON.
 //!
-//!     explain CRD RULES CRD_NAME RULES_NAME FOUND [OBJECT VERSION]
+//!     explain CRD RULES [OBJECT VERSION]
 //!
-//! The first two are files, and the names are those that their faults are told by. FOUND is a file too: the faults that a search found
-//! in them, each with how it is mended. Of these none is told where the two files load, and else the first that is told is the one that
-//! loading tells. With an object, which is a file, it tells what becomes of it at the version.
+//! All words but the version are files of JSON. It prints `{}` where the first two load, and else what is refused first, as
+//! `{"file":"rules","path":"host","word":"SchemaDiffers"}`, where the file is `crd` or `rules`. With an object, where the two load, it
+//! prints what the object is at the version, as `{"value":OBJECT}`, or why it is nothing there, as `{"refused":"spec.size: Enum"}`.
+//! `tools/explain.py` tells an author what follows of that.
 //!
-//! It ends with 0 where there is no fault, 2 at other words, 3 at a fault, 5 where a file can't be read or is no text, 6 where the output
-//! fails, and 7 without memory.
+//! It ends with 0 where it printed a line, and else silently: with 2 at other words, 5 where a file can't be read or is no text, 6 where
+//! the output fails, and 7 without memory.
 #![tactic(auto)]
 
-mod comparing;
-mod found;
-mod kept;
 mod object;
-mod page;
-mod piece;
-mod reporting;
-mod rows;
-mod versions;
 
-use crd_versions::{LoadFault, VersionSet, load};
 use edge_io::{DiskFiles, FileFault, Files};
 use explain_rules::explain;
-use found::found_in;
-use kj_value::Txt;
-use object::object_report;
-use page::Page;
-use reporting::put_explained;
+use kj_value::{NoMemory, Txt};
+use object::explain_object;
 use std::alloc::Global;
 use std::env;
 use std::process::ExitCode;
 
 const BAD_WORDS: u8 = 2;
-
-const FAULTY: u8 = 3;
 
 const READ_FAILED: u8 = 5;
 
@@ -60,145 +47,57 @@ fn text_of(rt: &HostRuntime, alloc: Global, path: &str) -> Result<Txt, u8> {
     }
 }
 
-fn put_out(rt: &HostRuntime, text: &str, status: u8) -> u8 {
-    match print!(rt; "{}", text) {
-        Ok(()) => status,
-        Err(_) => WRITE_FAILED,
-    }
-}
-
-// The texts of a definition, rules and found faults.
-#[derive(Clone, Copy, Drop)]
-struct Given<'a> {
-    crd: &'a [u8],
-    rules: &'a [u8],
-    found: &'a [u8],
-}
-
-// Puts out what was written, where there was memory for it.
-fn put_page(rt: &HostRuntime, page: &Page, text: &str, status: u8) -> u8 {
-    if page.wants_memory {
-        NO_MEMORY
-    } else {
-        put_out(rt, text, status)
-    }
-}
-
-// Tells what the two texts are.
-fn tell_rules(rt: &HostRuntime, alloc: Global, names: [&str; 2], given: Given) -> u8 {
-    let mut page = Page::new(alloc);
-    let mut out = String::new(alloc);
-    let found = found_in(&mut page, given.found);
-    match explain(alloc, given.crd, given.rules, found) {
-        Ok(explained) => {
-            let is_faulty = put_explained(&mut page, &mut out, names, explained);
-            put_page(rt, &page, out.as_str(), if is_faulty { FAULTY } else { 0 })
-        }
+fn put_line(rt: &HostRuntime, line: Result<Txt, NoMemory>) -> u8 {
+    match line {
+        Ok(text) => match print!(rt; "{}\n", text.as_str()) {
+            Ok(()) => 0,
+            Err(_) => WRITE_FAILED,
+        },
         Err(_) => NO_MEMORY,
     }
 }
 
-// Tells what becomes of the object in a file.
-fn tell_object(rt: &HostRuntime, alloc: Global, versions: &VersionSet, path: &str, to: &str) -> u8 {
-    match text_of(rt, alloc, path) {
-        Ok(text) => {
-            let mut page = Page::new(alloc);
-            let told = object_report(&mut page, versions, text.as_str().as_bytes(), to);
-            put_page(rt, &page, told.as_str(), 0)
-        }
-        Err(status) => status,
-    }
-}
-
-// Tells what becomes of an object where the two texts load, and else what they are.
-fn tell_at_version(
-    rt: &HostRuntime,
-    alloc: Global,
-    names: [&str; 2],
-    given: Given,
-    path: &str,
-    to: &str,
-) -> u8 {
-    match load(alloc, given.crd, given.rules) {
-        Ok(versions) => {
-            let status = tell_object(rt, alloc, &versions, path, to);
-            drop(versions);
-            status
-        }
-        Err(LoadFault::NoMemory) => NO_MEMORY,
-        Err(_) => tell_rules(rt, alloc, names, given),
-    }
-}
-
-// The texts of files, or the status where one has none.
-fn texts_of(rt: &HostRuntime, alloc: Global, paths: [&str; 3]) -> Result<Vec<Txt>, u8> {
-    let mut texts = Vec::new(alloc);
-    for path in paths {
-        match text_of(rt, alloc, path) {
-            Ok(text) => {
-                if texts.push(text).is_err() {
-                    return Err(NO_MEMORY);
-                }
+// Tells of two texts, and with two further words of the object in a file and a version.
+fn tell(rt: &HostRuntime, alloc: Global, texts: [&[u8]; 2], further: &[String]) -> u8 {
+    let [crd, rules] = texts;
+    match further {
+        [path, to] => match text_of(rt, alloc, path.as_str()) {
+            Ok(object) => {
+                let object = object.as_str().as_bytes();
+                put_line(rt, explain_object(alloc, texts, object, to.as_str()))
             }
-            Err(status) => return Err(status),
+            Err(status) => status,
+        },
+        _ => put_line(rt, explain(alloc, crd, rules)),
+    }
+}
+
+// Tells of the texts in two files.
+fn tell_files(rt: &HostRuntime, alloc: Global, crd: &str, rules: &str, further: &[String]) -> u8 {
+    match (text_of(rt, alloc, crd), text_of(rt, alloc, rules)) {
+        (Ok(crd), Ok(rules)) => {
+            let texts = [crd.as_str().as_bytes(), rules.as_str().as_bytes()];
+            tell(rt, alloc, texts, further)
         }
+        (Err(status), _) => status,
+        (_, Err(status)) => status,
     }
-    Ok(texts)
 }
 
-// Tells of the files and names that the words are; an object's file and a version may stand behind them.
-fn tell(rt: &HostRuntime, alloc: Global, words: &[String]) -> u8 {
-    if words.len() != 6 && words.len() != 8 {
-        return BAD_WORDS;
-    }
-    let paths = [words[1].as_str(), words[2].as_str(), words[5].as_str()];
-    let texts = match texts_of(rt, alloc, paths) {
-        Ok(texts) => texts,
-        Err(status) => return status,
-    };
-    match texts.as_slice() {
-        [crd, rules, found] => {
-            let given = Given {
-                crd: crd.as_str().as_bytes(),
-                rules: rules.as_str().as_bytes(),
-                found: found.as_str().as_bytes(),
-            };
-            let names = [words[3].as_str(), words[4].as_str()];
-            if words.len() == 8 {
-                let (path, to) = (words[6].as_str(), words[7].as_str());
-                tell_at_version(rt, alloc, names, given, path, to)
-            } else {
-                tell_rules(rt, alloc, names, given)
-            }
+fn run(rt: &HostRuntime, alloc: Global, words: &[String]) -> u8 {
+    match words {
+        [_, crd, rules, further @ ..] if further.is_empty() || further.len() == 2 => {
+            tell_files(rt, alloc, crd.as_str(), rules.as_str(), further)
         }
-        _ => READ_FAILED,
-    }
-}
-
-fn run(rt: &HostRuntime, alloc: Global) -> u8 {
-    match words_of(rt, alloc) {
-        Some(words) => tell(rt, alloc, words.as_slice()),
-        None => BAD_WORDS,
-    }
-}
-
-// What is said of a status, if anything.
-fn line_of(status: u8) -> &'static str {
-    match status {
-        BAD_WORDS => "explain: CRD RULES CRD_NAME RULES_NAME FOUND [OBJECT VERSION]\n",
-        READ_FAILED =>
-            "explain: a file can't be read, has more than 4194304 bytes, or is no text\n",
-        WRITE_FAILED => "explain: write failed\n",
-        NO_MEMORY => "explain: out of memory\n",
-        _ => "",
+        _ => BAD_WORDS,
     }
 }
 
 fn main(rt: HostRuntime) -> ExitCode {
     let alloc = rt.alloc();
-    let status = run(&rt, alloc);
-    match eprint!(rt; "{}", line_of(status)) {
-        Ok(()) => ExitCode::from(status),
-        Err(_) => ExitCode::from(status),
-    }
+    let status = match words_of(&rt, alloc) {
+        Some(words) => run(&rt, alloc, words.as_slice()),
+        None => BAD_WORDS,
+    };
+    ExitCode::from(status)
 }

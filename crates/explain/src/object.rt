@@ -1,127 +1,89 @@
-//! What becomes of an object that is shown at another version: what is pruned and filled, what is kept, what is dropped, and whether it
-//! comes back.
-//!
-//! It is seen from outside: the object is taken to its own version, to the other, and back, by the conversion that `kubeconv` does, and
-//! the documents are compared.
-use crate::comparing::{Words, put_differences};
-use crate::kept::{put_dropped, put_kept};
-use crate::page::Page;
-use crate::piece::Piece;
-use crate::versions::{Version, at_version, version_of};
-use api_calls::{OBJECT_LEVELS, Versions};
-use crd_versions::VersionSet;
-use kj_value::{JVal, depth, read, write};
+//! What an object is at a version.
+ghost use Rattle.std.specs.Prelude.{◌≤◌};
+ghost use Rattle.kj_value.specs.Json.{depth};
+ghost use Rattle.kj_value.specs.Seen.{json};
+ghost use Rattle.api_calls.specs.declared.versions.TheConstants.{OBJECT_LEVELS};
 
-const FILLING: Words = Words {
-    gone: "pruned, since its schema doesn't have it",
-    new: "filled by a default",
-    changed: "changed",
-};
+use api_calls::{AdmitFault, OBJECT_LEVELS, Versions, Why};
+use crd_versions::{LoadFault, VersionSet, load};
+use explain_rules::explain;
+use kj_value::{JVal, JsonFault, NoMemory, Txt, read, write};
+use std::alloc::Global;
 
-const COMING: Words = Words {
-    gone: "  gone",
-    new: "  new",
-    changed: "  changed to",
-};
+// One name with its value.
+fn line(alloc: Global, name: &str, value: &JVal) -> Result<Txt, NoMemory>
+    requires { depth (json value.now) ≤ OBJECT_LEVELS }
+{
+    let text = write(alloc, value)?;
+    let text = text.as_str();
+    Ok(Txt::of_string(format!(in alloc; "{{\"{name}\":{text}}}")?))
+}
 
-fn put_object(page: &mut Page, out: &mut String, version: &str, v: &JVal) {
-    page.put(out, "at % it is ", &[Piece::Text(version)]);
-    if depth(v) > OBJECT_LEVELS {
-        return;
+fn refused(alloc: Global, why: &str) -> Result<Txt, NoMemory> {
+    line(alloc, "refused", &JVal::Text(Txt::of(alloc, why)?))
+}
+
+fn refusal(alloc: Global, fault: &AdmitFault) -> Result<Txt, NoMemory> {
+    match fault {
+        AdmitFault::BadRequest(why) => refused(alloc, why.word()),
+        AdmitFault::Invalid { name: _, cause } => {
+            let (field, rule) = (cause.field.as_str(), cause.rule.word());
+            let why = format!(in alloc; "{field}: {rule}")?;
+            refused(alloc, why.as_str())
+        }
+        AdmitFault::Tool => refused(alloc, "Tool"),
+        AdmitFault::NoMemory => Err(NoMemory),
     }
-    match write(page.alloc, v) {
-        Ok(text) => page.put(out, "%\n", &[Piece::Text(text.as_str())]),
-        Err(_) => page.note(false),
-    }
 }
 
-fn put_back(page: &mut Page, out: &mut String, from: &str, own: &JVal, back: &JVal) {
-    let mut found = String::new(page.alloc);
-    put_differences(page, &mut found, COMING, own, back);
-    let says = if found.is_empty() {
-        "put back at % it is as it was, filled\n"
-    } else {
-        "put back at % it differs:\n%"
-    };
-    page.put(out, says, &[Piece::Text(from), Piece::Text(found.as_str())]);
-}
-
-// The object's own version, and the other.
-#[derive(Clone, Copy, Drop)]
-struct Way<'a> {
-    from: Version<'a>,
-    to: Version<'a>,
-}
-
-fn put_other(
-    page: &mut Page,
-    out: &mut String,
+fn converted(
+    alloc: Global,
     versions: &VersionSet,
-    way: Way,
-    doc: &JVal,
-    own: &JVal,
-) {
-    if let Some(other) = at_version(page, out, versions, way.to, doc) {
-        put_object(page, out, way.to.name, &other);
-        put_kept(page, out, &other, way.to.name);
-        if let Some(back) = at_version(page, out, versions, way.from, &other) {
-            put_dropped(page, out, doc, &back);
-            put_back(page, out, way.from.name, own, &back);
-        }
+    document: JVal,
+    to: &str,
+) -> Result<Txt, NoMemory>
+    requires { depth (json document) ≤ OBJECT_LEVELS }
+{
+    match versions.find(to) {
+        Some(to) => match versions.convert(alloc, document, to) {
+            Ok(value) => line(alloc, "value", &value),
+            Err(fault) => refusal(alloc, &fault),
+        },
+        None => refused(alloc, "Version"),
     }
 }
 
-fn put_all(page: &mut Page, out: &mut String, versions: &VersionSet, way: Way, doc: &JVal) {
-    if let Some(own) = at_version(page, out, versions, way.from, doc) {
-        put_differences(page, out, FILLING, doc, &own);
-        put_other(page, out, versions, way, doc, &own);
-    }
-}
-
-fn put_document(page: &mut Page, out: &mut String, versions: &VersionSet, doc: &JVal, to: &str) {
-    let from = version_of(doc);
-    match (versions.find(from), versions.find(to)) {
-        (None, _) => page.put(
-            out,
-            "the object is of no version of the definition: its apiVersion ends with `%`\n",
-            &[Piece::Text(from)],
-        ),
-        (_, None) => page.put(
-            out,
-            "the definition has no version `%`\n",
-            &[Piece::Text(to)],
-        ),
-        (Some(from_place), Some(to_place)) => {
-            let way = Way {
-                from: Version {
-                    name: from,
-                    place: from_place,
-                },
-                to: Version {
-                    name: to,
-                    place: to_place,
-                },
-            };
-            put_all(page, out, versions, way, doc);
-        }
-    }
-}
-
-/// What becomes of an object, as a text of JSON, at another version.
-pub(crate) fn object_report(
-    page: &mut Page,
+fn at_version(
+    alloc: Global,
     versions: &VersionSet,
     object: &[u8],
     to: &str,
-) -> String {
-    let mut out = String::new(page.alloc);
-    match read(page.alloc, object, OBJECT_LEVELS) {
-        Ok(doc) => put_document(page, &mut out, versions, &doc, to),
-        Err(_) => page.put(
-            &mut out,
-            "the object isn't JSON of whole numbers and at most 64 levels\n",
-            &[],
-        ),
+) -> Result<Txt, NoMemory> {
+    match read(alloc, object, OBJECT_LEVELS) {
+        Ok(document) => converted(alloc, versions, document, to),
+        Err(JsonFault::NotJson) => refused(alloc, Why::NotJson.word()),
+        Err(JsonFault::TooDeep) => refused(alloc, Why::TooDeep.word()),
+        Err(JsonFault::NotWhole) => refused(alloc, Why::NotWhole.word()),
+        Err(JsonFault::NoMemory) => Err(NoMemory),
     }
-    out
+}
+
+/// What an object, as a text of JSON, is at a version, where the two texts of a definition and rules load, and else what of them is
+/// refused.
+pub(crate) fn explain_object(
+    alloc: Global,
+    texts: [&[u8]; 2],
+    object: &[u8],
+    to: &str,
+) -> Result<Txt, NoMemory> {
+    let [crd, rules] = texts;
+    match load(alloc, crd, rules) {
+        Ok(versions) => {
+            let told = at_version(alloc, &versions, object, to);
+            drop(versions);
+            told
+        }
+        Err(LoadFault::NoMemory) => Err(NoMemory),
+        Err(_) => explain(alloc, crd, rules),
+    }
 }

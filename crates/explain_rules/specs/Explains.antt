@@ -1,17 +1,43 @@
--- What explaining two texts comes to: they load, or something of them is refused, of which the first is told first.
-use Rattle.std.specs.Prelude.{List, ℕ}
-use Rattle.crd_loading.specs.Blame.{Blame, blame}
+-- What is told of two texts: nothing where they load, and else what is refused first.
+use Rattle.std.specs.Prelude.{◌≡◌, ◌⊎◌, ℕ, List, [], ◌∷◌, codes}
+use Rattle.kj_value.specs.Json.{Json, no_members, text, object, members_of}
+use Rattle.kj_value.specs.Text.{text_of}
+use Rattle.crd_loading.specs.Blame.{Blame}
+use Rattle.crd_loading.specs.View.{LoadedView}
 use Rattle.crd_loading.specs.Load.{Loads}
 use Rattle.crd_loading.specs.Told.{RefusesIn}
-use Rattle.explain_rules.specs.declared.explained.Told.{Told}
-use Rattle.explain_rules.specs.declared.explained.Explained.{Explained}
-use Rattle.explain_rules.specs.declared.explained.Explained.TheVariants.{Sound, Faulty}
+use Rattle.crd_loading.specs.declared.loading.Which.{Which}
+use Rattle.crd_loading.specs.declared.loading.Which.TheVariants.{Crd, Rules}
 
--- what of a fault loading tells too
-abbrev pub blame_told : Told → Blame
-blame_told t = blame t.path.bytes t.word.bytes
+unfoldable pub file_name : Which → List ℕ
+file_name Crd = codes "crd"
+file_name Rules = codes "rules"
 
--- no fault is told exactly of texts that load, and else the first one is the one that loading tells
-abbrev pub Explains : List ℕ → List ℕ → Explained → Type 0
-Explains crd rules (Sound l) = Loads crd rules l
-Explains crd rules (Faulty file first others) = RefusesIn crd rules file (blame_told first)
+-- {"file":FILE,"path":PATH,"word":WORD}
+unfoldable pub refusal : Which → Blame → Json
+refusal file b = object (members_of (
+    (codes "file", text (file_name file))
+    ∷ (codes "path", text b.path)
+    ∷ (codes "word", text b.why)
+    ∷ []))
+
+-- {}
+abbrev pub nothing : Json
+nothing = object no_members
+
+pub record AreSound (crd rules : List ℕ) (j : Json) : Type 0 where
+  pub loaded : LoadedView
+  pub loads : Loads crd rules loaded
+  pub told : j ≡ nothing
+
+pub record AreRefused (crd rules : List ℕ) (j : Json) : Type 0 where
+  pub file : Which
+  pub blame : Blame
+  pub refused : RefusesIn crd rules file blame
+  pub told : j ≡ refusal file blame
+
+-- by its compact text
+pub record Explains (crd rules text : List ℕ) : Type 0 where
+  pub document : Json
+  pub spelled : text ≡ text_of document
+  pub why : AreSound crd rules document ⊎ AreRefused crd rules document

@@ -1,92 +1,69 @@
 //! Two texts explained.
-ghost use Rattle.std.specs.Prelude.{◌≡◌, IfOk};
-ghost use Rattle.explain_rules.specs.Explains.{Explains};
+ghost use Rattle.std.specs.Prelude.{◌≡◌, IfOk, OnOk};
+ghost use Rattle.kj_value.specs.Fields.{with_field};
+ghost use Rattle.kj_value.specs.Json.{text};
+ghost use Rattle.kj_value.specs.Seen.{json};
+ghost use Rattle.kj_value.specs.Text.{text_of};
+ghost use Rattle.crd_loading.specs.Blame.{blame};
+ghost use Rattle.explain_rules.specs.Explains.{Explains, file_name, refusal, nothing};
 
-use crate::words::text_of;
-use crd_loading::{LoadFault, Loaded, Which, load};
-use kj_value::{NoMemory, Txt};
+use crd_loading::{LoadFault, Which, load};
+use kj_value::{JFields, JVal, NoMemory, Txt, write};
 use std::alloc::Global;
 
-/// A fault: whether it stands in the rules and not in the definition, its path and its word, as loading names them, and how whoever
-/// wrote it mends it.
-#[derive(Drop)]
-pub struct Told {
-    pub in_rules: bool,
-    pub path: Txt,
-    pub word: Txt,
-    pub says: Txt,
-}
-
-/// What two texts are.
-#[derive(Drop)]
-pub enum Explained {
-    /// They load.
-    Sound(Loaded),
-    /// Something of them is refused: of this file first this, and then the others.
-    Faulty(Which, Told, Vec<Told>),
-}
-
-// The first fault of a file that has this path and word, or else one of a part of what stands at the path.
-fn place(found: &[Told], in_rules: bool, path: &str, word: &str) -> Option<usize> {
-    let mut near = None;
-    for i in 0..found.len() {
-        let has = found[i].path.as_str();
-        if found[i].in_rules == in_rules && found[i].word.as_str() == word {
-            if has == path {
-                return Some(i);
-            }
-            if near.is_none() && !has.is_empty() && path.starts_with(has) {
-                near = Some(i);
-            }
-        }
+// The word for a file.
+#[tactic(auto, unfolding(crate::specs::Explains::file_name))]
+fn name_of(file: Which) -> &'static str
+    ensures { result.now ≡ file_name file }
+{
+    match file {
+        Which::Crd => "crd",
+        Which::Rules => "rules",
     }
-    near
 }
 
-// What is said of the first fault, which is taken out of the list where it stands there.
-fn take_text(
-    alloc: Global,
-    found: &mut Vec<Told>,
-    in_rules: bool,
-    path: &str,
-    word: &str,
-) -> Result<Txt, NoMemory> {
-    if let Some(i) = place(found.as_slice(), in_rules, path, word) {
-        if i < found.len() {
-            let Told { says, .. } = found.remove(i);
-            return Ok(says);
-        }
-    }
-    Txt::of(alloc, text_of(word))
+fn put(alloc: Global, fields: &mut JFields, name: &str, value: Txt) -> Result<(), NoMemory>
+    ensures { OnOk result (fields.new ≡ with_field name.now (text value.bytes) fields.old) }
+{
+    fields.set(Txt::of(alloc, name)?, JVal::Text(value))
 }
 
-/// Loads two texts, a definition and rules, and where something of them is refused tells the fault that loading tells, and then the
-/// others of those that were found, by whatever search.
-pub fn explain(
-    alloc: Global,
-    crd: &[u8],
-    rules: &[u8],
-    mut found: Vec<Told>,
-) -> Result<Explained, NoMemory>
-    ensures told { IfOk result (Explains crd.now rules.now) }
+// What is refused, as a document.
+fn refusal(alloc: Global, file: Which, path: Txt, word: Txt) -> Result<JVal, NoMemory>
+    ensures { IfOk result (λ v. json v ≡ refusal file (blame path.bytes word.bytes)) }
+{
+    let mut fields = JFields::new(alloc);
+    put(alloc, &mut fields, "file", Txt::of(alloc, name_of(file))?)?;
+    put(alloc, &mut fields, "path", path)?;
+    put(alloc, &mut fields, "word", word)?;
+    Ok(JVal::Obj(fields))
+}
+
+fn refusal_text(alloc: Global, file: Which, path: Txt, word: Txt) -> Result<Txt, NoMemory>
+    ensures { IfOk result (λ t. t.bytes ≡ text_of (refusal file (blame path.bytes word.bytes))) }
+{
+    let document = refusal(alloc, file, path, word)?;
+    write(alloc, &document)
+}
+
+fn nothing_text(alloc: Global) -> Result<Txt, NoMemory>
+    ensures { IfOk result (λ t. t.bytes ≡ text_of nothing) }
+{
+    let document = JVal::Obj(JFields::new(alloc));
+    write(alloc, &document)
+}
+
+/// What is told of two texts, a definition and rules, as compact JSON: `{}` where they load, and else what loading refuses first, as
+/// `{"file":"rules","path":"host","word":"SchemaDiffers"}`, where the file is `crd` or `rules`. Want of memory may come for any texts.
+pub fn explain(alloc: Global, crd: &[u8], rules: &[u8]) -> Result<Txt, NoMemory>
+    ensures told { IfOk result (λ t. Explains crd.now rules.now t.bytes) }
 {
     match load(alloc, crd, rules) {
-        Ok(loaded) => Ok(Explained::Sound(loaded)),
-        Err(LoadFault::NoMemory) => Err(NoMemory),
-        Err(LoadFault::Refused { file, path, word }) => {
-            let in_rules = matches!(file, Which::Rules);
-            match take_text(alloc, &mut found, in_rules, path.as_str(), word.as_str()) {
-                Ok(says) => {
-                    let first = Told {
-                        in_rules,
-                        path,
-                        word,
-                        says,
-                    };
-                    Ok(Explained::Faulty(file, first, found))
-                }
-                Err(_) => Err(NoMemory),
-            }
+        Ok(loaded) => {
+            drop(loaded);
+            nothing_text(alloc)
         }
+        Err(LoadFault::NoMemory) => Err(NoMemory),
+        Err(LoadFault::Refused { file, path, word }) => refusal_text(alloc, file, path, word),
     }
 }

@@ -1,11 +1,9 @@
-//! A definition and its rules explained to their author: what of them is refused, or what they load as.
+//! A definition and its rules explained: what of them is refused first, as a text for the programs that tell it to their author.
 //!
-//! The one contract: `explain` says that there is no fault exactly where `load` of `crd_loading` accepts the two texts, with what they
-//! load as, and else the first fault that it tells is the one that loading tells (`Explains`), whatever other faults a search found.
-//! Those, and the texts, are for an author's eyes. Want of memory may come anywhere.
+//! The one contract: the text of `explain` is `{}` exactly where `load` of `crd_loading` accepts the two texts, and else has the file, the
+//! path and the word of the first thing that it refuses (`Explains`). Want of memory may come anywhere.
 #![tactic(auto)]
 
 mod explained;
-mod words;
 
-pub use explained::{Explained, Told, explain};
+pub use explained::explain;

@@ -1,0 +1,123 @@
+#!/usr/bin/env python3
+"""Explains a definition and its rules to their author: all their faults, each with how it is mended, or what the rules do with each field,
+or what becomes of an object.
+
+    python3 tools/explain.py PROGRAM CRD RULES CRD_NAME RULES_NAME [OBJECT VERSION]
+
+PROGRAM is a built program `explain`. CRD, RULES and OBJECT are files of JSON, and the names are those that faults are told by. ./explain
+hands them over. What is so is asked of the program, and laid out here: a fault is told only where the two files don't load, and the first
+one is the one that loading tells. The others are found by tools/find_faults.py.
+
+The status is 0 where there is no fault, 3 at a fault, 6 where the output fails, and else the program's.
+"""
+import json
+import subprocess
+import sys
+
+import find_faults
+from field_rows import rows
+from object_report import report
+
+FAULTY, WRITE_FAILED = 3, 6
+# What is said of a fault by its word alone.
+WORDS = {
+    "NotJson": "the file isn't JSON, or has more than 127 levels; YAML is turned into JSON by tools/yaml2json.py",
+    "TooDeep": "the file has more than 100 levels of lists and objects",
+    "NotWhole": "a number has a fraction or an exponent, or is beyond 64 bits; numbers are whole here",
+    "Shape": "something isn't there, or isn't of its form",
+    "Unknown": "this name isn't taken here; leave it out",
+    "Limit": "a schema has at most 1024 nodes, of which none stands more than 32 deep",
+    "NameTwice": "two rules of a level name this field; keep one of them",
+    "NameMissing": "no schema has this name, or no rule has this field",
+    "SchemaDiffers": "the two schemas don't go together",
+    "UnpairedDefault": "a default has none at the other version that matches it, or a version can't take it over",
+    "RequiredLost": "the field is required, and the other version may not give it",
+    "RangeLost": "what goes over isn't taken by the other version's schema",
+}
+KEYWORD = "this keyword isn't taken, or isn't of its form; leave it out"
+# What is said of a status of the program.
+ENDS = {
+    5: "a file can't be read, has more than 4194304 bytes, or is no text",
+    WRITE_FAILED: "write failed",
+    7: "out of memory",
+}
+
+
+class Failed(Exception):
+    """The program ended with a status of its own."""
+
+    def __init__(self, status):
+        super().__init__(f"status {status}")
+        self.status = status
+
+
+class Facts:
+    """What the program says of two files."""
+
+    def __init__(self, program, crd, rules):
+        self.words = [program, crd, rules]
+
+    def ask(self, *further):
+        done = subprocess.run([*self.words, *further], stdin=subprocess.DEVNULL, stdout=subprocess.PIPE)
+        if done.returncode:
+            raise Failed(done.returncode)
+        return json.loads(done.stdout)
+
+
+def split_first(first, found):
+    """What is said of the first fault, and the other faults: it is found by its path and word, or else as one of a part of what stands
+    at its path."""
+    alike = [it for it in found if (it["file"], it["word"]) == (first["file"], first["word"])]
+    same = [it for it in alike if it["path"] == first["path"]]
+    near = [it for it in alike if it["path"] and first["path"].startswith(it["path"])]
+    for it in (same + near)[:1]:
+        return it["says"], [other for other in found if other is not it]
+    return WORDS.get(first["word"], KEYWORD), found
+
+
+def faults(names, first, found):
+    """The faults as they are told, the first one first. Where the rules are refused the definition has none."""
+    says, others = split_first(first, found)
+    others = [it for it in others if it["file"] == "rules" or first["file"] == "crd"]
+    told = [{**first, "says": says}, *others]
+    lines = [f"{names[it['file'] == 'rules']}: {it['path']}: {it['word']}\n    {it['says']}\n" for it in told]
+    return "".join(lines) + f"{len(told)} fault{'s' * (len(told) != 1)}\n"
+
+
+def explained(program, crd, rules, names, *further):
+    """What is told of two files, which have these names, and of a further file and a version; and the status."""
+    facts = Facts(program, crd, rules)
+    first = facts.ask()
+    if first:
+        return faults(names, first, find_faults.find_in_files(crd, rules)), FAULTY
+    texts = [find_faults.text_of(it) for it in (crd, rules)]
+    documents = [find_faults.document(find_faults.Faults(), it) for it in texts]
+    return (report(facts.ask, documents[0], *further) if further else rows(*documents)), 0
+
+
+def is_put(text):
+    """Writes a text on standard output, and returns whether that was done."""
+    try:
+        sys.stdout.buffer.write(text.encode("utf-8", "replace"))
+        sys.stdout.flush()
+    except OSError:
+        return False
+    return True
+
+
+def main(program, crd, rules, crd_name, rules_name, *further):
+    try:
+        text, status = explained(program, crd, rules, [crd_name, rules_name], *further)
+    except Failed as it:
+        text, status = "", it.status
+    if not is_put(text):
+        status = WRITE_FAILED
+    if status not in (0, FAULTY):
+        print(f"explain: {ENDS.get(status, f'the program ended with status {status}')}", file=sys.stderr)
+    return status
+
+
+if __name__ == "__main__":
+    if len(sys.argv) not in (6, 8):
+        sys.exit(__doc__)
+    sys.exit(main(*sys.argv[1:]))
