@@ -1,10 +1,9 @@
 -- The pieces of a path, cut at its first slash.
-use Rattle.std.proofs.Common.{◌≡◌, ◌≢◌, ◌==◌, ℕ, zero, suc, ◌<◌, Bool, true, false, cond, List, [], ◌∷◌, ◌++◌, length, get_or, Option, None, Some, MatchOption, refl, ap, sym, ◌∙◌, arith, if◌then◌else◌}
+use Rattle.std.proofs.Common.{◌≡◌, ◌≢◌, ◌==◌, ℕ, zero, suc, ◌<◌, Bool, true, false, cond, List, [], ◌∷◌, ◌++◌, length, get_or, Option, None, Some, MatchOption, refl, ap, sym, ◌∙◌, arith}
 use Rattle.std.specs.Borrow.{Bor}
 use Rattle.std.specs.List.{onto_first}
 use Rattle.std.proofs.lemmas.Bool.Decides.{nat_tests}
 use Rattle.std.proofs.lemmas.Str.Pattern.{IsSplitOnceResult, split_parts}
-use Rattle.url.specs.Input.{is_empty}
 use Rattle.place.specs.Place.{pieces, slash}
 
 -- no byte is a slash
@@ -57,14 +56,3 @@ pub too_many : (path a b d e f : List ℕ) (ra rb rd re rf : List ℕ) (v w x y 
     → pieces path ≡ a ∷ pieces ra → pieces ra ≡ b ∷ pieces rb → pieces rb ≡ d ∷ pieces rd → pieces rd ≡ e ∷ pieces re → pieces re ≡ f ∷ pieces rf
     → pieces path ≡ v ∷ w ∷ x ∷ y ∷ z ∷ [] → ⊥
 too_many path a b d e f ra rb rd re rf v w x y z p q r s t five = some_piece rf cc
-
--- no password is an empty one
-pub no_password : (p : List ℕ) → (if is_empty p then None else Some p) ≡ None → p ≡ []
-no_password [] e = refl
-no_password (b ∷ bs) e =
-    let filled : is_empty (b ∷ bs) ≡ false = grind (arith, nat_tests) in
-    by_test (is_empty (b ∷ bs)) filled e
-  where
-    by_test : (t : Bool) → t ≡ false → (if t then None else Some (b ∷ bs)) ≡ None → b ∷ bs ≡ []
-    by_test true p q = absurd (cc)
-    by_test false p q = absurd (cc)

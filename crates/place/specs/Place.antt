@@ -1,31 +1,11 @@
 -- Where the objects of a resource are (URL Standard; Kubernetes API Concepts, "Resource URIs").
-use Rattle.std.specs.Prelude.{◌≡◌, ◌==◌, ⊤, ℕ, List, [], ◌∷◌, Option, None, Some, Ok, codes, option_map, IsTrue}
+use Rattle.std.specs.Prelude.{◌≡◌, ◌==◌, ⊤, ℕ, List, [], ◌∷◌, codes, IsTrue}
 use Rattle.std.specs.List.{slice_split}
-use Rattle.url.specs.Parser.{parse_url}
-use Rattle.url.specs.Parts.{Parts, nonempty_host}
-use Rattle.url.specs.Host.{host_text}
+use Rattle.http_address.specs.Address.{IsAddress}
 use Rattle.kube_meta.specs.Names.{is_name, is_namespace}
 use Rattle.place.specs.declared.Place.{Place}
-use Rattle.place.specs.declared.finding.Found.{Found}
 use Rattle.place.specs.declared.PlaceFault.{PlaceFault}
 use Rattle.place.specs.declared.PlaceFault.TheVariants as fault
-
--- a URL of the scheme `http`, without a user, a query or a fragment; an empty query or fragment is one
-pub record IsPlain (url : Parts) : Type 0 where
-  pub scheme : url.scheme ≡ codes "http"
-  pub username : url.username ≡ []
-  pub password : url.password ≡ []
-  pub query : url.query ≡ None
-  pub fragment : url.fragment ≡ None
-
--- the port of HTTP
-abbrev pub http_port : ℕ
-http_port = 80
-
--- the port that a URL of HTTP names
-abbrev pub port_of : Option ℕ → ℕ
-port_of None = http_port
-port_of (Some port) = port
 
 -- `/`
 abbrev pub slash : ℕ
@@ -57,18 +37,11 @@ pub record PlaceView : Type 0 where
   pub port : ℕ
   pub names : Names
 
--- the URL tells this host and port, and its path the names
-pub record Tells (url : Parts) (p : PlaceView) : Type 0 where
-  pub host : option_map host_text (nonempty_host url) ≡ Some p.host
-  pub port : p.port ≡ port_of url.port
-  pub path : IsPathOf url.path p.names
-
--- the text is the address of a place
+-- the text is the address of a place: that of a server that speaks HTTP, with a path that has the names
 pub record IsPlace (text : List ℕ) (p : PlaceView) : Type 0 where
-  pub url : Parts
-  pub parses : parse_url None text ≡ Ok url
-  pub plain : IsPlain url
-  pub tells : Tells url p
+  pub path : List ℕ
+  pub address : IsAddress text (record { host = p.host; port = p.port; path = path })
+  pub names : IsPathOf path p.names
 
 abbrev pub place_of : Place → PlaceView
 place_of p = record { host = p.host.bytes; port = p.port; names = record { group = p.group.bytes; version = p.version.bytes; plural = p.plural.bytes } }
@@ -77,7 +50,3 @@ place_of p = record { host = p.host.bytes; port = p.port; names = record { group
 abbrev pub OnBadPlace : Type 0 → PlaceFault → Type 0
 OnBadPlace P fault.BadPlace = P
 OnBadPlace P fault.NoMemory = ⊤
-
--- for private clauses: the place whose parts are lent
-abbrev pub found_view : Found → PlaceView
-found_view f = record { host = f.host.now; port = f.port; names = record { group = f.names.group.now; version = f.names.version.now; plural = f.names.plural.now } }

@@ -7,16 +7,14 @@
 #![tactic(auto)]
 
 ghost use Rattle.std.specs.Prelude.{◌≡◌, IfOk, IfErr};
-ghost use Rattle.url.specs.Parser.{IsOutOfRoom};
 ghost use Rattle.place.specs.Place.{IsPlace, PlaceView, place_of, OnBadPlace};
 
-mod finding;
 mod paths;
 
-use finding::found_in;
+use http_address::{Address, AddressFault, read_address};
 use kj_value::{NoMemory, Txt};
+use paths::names_in;
 use std::alloc::Global;
-use url::{ParseError, Url};
 
 /// Where the objects of a resource are.
 #[derive(Drop)]
@@ -50,35 +48,28 @@ impl From<NoMemory> for PlaceFault {
 }
 
 /// The place whose address the text is. Port 80 stands where the address has none.
+#[tactic(auto, using(crate::proofs::Addresses::no_place, crate::proofs::Addresses::no_names, crate::proofs::Addresses::is_place))]
 pub fn read_place(alloc: Global, text: &str) -> Result<Place, PlaceFault>
     ensures ok { IfOk result (λ p. IsPlace text.now (place_of p)) }
     ensures err { IfErr result (OnBadPlace ((p : PlaceView) → IsPlace text.now p → ⊥)) }
 {
-    let url = match Url::parse(alloc, text) {
-        Ok(url) => url,
-        Err(error) => return Err(fault_of(error)),
+    let address = match read_address(alloc, text) {
+        Ok(address) => address,
+        Err(AddressFault::BadAddress) => return Err(PlaceFault::BadPlace),
+        Err(AddressFault::NoMemory) => return Err(PlaceFault::NoMemory),
     };
-    match found_in(&url) {
-        Some(found) => Ok(found.copied(alloc)?),
-        None => Err(PlaceFault::BadPlace),
-    }
-}
-
-// Why a text that isn't read as a URL is no place.
-fn fault_of(error: ParseError) -> PlaceFault
-    ensures { OnBadPlace (IsOutOfRoom error → ⊥) result }
-{
-    match error {
-        ParseError::OutOfMemory | ParseError::Overflow => PlaceFault::NoMemory,
-        ParseError::EmptyHost
-        | ParseError::IdnaError
-        | ParseError::InvalidPort
-        | ParseError::InvalidIpv4Address
-        | ParseError::InvalidIpv6Address
-        | ParseError::InvalidDomainCharacter
-        | ParseError::RelativeUrlWithoutBase
-        | ParseError::RelativeUrlWithCannotBeABaseBase
-        | ParseError::SetHostOnCannotBeABaseUrl
-        | ParseError::CannotSet => PlaceFault::BadPlace,
-    }
+    let Address { host, port, path } = address;
+    let Some(names) = names_in(path.as_str()) else {
+        return Err(PlaceFault::BadPlace);
+    };
+    let group = Txt::of(alloc, names.group)?;
+    let version = Txt::of(alloc, names.version)?;
+    let plural = Txt::of(alloc, names.plural)?;
+    Ok(Place {
+        host,
+        port,
+        group,
+        version,
+        plural,
+    })
 }

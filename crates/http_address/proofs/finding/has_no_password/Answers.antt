@@ -1,7 +1,7 @@
 use Rattle.std.proofs.Common.{sym, ◌∙◌, ap, List, ℕ, None, Some, if◌then◌else◌}
 use Rattle.url.specs.Input.{is_empty}
-use Rattle.place.proofs.Pieces.{no_password}
-use Rattle.place.proofs.finding.has_no_password.Goals as goal
+use Rattle.http_address.proofs.Passwords.{no_password}
+use Rattle.http_address.proofs.finding.has_no_password.Goals as goal
 
 pub returns : goal.returns
 returns c = (

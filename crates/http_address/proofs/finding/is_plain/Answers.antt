@@ -1,5 +1,5 @@
 use Rattle.std.proofs.Common.{sym, ◌∙◌}
-use Rattle.place.proofs.finding.is_plain.Goals as goal
+use Rattle.http_address.proofs.finding.is_plain.Goals as goal
 
 pub returns : goal.returns
 returns c = (

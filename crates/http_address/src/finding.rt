@@ -1,36 +1,31 @@
-//! What a URL tells of a place.
+//! What a URL tells of an address.
 ghost use Rattle.std.specs.Prelude.{◌≡◌, IfOk, IsTrue, ◌↔◌, MatchOption, None, [], codes, option_copied};
-ghost use Rattle.place.specs.Place.{IsPlain, PlaceView, Tells, place_of, found_view, port_of};
+ghost use Rattle.http_address.specs.Address.{IsPlain, AddressView, Tells, address_of, found_view, port_of};
 
-use crate::Place;
-use crate::paths::{Names, names_in};
+use crate::Address;
 use kj_value::{NoMemory, Txt};
 use std::alloc::Global;
 use url::Url;
 
-/// The parts of a place, lent.
+/// The parts of an address, lent.
 #[derive(Clone, Copy, Drop)]
 pub struct Found<'a> {
     host: &'a str,
     port: u16,
-    names: Names<'a>,
+    path: &'a str,
 }
 
 impl Found<'_> {
-    /// The place in memory of its own.
-    pub fn copied(&self, alloc: Global) -> Result<Place, NoMemory>
-        ensures { IfOk result (λ p. place_of p ≡ found_view self.now) }
+    /// The address in memory of its own.
+    pub fn copied(&self, alloc: Global) -> Result<Address, NoMemory>
+        ensures { IfOk result (λ a. address_of a ≡ found_view self.now) }
     {
         let host = Txt::of(alloc, self.host)?;
-        let group = Txt::of(alloc, self.names.group)?;
-        let version = Txt::of(alloc, self.names.version)?;
-        let plural = Txt::of(alloc, self.names.plural)?;
-        Ok(Place {
+        let path = Txt::of(alloc, self.path)?;
+        Ok(Address {
             host,
             port: self.port,
-            group,
-            version,
-            plural,
+            path,
         })
     }
 }
@@ -94,20 +89,19 @@ fn port(url: &Url) -> u16
 
 const HTTP_PORT: u16 = 80;
 
-/// What the URL tells of a place, where it is the address of one.
+/// What the URL tells of an address, where it is one.
 pub fn found_in(url: &Url) -> Option<Found<'_>>
     ensures { MatchOption result
-        ((p : PlaceView) → IsPlain url.now → Tells url.now p → ⊥)
+        ((a : AddressView) → IsPlain url.now → Tells url.now a → ⊥)
         (λ f. IsPlain url.now × Tells url.now (found_view f)) }
 {
     if !is_plain(url) {
         return None;
     }
     let host = url.host_str()?;
-    let names = names_in(url.path())?;
     Some(Found {
         host,
         port: port(url),
-        names,
+        path: url.path(),
     })
 }
