@@ -1,0 +1,44 @@
+//! Cases of responses in chunks and of links in memory.
+//!
+//! Each line of standard input is a case: its first byte tells what is done with the text behind the second, and the answer is printed on a
+//! line; one that begins with `#` is printed as it stands. The answers that are wanted stand in `stdout`. `|` with a letter stands for a
+//! control byte, so that `|M|J` is a line end, and `(PIECE*COUNT)` for so many pieces.
+//!
+//! | line | what is answered |
+//! |---|---|
+//! | `c TEXT` | what is handed on of a response: `as it is`, or the response with its length |
+//! | `k TEXT` | what the links came to that links in memory made and took back |
+//! | `L` | nothing: laws |
+#![tactic(auto)]
+
+mod chunks;
+mod links;
+mod spelling;
+
+use std::alloc::Global;
+use std::io;
+
+fn answer(alloc: Global, word: u8, text: &str) -> Option<String> {
+    match word {
+        b'c' => chunks::answer(alloc, text),
+        b'k' => links::answer(alloc, text),
+        _ => chunks::laws(alloc),
+    }
+}
+
+fn main(rt: HostRuntime) -> io::Result<()> {
+    let alloc = rt.alloc();
+    for line in rt.lines(alloc) {
+        let line = line?;
+        let text = line.as_str().get(2..).unwrap_or("");
+        match line.as_bytes().first() {
+            Some(b'#') => println!(rt; "{}", line.as_str())?,
+            Some(word) => match answer(alloc, *word, text) {
+                Some(told) => println!(rt; "{}", told.as_str())?,
+                None => println!(rt; "no such case")?,
+            },
+            None => println!(rt; "no such case")?,
+        }
+    }
+    Ok(())
+}
