@@ -1,0 +1,7 @@
+mod Coming
+mod Items
+mod NumberTexts
+mod ByCode
+mod Paging
+mod Keyed
+mod PageFaults

@@ -1,0 +1,27 @@
+use Rattle.std.proofs.Common.{◌∙◌, refl}
+use Rattle.std.proofs.lemmas.Result.{err_from_is_err_and}
+use Rattle.kj_value.specs.Seen.{json}
+use Rattle.wire_client.specs.Calls.{puts}
+use Rattle.wire_client.specs.Seen.{wanted_view}
+use Rattle.wire_client.proofs.Coming.{lacked, came_end, object_ended}
+use Rattle.wire_client.proofs.calls.put_one.Goals as goal
+
+pub returns-in_err-version-clause-end : goal.returns-in_err-version-clause-end
+returns-in_err-version-clause-end g c =
+    let p = err_from_is_err_and c.from_residual.result c.from_residual.ensures.1 in
+    rw (p.1, p.2) (lacked _ (record { exchanges = g.R.Link.exchanges c.args.far.now; log = g.R.Far.log c.args.far.now }) (record { group = c.args.place.now.group.bytes; version = c.args.place.now.version.bytes; plural = c.args.place.now.plural.bytes }) (puts c.args.key.now (json c.args.body.now)))
+
+pub returns-in_err-request-clause-end : goal.returns-in_err-request-clause-end
+returns-in_err-request-clause-end g c =
+    let p = err_from_is_err_and c.from_residual-in_err-request.result c.from_residual-in_err-request.ensures.1 in
+    rw (p.1, p.2) (lacked _ (record { exchanges = g.R.Link.exchanges c.args.far.now; log = g.R.Far.log c.args.far.now }) (record { group = c.args.place.now.group.bytes; version = c.args.place.now.version.bytes; plural = c.args.place.now.plural.bytes }) (puts c.args.key.now (json c.args.body.now)))
+
+pub returns-in_err-object-clause-end : goal.returns-in_err-object-clause-end
+returns-in_err-object-clause-end g c =
+    let p = err_from_is_err_and c.from_residual-in_err-object.result c.from_residual-in_err-object.ensures.1 in
+    rw (p.1, p.2) (came_end _ (record { exchanges = g.R.Link.exchanges c.args.far.now; log = g.R.Far.log c.args.far.now }) (record { exchanges = g.R.Link.exchanges c.ask.new.far; log = g.R.Far.log c.ask.new.far }) (record { group = c.args.place.now.group.bytes; version = c.args.place.now.version.bytes; plural = c.args.place.now.plural.bytes }) (puts c.args.key.now (json c.args.body.now)) c.deref.result.now c.in_err-object.field-0.0 (c.deref.ensures.value ∙ c.in_ok-request.ensures) c.in_err-object.ensures.end)
+
+pub returns-clause-end : goal.returns-clause-end
+returns-clause-end g c =
+    object_ended _ (record { exchanges = g.R.Link.exchanges c.args.far.now; log = g.R.Far.log c.args.far.now }) (record { exchanges = g.R.Link.exchanges c.ask.new.far; log = g.R.Far.log c.ask.new.far }) (record { group = c.args.place.now.group.bytes; version = c.args.place.now.version.bytes; plural = c.args.place.now.plural.bytes }) (puts c.args.key.now (json c.args.body.now)) c.deref.result.now c.as_str.result.now (wanted_view c.of_key.result) (json c.in_ok-object.object) c.checked.result
+    (λ v j. refl) (c.deref.ensures.value ∙ c.in_ok-request.ensures) (c.as_str.ensures.value ∙ c.in_ok-version.ensures) c.of_key.ensures c.in_ok-object.ensures.given c.checked.ensures.shape
