@@ -1,0 +1,12 @@
+mod Founded
+mod OnePut
+mod Going
+mod Sums
+mod Telling
+mod Codes
+mod Expiring
+mod Paged
+mod KeyFits
+mod Turning
+mod Objects
+mod Orders

@@ -1,0 +1,8 @@
+pub mod Counts
+pub mod Answered
+pub mod Puts
+pub mod Pages
+pub mod Migrates
+pub mod Told
+pub mod Ends
+pub mod Runs
