@@ -148,10 +148,13 @@ pub record IsAdmitted (m : Meaning) (r : Request) (h : ObjectView) (number : Opt
 pub record AdmitsWhole (m : Meaning) : Type 0 where
   pub admitted : (r : Request) (h : ObjectView) (e : Option ℕ) → m.admits r h e → IsAdmitted m r h e
 
--- a request is admitted in one way or refused, and not both
+-- a request is admitted in one way, and isn't refused beside it
 pub record DecidesAdmission (m : Meaning) : Type 0 where
   pub one : (r : Request) (g h : ObjectView) (d e : Option ℕ) → m.admits r g d → m.admits r h e → (g ≡ h) × (d ≡ e)
   pub excludes : (r : Request) (h : ObjectView) (e : Option ℕ) (f : Fault) → m.admits r h e → m.refuses r f → ⊥
+
+-- each request is admitted or refused, for whatever reason
+pub record DecidesEach (m : Meaning) : Type 0 where
   pub complete : (r : Request) → IsRequest m r → ((h : ObjectView) (e : Option ℕ) → m.admits r h e → ⊥) → ((f : Fault) → m.refuses r f → ⊥) → ⊥
 
 -- a request is refused for one reason

@@ -29,13 +29,14 @@ rule_number rule.Storage = 15
 rule_number rule.Served = 16
 rule_number rule.Unknown = 17
 rule_number rule.Wrong = 18
+rule_number rule.Converted = 19
 
 -- the rules in the order of their numbers
 abbrev rules : List Rule
 rules =
     rule.Kind ∷ rule.Enum ∷ rule.Minimum ∷ rule.Maximum ∷ rule.Format ∷ rule.MinLength ∷ rule.MaxLength ∷ rule.MinItems ∷ rule.MaxItems
     ∷ rule.Required ∷ rule.Name ∷ rule.Forbidden ∷ rule.Kept ∷ rule.Size ∷ rule.Immutable ∷ rule.Storage ∷ rule.Served ∷ rule.Unknown
-    ∷ rule.Wrong ∷ []
+    ∷ rule.Wrong ∷ rule.Converted ∷ []
 
 abbrev rule_back : ℕ → Rule
 rule_back n = slice_index_or rules n rule.Wrong
@@ -60,6 +61,7 @@ rule_back-rule_number rule.Storage = refl
 rule_back-rule_number rule.Served = refl
 rule_back-rule_number rule.Unknown = refl
 rule_back-rule_number rule.Wrong = refl
+rule_back-rule_number rule.Converted = refl
 
 abbrev rule_code : Coded Rule
 rule_code = code_by ℕ coded_ℕ rule_number rule_back rule_back-rule_number

@@ -4,7 +4,7 @@ use Rattle.std.proofs.Math.Logic.{∥∥₁_elim}
 use Rattle.std.specs.Coded.{×_prop, le_prop}
 use Rattle.kube_meta.specs.View.{ObjectView}
 use Rattle.api_calls.specs.Meaning.{Request, Weighs}
-use Rattle.api_calls.specs.Versions.{AreFlags, StandsAt, Stand, IgnoresStamps, IsOneToOne, KeepsFinalizers, KeepsKey, NamesDiffer, IsAdmitted, AdmitsWhole, DecidesAdmission, RefusesOnce, RefusesUnread}
+use Rattle.api_calls.specs.Versions.{AreFlags, StandsAt, Stand, IgnoresStamps, IsOneToOne, KeepsFinalizers, KeepsKey, NamesDiffer, IsAdmitted, AdmitsWhole, DecidesAdmission, DecidesEach, RefusesOnce, RefusesUnread}
 use Rattle.crd_reading.specs.Accepted.{AreOffered}
 use Rattle.keep_laws.specs.Given.{OneList}
 use Rattle.crd_meaning.specs.Definition.{Definition, count_of, opening_of, IsLoaded}
@@ -92,13 +92,17 @@ module _ (d : Definition) (o : Settings) where
       let u = verdicts.unread o d in
       record { not_json = u.not_json; too_deep = u.too_deep; not_whole = u.not_whole; not_object = u.not_object }
 
-  pub decides : OneList → ∥ IsLoaded d ∥₁ → DecidesAdmission (loaded_meaning d o)
-  decides one loaded = record {
+  pub decides : OneList → DecidesAdmission (loaded_meaning d o)
+  decides one = record {
     one = λ r g h e f a b. (verdicts.decides (given one) o d a.0).one r g h e f a.1 b.1;
     excludes = λ r h e f a n. (verdicts.decides (given one) o d a.0).excludes r h e f a.1 n;
+  }
+
+  pub decides_each : OneList → ∥ IsLoaded d ∥₁ → DecidesEach (loaded_meaning d o)
+  decides_each one loaded = record {
     complete = λ r is never_admitted never_refused.
         ∥∥₁_elim loaded (λ x y. absurd x)
-        (λ l. (verdicts.decides (given one) o d l).complete r (record { known = is.known; ns = is.ns }) (λ h e a. never_admitted h e (l, a)) never_refused);
+        (λ l. (verdicts.decides_each (given one) o d l).complete r (record { known = is.known; ns = is.ns }) (λ h e a. never_admitted h e (l, a)) never_refused);
   }
 
   -- that two faults are one is a proposition, so that the mere fact that the definition was loaded gives it

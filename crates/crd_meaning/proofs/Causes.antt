@@ -22,7 +22,7 @@ use Rattle.crd_meaning.specs.Admission.{schema_of, IsFilling, Passes, IsUnread}
 use Rattle.crd_meaning.specs.Refusal.{IsNoValue, IsBroken, annotation_prefix, IsBadlyKept, object_path, IsTooLarge, RefusesRequest, no_value, is_early, is_broken, badly_kept, too_large}
 use Rattle.crd_meaning.specs.Meant.{no_settings}
 use Rattle.crd_meaning.specs.Given.{Given}
-use Rattle.crd_meaning.proofs.Filled.{taken_filled}
+use Rattle.crd_meaning.proofs.Filled.{taken_filled, version_sound}
 use Rattle.crd_meaning.proofs.Verdicts.{some_none, taken_one, passes_one, none_broken}
 
 -- ---- the first annotation that can't be read is one
@@ -72,7 +72,7 @@ module _ (known : Given) (d : Definition) (loaded : IsLoaded d) (r : Request) wh
   one_cause : (f g : Fault) → IsBroken d r f → IsBroken d r g → f ≡ g
   one_cause f g a b =
       let same = (taken_one d r a.object b.object a.number b.number a.taken b.taken).0 in
-      let k = taken_filled known d loaded r b.object b.number b.taken in
+      let k = taken_filled known d (version_sound d loaded) r b.object b.number b.taken in
       let here : IsFilling (schema_of d r) a.object.body k.0 = subst (λ (x : ObjectView). IsFilling (schema_of d r) x.body k.0) (sym same) k.1 in
       let causes : Some a.cause ≡ Some b.cause = sym (a.broken k.0 here) ∙ b.broken k.0 k.1 in
       let cause : a.cause ≡ b.cause = cc in
@@ -82,10 +82,10 @@ module _ (known : Given) (d : Definition) (loaded : IsLoaded d) (r : Request) wh
   passed_whole x e f p b =
       let same = (taken_one d r p.taken b.object e b.number p.is b.taken).0 in
       let here : IsFilling (schema_of d r) b.object.body x.body = subst (λ (y : ObjectView). IsFilling (schema_of d r) y.body x.body) same p.filling in
-      none_broken known no_settings d loaded (schema_of d r) x.body b.cause p.valid (b.broken x.body here)
+      none_broken (schema_of d r) x.body b.cause p.valid (b.broken x.body here)
 
   object_one : (x y : ObjectView) (e f : Option ℕ) → Passes d r x e → Passes d r y f → x ≡ y
-  object_one x y e f a b = (passes_one known no_settings d loaded r x y e f a b).0
+  object_one x y e f a b = (passes_one known d r x y e f a b).0
 
   one_note : (f g : Fault) → IsBadlyKept d r f → IsBadlyKept d r g → f ≡ g
   one_note f g a b =

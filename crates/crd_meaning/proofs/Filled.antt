@@ -71,7 +71,7 @@ is_an_object o ps a i ms k h = by_kind (is_object o.kind) k h
     by_kind true (object ns) h = (ns, refl)
     by_kind false k h = (ms, h)
 
-filling_of : (s : Shape) (x : Pairs) → ((k : Json) × Filled s (object (members_of x)) k × IsSoundJson k) → (k : Pairs) × IsFilling s x k
+pub filling_of : (s : Shape) (x : Pairs) → ((k : Json) × Filled s (object (members_of x)) k × IsSoundJson k) → (k : Pairs) × IsFilling s x k
 filling_of (shape o ps a i) x (k, filled, sound) =
     let is = is_an_object o ps a i (members_of x) k filled in
     let same : k ≡ object (members_of (pairs_of is.0)) = is.1 ∙ ap object (sym (members_pairs is.0)) in (
@@ -84,21 +84,21 @@ filling_of (shape o ps a i) x (k, filled, sound) =
 
 -- ---- the defaults of each version
 
-sound_at : (vs : List VersionView) (v : ℕ) → ((w : ℕ) → w < length vs → HasSoundDefaults (slice_index_or vs w no_version).schema) → HasSoundDefaults (slice_index_or vs v no_version).schema
+pub sound_at : (vs : List VersionView) (v : ℕ) → ((w : ℕ) → w < length vs → HasSoundDefaults (slice_index_or vs w no_version).schema) → HasSoundDefaults (slice_index_or vs v no_version).schema
 sound_at [] v h = (tt, tt, tt, tt)
 sound_at (w ∷ vs) zero h = h 0 (omega arith)
 sound_at (w ∷ vs) (suc v) h = sound_at vs v (λ u p. h (suc u) (omega (arith, p)))
 
-module _ (known : Given) (d : Definition) (loaded : IsLoaded d) where
-  pub version_sound : (v : ℕ) → HasSoundDefaults (version_at d v).schema
-  version_sound v = sound_at d.view.versions v (λ w p. (loaded.roots w p).sound)
+pub version_sound : (d : Definition) → IsLoaded d → (v : ℕ) → HasSoundDefaults (version_at d v).schema
+version_sound d loaded v = sound_at d.view.versions v (λ w p. (loaded.roots w p).sound)
 
+module _ (known : Given) (d : Definition) (sound : (v : ℕ) → HasSoundDefaults (version_at d v).schema) where
   pub filled_body : (v : ℕ) (x : Pairs) → AreRising (members_of x) → (k : Pairs) × IsFilling (version_at d v).schema x k
   filled_body v x h =
-      filling_of (version_at d v).schema x (known.fills (version_at d v).schema (object (members_of x)) (version_sound v) h)
+      filling_of (version_at d v).schema x (known.fills (version_at d v).schema (object (members_of x)) (sound v) h)
 
   pub taken_filled : (r : Request) (x : ObjectView) (e : Option ℕ) → IsTaken d r x e → (k : Pairs) × IsFilling (schema_of d r) x.body k
   taken_filled r x e t =
-      let sound = object_sound t.value (reads_sound r.bytes _ t.value t.reads) in
+      let rising = object_sound t.value (reads_sound r.bytes _ t.value t.reads) in
       let body : x.body ≡ (object_in t.value).body = ap (λ (y : ObjectView). y.body) t.object in
-      filled_body r.version x.body (subst (λ (b : Pairs). AreRising (members_of b)) (sym body) sound)
+      filled_body r.version x.body (subst (λ (b : Pairs). AreRising (members_of b)) (sym body) rising)

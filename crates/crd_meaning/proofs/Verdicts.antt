@@ -19,7 +19,7 @@ use Rattle.object_reading.specs.Parts.{text_or_empty, meta_in, object_in}
 use Rattle.object_reading.specs.Refusal.{is_given_text}
 use Rattle.api_calls.specs.Cause.{CauseView, not_json, too_deep, not_whole, not_object, wrong_version, wrong_kind, wrong_namespace, wrong_name, bad_query, bad_token, bad_options}
 use Rattle.api_calls.specs.Meaning.{Request, Fault, bad_request, invalid}
-use Rattle.api_calls.specs.Versions.{IsAdmitted, AdmitsWhole, DecidesAdmission, RefusesUnread}
+use Rattle.api_calls.specs.Versions.{IsAdmitted, AdmitsWhole, DecidesAdmission, DecidesEach, RefusesUnread}
 use Rattle.api_calls.specs.declared.versions.TheConstants.{OBJECT_LEVELS}
 use Rattle.hub_cells.specs.Level.{Name}
 use Rattle.keep_laws.specs.Spokes.{Spokes}
@@ -103,7 +103,7 @@ numbered None (Some s) p q = absurd (cc)
 numbered (Some n) None p q = absurd (cc)
 numbered (Some n) (Some s) p q = ((λ h. refl), (λ h. refl))
 
-abbrev SaysSo : Request → Json → Type 0
+abbrev pub SaysSo : Request → Json → Type 0
 SaysSo r j = IfSome r.name (λ n. (object_in j).meta.name ≡ n) × (IsSome (expected_of (object_in j)) ↔ IsSome r.name)
 
 module _ (d : Definition) (r : Request) where
@@ -123,7 +123,7 @@ module _ (d : Definition) (r : Request) where
       let q = head_none (breaks name number_path rule.Required, replaces && not number) [] f.1 in
       (named_so r.name (field (codes "name") (meta_fields es)) (not_false _ n.0), numbered r.name (number_text es) f.0 q.0)
 
-  says : (j : Json) → early d r j ≡ None → SaysSo r j
+  pub says : (j : Json) → early d r j ≡ None → SaysSo r j
   says null e = absurd (cc)
   says (boolean b) e = absurd (cc)
   says (whole z) e = absurd (cc)
@@ -136,7 +136,7 @@ module _ (d : Definition) (r : Request) where
       let same = one_json r.bytes a.value b.value a.reads b.reads in
       (a.object ∙ ap (λ (j : Json). placed r.ns (object_in j)) same ∙ sym b.object, a.number ∙ ap (λ (j : Json). expected_of (object_in j)) same ∙ sym b.number)
 
-if_some_along : (o : Option (List ℕ)) (a b : List ℕ) → a ≡ b → IfSome o (λ n. b ≡ n) → IfSome o (λ n. a ≡ n)
+pub if_some_along : (o : Option (List ℕ)) (a b : List ℕ) → a ≡ b → IfSome o (λ n. b ≡ n) → IfSome o (λ n. a ≡ n)
 if_some_along None a b e h = tt
 if_some_along (Some n) a b e h = e ∙ h
 
@@ -145,7 +145,7 @@ meta_same all at_hub x y h s p = ap (λ (w : ObjectView). without_notes w.meta) 
 meta_same all (at_spoke t) x y h s p = sym p.1.meta ∙ s.pair.meta ∙ s.over.meta
 meta_same all nowhere x y h s p = absurd p
 
-module _ (known : Given) (o : Settings) (d : Definition) (loaded : IsLoaded d) where
+module _ (known : Given) (d : Definition) where
   filling_one : (s : Shape) (x y k l : Pairs) → x ≡ y → IsFilling s x k → IsFilling s y l → k ≡ l
   filling_one s x y k l e f g =
       let other : Filled s (object (members_of x)) (object (members_of l)) = subst (λ (b : Pairs). Filled s (object (members_of b)) (object (members_of l))) (sym e) g.filled in
@@ -157,6 +157,10 @@ module _ (known : Given) (o : Settings) (d : Definition) (loaded : IsLoaded d) w
       let k = filling_one (schema_of d r) a.taken.body b.taken.body x.body y.body (ap (λ (w : ObjectView). w.body) t.0) a.filling b.filling in
       (a.rest ∙ ap₂ (λ (w : ObjectView) (body : Pairs). record w { body = body }) t.0 k ∙ sym b.rest, t.1)
 
+pub none_broken : (s : Shape) (k : Pairs) (c : CauseView) → check.fault s (object (members_of k)) ≡ None → broken_at s k ≡ Some c → ⊥
+none_broken s k c p q = some_none (broken_at s k) c q (ap (option_map cause_at) p)
+
+module _ (known : Given) (o : Settings) (d : Definition) (loaded : IsLoaded d) where
   pub hub_one : (v : ℕ) (x g h : ObjectView) → IsHubOf d v x g → IsHubOf d v x h → g ≡ h
   hub_one v x g h a b =
       let same = one_left known d loaded v x a.left b.left a.settles b.settles in
@@ -180,7 +184,7 @@ module _ (known : Given) (o : Settings) (d : Definition) (loaded : IsLoaded d) w
 
   one : (r : Request) (g h : ObjectView) (e f : Option ℕ) → Admits d r g e → Admits d r h f → (g ≡ h) × (e ≡ f)
   one r g h e f a b =
-      let same = passes_one r a.object b.object e f a.passes b.passes in
+      let same = passes_one known d r a.object b.object e f a.passes b.passes in
       (hub_one r.version b.object g h (subst (λ (x : ObjectView). IsHubOf d r.version x g) same.0 a.hub) b.hub, same.1)
 
   -- ---- not both
@@ -206,9 +210,6 @@ module _ (known : Given) (o : Settings) (d : Definition) (loaded : IsLoaded d) w
   excludes_value r h e (bad_request bad_options) a n = n
   excludes_value r h e (invalid name cause) a n = n
 
-  pub none_broken : (s : Shape) (k : Pairs) (c : CauseView) → check.fault s (object (members_of k)) ≡ None → broken_at s k ≡ Some c → ⊥
-  none_broken s k c p q = some_none (broken_at s k) c q (ap (option_map cause_at) p)
-
   excludes : (r : Request) (h : ObjectView) (e : Option ℕ) (f : Fault) → Admits d r h e → RefusesRequest d r f → ⊥
   excludes r h e f a (no_value n) = excludes_value r h e f a n
   excludes r h e f a (is_early t) =
@@ -220,10 +221,10 @@ module _ (known : Given) (o : Settings) (d : Definition) (loaded : IsLoaded d) w
       let filling : IsFilling (schema_of d r) b.object.body a.object.body = subst (λ (x : ObjectView). IsFilling (schema_of d r) x.body a.object.body) same.0 p.filling in
       none_broken (schema_of d r) a.object.body b.cause p.valid (b.broken a.object.body filling)
   excludes r h e f a (badly_kept b) =
-      let same = passes_one r a.object b.object e b.number a.passes b.passes in
+      let same = passes_one known d r a.object b.object e b.number a.passes b.passes in
       a.read b.key (subst (λ (x : ObjectView). IsUnread d r x b.key) (sym same.0) b.unread)
   excludes r h e f a (too_large b) =
-      let same = passes_one r a.object b.object e b.number a.passes b.passes in
+      let same = passes_one known d r a.object b.object e b.number a.passes b.passes in
       b.large h (subst (λ (x : ObjectView). IsHubOf d r.version x h) same.0 a.hub) a.light
 
   -- ---- one of both
@@ -251,7 +252,7 @@ module _ (known : Given) (o : Settings) (d : Definition) (loaded : IsLoaded d) w
           taken = t;
           cause = cause_at g;
           told = refl;
-          broken = λ l m. ap (broken_at (schema_of d r)) (filling_one (schema_of d r) x.body x.body l k refl m f) ∙ ap (option_map cause_at) q;
+          broken = λ l m. ap (broken_at (schema_of d r)) (filling_one known d (schema_of d r) x.body x.body l k refl m f) ∙ ap (option_map cause_at) q;
         }))
 
     taken_decided : (x : ObjectView) (e : Option ℕ) → IsTaken d r x e → ⊥
@@ -288,11 +289,10 @@ module _ (known : Given) (o : Settings) (d : Definition) (loaded : IsLoaded d) w
     decided = never_refused (bad_request not_json) (no_value data_decided)
 
   pub decides : DecidesAdmission (meaning_of d o)
-  decides = record {
-    one = one;
-    excludes = excludes;
-    complete = λ r is never_admitted never_refused. decided r never_admitted never_refused;
-  }
+  decides = record { one = one; excludes = excludes }
+
+  pub decides_each : DecidesEach (meaning_of d o)
+  decides_each = record { complete = λ r is never_admitted never_refused. decided r never_admitted never_refused }
 
   pub admits_whole : AdmitsWhole (meaning_of d o)
   admits_whole = record { admitted = admitted }

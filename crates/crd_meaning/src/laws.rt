@@ -6,7 +6,7 @@ ghost use Rattle.kj_value.specs.Fields.{Pairs};
 ghost use Rattle.kj_value.specs.Sound.{AreRising};
 ghost use Rattle.kube_meta.specs.View.{ObjectView};
 ghost use Rattle.api_calls.specs.Meaning.{Fault, Request};
-ghost use Rattle.api_calls.specs.Versions.{AdmitsWhole, DecidesAdmission, IgnoresStamps, IsOneToOne, KeepsFinalizers, RefusesUnread, Stand};
+ghost use Rattle.api_calls.specs.Versions.{AdmitsWhole, DecidesAdmission, DecidesEach, IgnoresStamps, IsOneToOne, KeepsFinalizers, RefusesUnread, Stand};
 ghost use Rattle.hub_cells.specs.Side.{spoke};
 ghost use Rattle.hub_cells.specs.Level.{Name};
 ghost use Rattle.keep_laws.specs.FittedBody.{IsBodyOf};
@@ -58,9 +58,10 @@ pub fn one_to_one()
     given();
 }
 
-/// A request is admitted in one way or refused, and not both.
+/// A request is admitted in one way or refused, and not both; and each is one of them.
 pub fn deciding()
-    ensures { (d : Definition) → IsLoaded d → DecidesAdmission (meant d) }
+    ensures once { (d : Definition) → IsLoaded d → DecidesAdmission (meant d) }
+    ensures each { (d : Definition) → IsLoaded d → DecidesEach (meant d) }
 {
     known();
 }

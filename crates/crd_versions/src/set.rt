@@ -104,7 +104,7 @@ impl Versions for VersionSet {
 
     ghost admitted = { λ it. admits_whole it.set (settings_of it.set.view) it.one_list };
 
-    ghost decides = { λ it honest. decides it.set (settings_of it.set.view) it.one_list it.loaded };
+    ghost decides = { λ it honest. decides it.set (settings_of it.set.view) it.one_list };
 
     ghost refuses_once = { λ it honest. refuses_once it.set (settings_of it.set.view) it.one_list it.loaded };
 

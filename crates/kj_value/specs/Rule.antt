@@ -1,7 +1,7 @@
 -- The word of each rule that a document can break.
 use Rattle.std.specs.Prelude.{ℕ, List, codes}
 use Rattle.kj_value.specs.declared.rule.Rule.{Rule}
-use Rattle.kj_value.specs.declared.rule.Rule.TheVariants.{Kind, Enum, Minimum, Maximum, Format, MinLength, MaxLength, MinItems, MaxItems, Required, Name, Forbidden, Kept, Size, Immutable, Storage, Served, Unknown, Wrong}
+use Rattle.kj_value.specs.declared.rule.Rule.TheVariants.{Kind, Enum, Minimum, Maximum, Format, MinLength, MaxLength, MinItems, MaxItems, Required, Name, Forbidden, Kept, Size, Immutable, Storage, Served, Unknown, Wrong, Converted}
 
 unfoldable pub rule_word : Rule → List ℕ
 rule_word Kind = codes "Type"
@@ -23,3 +23,4 @@ rule_word Storage = codes "Storage"
 rule_word Served = codes "Served"
 rule_word Unknown = codes "Unknown"
 rule_word Wrong = codes "Wrong"
+rule_word Converted = codes "Converted"

@@ -34,6 +34,8 @@ pub enum Rule {
     Unknown,
     /// Another value than the only one that may stand here.
     Wrong,
+    /// An object that a converter can't turn.
+    Converted,
 }
 
 impl Rule {
@@ -62,6 +64,7 @@ impl Rule {
             Rule::Served => "Served",
             Rule::Unknown => "Unknown",
             Rule::Wrong => "Wrong",
+            Rule::Converted => "Converted",
         }
     }
 }

@@ -15,7 +15,7 @@ use Rattle.api_calls.specs.Cause.{CauseView, not_json, too_deep, not_whole, not_
 use Rattle.api_calls.specs.Meaning.{Request, Fault, bad_request, invalid, Weighs, stamped, unnumbered, widest, chunks, measure}
 use Rattle.api_calls.specs.Readings.{IsFaulty, one_fault}
 use Rattle.api_calls.specs.Readings as reading
-use Rattle.api_calls.specs.Versions.{AreFlags, AreStamps, IsBody, StandsAt, Stand, IgnoresStamps, IsOneToOne, IsRequest, KeepsFinalizers, KeepsKey, NamesDiffer, IsAdmitted, AdmitsWhole, DecidesAdmission, RefusesOnce, RefusesUnread, DecidesBodies}
+use Rattle.api_calls.specs.Versions.{AreFlags, AreStamps, IsBody, StandsAt, Stand, IgnoresStamps, IsOneToOne, IsRequest, KeepsFinalizers, KeepsKey, NamesDiffer, IsAdmitted, AdmitsWhole, DecidesAdmission, DecidesEach, RefusesOnce, RefusesUnread, DecidesBodies}
 use Rattle.api_calls.specs.declared.flags.Flags.{Flags}
 use Rattle.api_calls.specs.declared.versions.TheConstants.{OBJECT_LEVELS}
 use Rattle.versions_fixture.specs.Parts.{PartsView, body_at, meta_at, object_at, bare, version_at, version_name}
@@ -356,7 +356,10 @@ complete r is never_admitted never_refused =
     never_refused (bad_request not_json) (λ d reading. data_decided r d is reading never_admitted never_refused)
 
 pub decides : DecidesAdmission two_names
-decides = record { one = one; excludes = excludes; complete = complete }
+decides = record { one = one; excludes = excludes }
+
+pub decides_each : DecidesEach two_names
+decides_each = record { complete = complete }
 
 pub admits_whole : AdmitsWhole two_names
 admits_whole = record { admitted = admitted }
