@@ -1,14 +1,5 @@
-pub mod Paths
-pub mod Places
-pub mod Forms
-pub mod Snoc
 pub mod Spelled
 pub mod Steps
-pub mod Takes
-pub mod Names
-pub mod Depths
-pub mod Facts
-pub mod Responses
 pub mod Respond
 pub mod Versions
 pub mod Invalid

@@ -5,10 +5,11 @@ use Rattle.kj_value.specs.Json.{items_of}
 use Rattle.kj_value.specs.Text.{items_text, quoted}
 use Rattle.kj_value.specs.Txt.{Bytes}
 use Rattle.crd_meaning.specs.Definition.{Definition}
-use Rattle.review_batch.specs.Page.{PageView}
-use Rattle.review_batch.specs.Request.{RequestView}
+use Rattle.review_forms.specs.Page.{PageView}
+use Rattle.review_forms.specs.Request.{RequestView}
 use Rattle.review_batch.specs.Answer.{ComesOfReview, IsGroupVersion, success, failure, all}
-use Rattle.review_batch.specs.Spelling.{success_front, success_middle, failure_front, failure_middle, review_end}
+use Rattle.review_forms.specs.Spelling.{review_end}
+use Rattle.review_batch.specs.Spelling.{success_front, success_middle, failure_front, failure_middle}
 use Rattle.review_batch.specs.Steps.{GoesOn, IsResponse}
 use Rattle.review_batch.proofs.Spelled.{success-text, failure-text}
 

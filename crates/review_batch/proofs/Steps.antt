@@ -6,11 +6,11 @@ use Rattle.kj_value.specs.Json.{Json, items_of}
 use Rattle.kj_value.specs.Text.{text_of, items_text}
 use Rattle.crd_meaning.specs.Definition.{Definition}
 use Rattle.crd_meaning.specs.Converted.{IsConverted}
-use Rattle.review_batch.specs.Page.{PageView}
+use Rattle.review_forms.specs.Page.{PageView}
 use Rattle.review_batch.specs.Answer.{AreConverted, IsFirstWithout, blame}
-use Rattle.review_batch.specs.Spelling.{comma_before}
+use Rattle.review_forms.specs.Spelling.{comma_before}
 use Rattle.review_batch.specs.Steps.{HasValue, HasNone, GoesOn}
-use Rattle.review_batch.proofs.Snoc.{items-snoc, take-snoc, split_at}
+use Rattle.review_forms.proofs.Snoc.{items-snoc, take-snoc, split_at}
 
 -- what is known in the loop
 pub record Along (d : Definition) (v : ℕ) (js rest : List Json) (i : ℕ) (before now : PageView) : Type 0 where

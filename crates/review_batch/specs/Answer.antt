@@ -10,9 +10,9 @@ use Rattle.keep_laws.specs.Spokes.{api_version}
 use Rattle.crd_meaning.specs.Definition.{Definition, count_of, version_at}
 use Rattle.crd_meaning.specs.Converted.{IsConverted}
 use Rattle.crd_meaning.specs.Unconverted.{IsUnconverted}
-use Rattle.review_batch.specs.declared.levels.TheConstants.{REVIEW_LEVELS}
-use Rattle.review_batch.specs.Form.{Path, part}
-use Rattle.review_batch.specs.Request.{RequestView, request_part, request_fault, request_of, review_document}
+use Rattle.review_forms.specs.declared.levels.TheConstants.{REVIEW_LEVELS}
+use Rattle.review_forms.specs.Form.{Path, part, response_part, IsUnreadable}
+use Rattle.review_forms.specs.Request.{RequestView, request_part, request_fault, request_of, review_document}
 
 -- ---- the result
 
@@ -62,9 +62,6 @@ pub data ComesOfReview (d : Definition) (r : RequestView) : Outcome → Type 0 w
 
 -- ---- the document of a response
 
-abbrev pub response_part : List ℕ
-response_part = codes "response"
-
 abbrev pub response_document : List ℕ → Outcome → Json
 response_document uid (success ks) = review_document response_part (object (members_of (
     (codes "convertedObjects", list (items_of ks))
@@ -77,10 +74,6 @@ response_document uid (failure message) = review_document response_part (object 
     ∷ [])))
 
 -- ---- an answer to bytes
-
--- no value of at most so many levels is read
-abbrev pub IsUnreadable : List ℕ → Type 0
-IsUnreadable bytes = (j : Json) → Reads bytes REVIEW_LEVELS j → ⊥
 
 -- the bytes are a review of a request, and the text is the response
 pub record IsAnswer (d : Definition) (bytes answer : List ℕ) : Type 0 where

@@ -1,12 +1,3 @@
-pub mod First
-pub mod Form
-pub mod Request
 pub mod Answer
-pub mod Sameness
-pub mod Response
-pub mod Told
-pub mod Faults
-pub mod Seen
-pub mod Page
 pub mod Spelling
 pub mod Steps

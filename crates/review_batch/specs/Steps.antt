@@ -7,8 +7,8 @@ use Rattle.api_calls.specs.Meaning.{invalid}
 use Rattle.crd_meaning.specs.Definition.{Definition}
 use Rattle.crd_meaning.specs.Converted.{IsConverted}
 use Rattle.crd_meaning.specs.Unconverted.{IsUnconverted}
-use Rattle.review_batch.specs.Page.{PageView}
-use Rattle.review_batch.specs.Request.{RequestView}
+use Rattle.review_forms.specs.Page.{PageView}
+use Rattle.review_forms.specs.Request.{RequestView}
 use Rattle.review_batch.specs.Answer.{AreConverted, Outcome, ComesOfReview, blame, response_document}
 
 -- the text is that of the document's value

@@ -4,23 +4,21 @@ ghost use Rattle.kj_value.specs.Json.{items_depth, items_of};
 ghost use Rattle.kj_value.specs.Text.{quoted};
 ghost use Rattle.api_calls.specs.declared.versions.TheConstants.{OBJECT_LEVELS};
 ghost use Rattle.crd_versions.specs.Set.{definition_of};
-ghost use Rattle.review_batch.specs.Form.{no_object};
-ghost use Rattle.review_batch.specs.Request.{objects_path};
+ghost use Rattle.review_forms.specs.Form.{no_object};
+ghost use Rattle.review_forms.specs.Request.{objects_path};
 ghost use Rattle.review_batch.specs.Answer.{IsAnswer, IsNoRequest, IsGroupVersion};
-ghost use Rattle.review_batch.specs.Faults.{OnNotReview};
-ghost use Rattle.review_batch.specs.Seen.{view_of};
+ghost use Rattle.review_forms.specs.Faults.{OnNotReview};
+ghost use Rattle.review_forms.specs.Seen.{view_of};
 ghost use Rattle.review_batch.specs.Steps.{IsResponse};
-ghost use Rattle.review_batch.specs.Spelling.{success_middle, failure_front, failure_middle, review_end};
+ghost use Rattle.review_forms.specs.Spelling.{review_end};
+ghost use Rattle.review_batch.specs.Spelling.{success_middle, failure_front, failure_middle};
 
 use crate::converting::converted;
-use crate::fault::ReviewFault;
 use crate::levels::ANSWER_ROOM;
-use crate::request::{Request, take_request};
-use crate::reviews::read_review;
-use crate::texts::{Page, quoted};
 use api_calls::Versions;
 use crd_versions::VersionSet;
 use kj_value::{NoMemory, Txt};
+use review_forms::{Page, Request, ReviewFault, quoted, read_review, take_request};
 use std::alloc::Global;
 
 /// The response to a review of a request (both `ConversionReview` of apiextensions.k8s.io/v1, as JSON), as its compact text of at most
@@ -81,7 +79,7 @@ const FAILURE_MIDDLE: &str = ",\"status\":\"Failure\"},\"uid\":";
 const REVIEW_END: &str = "}}";
 
 // What stands behind the converted objects.
-#[tactic(auto, unfolding(crate::specs::Spelling::success_middle, crate::specs::Spelling::review_end))]
+#[tactic(auto, unfolding(crate::specs::Spelling::success_middle, review_forms::specs::Spelling::review_end))]
 fn success_end(alloc: Global, page: Page, uid: Txt) -> Result<Txt, NoMemory>
     ensures text { IfOk result (λ t. t.bytes ≡ page.text ++ success_middle ++ quoted uid.bytes ++ review_end) }
     ensures room { IfOk result (λ t. length t.bytes ≤ page.most) }
@@ -94,7 +92,7 @@ fn success_end(alloc: Global, page: Page, uid: Txt) -> Result<Txt, NoMemory>
 }
 
 // The whole of a response that has no objects.
-#[tactic(auto, unfolding(crate::specs::Spelling::failure_front, crate::specs::Spelling::failure_middle, crate::specs::Spelling::review_end))]
+#[tactic(auto, unfolding(crate::specs::Spelling::failure_front, crate::specs::Spelling::failure_middle, review_forms::specs::Spelling::review_end))]
 fn failure(alloc: Global, page: Page, uid: Txt, message: Txt) -> Result<Txt, NoMemory>
     ensures text { IfOk result (λ t. t.bytes
         ≡ page.text ++ failure_front ++ quoted message.bytes ++ failure_middle ++ quoted uid.bytes ++ review_end) }

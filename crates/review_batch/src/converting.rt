@@ -7,16 +7,16 @@ ghost use Rattle.api_calls.specs.Cause.{cause_of};
 ghost use Rattle.api_calls.specs.declared.versions.TheConstants.{OBJECT_LEVELS};
 ghost use Rattle.crd_meaning.specs.Definition.{count_of};
 ghost use Rattle.crd_versions.specs.Set.{definition_of};
-ghost use Rattle.review_batch.specs.Form.{no_object};
-ghost use Rattle.review_batch.specs.Request.{objects_path};
+ghost use Rattle.review_forms.specs.Form.{no_object};
+ghost use Rattle.review_forms.specs.Request.{objects_path};
 ghost use Rattle.review_batch.specs.Answer.{IsFirstWithout, blame};
 ghost use Rattle.review_batch.specs.Steps.{HasValue, HasNone, GoesOn};
 
-use crate::texts::{Page, comma_before};
 use api_calls::{AdmitFault, Cause};
 use crd_meaning::one_value;
 use crd_versions::VersionSet;
 use kj_value::{JItems, JVal, NoMemory, Txt, write};
+use review_forms::{Page, comma_before};
 use std::alloc::Global;
 
 /// Adds the texts of the objects' values at a version, with commas between them, or tells the first that has no value, and why.

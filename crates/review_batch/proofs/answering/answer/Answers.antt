@@ -1,10 +1,10 @@
 use Rattle.std.proofs.Common.{◌≡◌, Some, [], sym, subst}
 use Rattle.std.proofs.lemmas.Result.{err_from_is_err_and}
 use Rattle.kj_value.specs.Seen.{json}
-use Rattle.review_batch.specs.Form.{Path}
-use Rattle.review_batch.specs.Request.{request_fault}
-use Rattle.review_batch.specs.Answer.{IsUnreadable, IsNoRequest, unread, other}
-use Rattle.review_batch.proofs.Paths.{on_other}
+use Rattle.review_forms.specs.Form.{Path, IsUnreadable}
+use Rattle.review_forms.specs.Request.{request_fault}
+use Rattle.review_batch.specs.Answer.{IsNoRequest, unread, other}
+use Rattle.review_forms.proofs.Paths.{on_other}
 use Rattle.review_batch.proofs.answering.answer.Goals as goal
 
 pub returns-in_err-document-clause-refused : goal.returns-in_err-document-clause-refused

@@ -6,12 +6,12 @@ use Rattle.kj_value.specs.Kinds.{as_object}
 use Rattle.kj_value.specs.Seen.{json}
 use Rattle.kj_value.specs.Txt.{Bytes}
 use Rattle.crd_versions.specs.Set.{definition_of}
-use Rattle.review_batch.specs.Page.{PageView}
-use Rattle.review_batch.specs.Spelling.{comma_before}
+use Rattle.review_forms.specs.Page.{PageView}
+use Rattle.review_forms.specs.Spelling.{comma_before}
 use Rattle.review_batch.specs.Steps.{HasValue, HasNone}
-use Rattle.review_batch.proofs.Facts.{none_mapped, when_ok, when_err}
-use Rattle.review_batch.proofs.Places.{none_there}
-use Rattle.review_batch.proofs.Snoc.{same_item, drop-put, drop-more, length-put}
+use Rattle.review_forms.proofs.Facts.{none_mapped, when_ok, when_err}
+use Rattle.review_forms.proofs.Places.{none_there}
+use Rattle.review_forms.proofs.Snoc.{same_item, drop-put, drop-more, length-put}
 use Rattle.review_batch.proofs.Steps.{Along, goes_on, first_without}
 use Rattle.review_batch.proofs.converting.converted.Goals as goal
 

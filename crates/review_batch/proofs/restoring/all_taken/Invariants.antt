@@ -1,5 +1,0 @@
-use Rattle.review_batch.proofs.Takes.{Taking}
-use Rattle.review_batch.proofs.restoring.all_taken.Given as goal
-
-abbrev pub invariant-loop-i : goal.invariant-loop-i
-invariant-loop-i l = Taking l.fn.objects l.fn.sent l.rest l.i l.made

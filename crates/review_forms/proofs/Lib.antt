@@ -1,0 +1,10 @@
+pub mod Paths
+pub mod Places
+pub mod Forms
+pub mod Snoc
+pub mod Spelled
+pub mod Takes
+pub mod Names
+pub mod Depths
+pub mod Facts
+pub mod Responses
