@@ -1,0 +1,3 @@
+pub mod Lacks
+pub mod Taken
+pub mod Asked
