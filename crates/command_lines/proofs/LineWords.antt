@@ -1,0 +1,473 @@
+-- What words are as options, and which line they are.
+use Rattle.std.proofs.Common.{◌≡◌, ◌≢◌, ◌∙◌, ℕ, ◌<◌, ◌≤◌, List, [], ◌∷◌, ◌++◌, suc, ◌-◌, length, map, take, drop, get_or, refl, ap, sym, subst, arith, inl, inr, Option, Some, None}
+use Rattle.std.specs.Prelude.{codes, decimal, IfSome, MatchOption, ◌^◌, ◌==◌, if◌then◌else◌}
+use Rattle.std.proofs.Math.Seq.{take-length}
+use Rattle.std.proofs.lemmas.List.{append_cancel_left}
+use Rattle.std.proofs.lemmas.Fmt.{decimal_injective}
+use Rattle.kj_value.specs.Texts.{bytes_of}
+use Rattle.kj_value.specs.declared.txt.Txt.{Txt}
+use Rattle.command_lines.specs.declared.words.Taken.{Taken}
+use Rattle.command_lines.specs.declared.words.Given.{Given}
+use Rattle.command_lines.specs.declared.words.Command.{Command}
+use Rattle.command_lines.specs.declared.numbers.TheConstants.{MOST_STEPS}
+use Rattle.command_lines.specs.Given.{Within, line_of, values_in, TakesFirst, GivesOne, IsCommand}
+use Rattle.command_lines.specs.Lines.{built_in, from_files, example, no_definition, convert, review, Line, Service, pipe, task, drill, serve, migrate, Flag, crd_flag, rules_flag, to_flag, turns_flag, listen_flag, workers_flag, connections_flag, flag_text, IsValue, IsUnserved, BeginsWithOption, apart, joined, Values, no_values, value_at, with_value, Gives, no_more, one_more, command_word, SpellsTurns, SpellsWorkers, SpellsConnections, HasValues, HasOptions, HasNumbers, HasAddress, IsLine}
+
+-- ---- one option
+
+-- the third and the fourth byte of an option's name tell which it is
+named_by : ℕ → ℕ → Flag
+named_by third fourth =
+    if third == 99 then (if fourth == 114 then crd_flag else connections_flag) else (
+    if third == 114 then rules_flag else (
+    if third == 116 then (if fourth == 111 then to_flag else turns_flag) else (
+    if third == 108 then listen_flag else workers_flag)))
+
+named : List ℕ → Flag
+named s = named_by (get_or s 2 0) (get_or s 3 0)
+
+names : (f : Flag) (x : List ℕ) → named (flag_text f ++ x) ≡ f
+unfolding named named_by
+names crd_flag x = refl
+names rules_flag x = refl
+names to_flag x = refl
+names turns_flag x = refl
+names listen_flag x = refl
+names workers_flag x = refl
+names connections_flag x = refl
+
+-- no option's name is the front of another one's
+pub same_flag : (f g : Flag) (x y : List ℕ) → flag_text f ++ x ≡ flag_text g ++ y → (f ≡ g) × (x ≡ y)
+same_flag f g x y e =
+    let same : f ≡ g = sym (names f x) ∙ ap named e ∙ names g y in
+    (same, append_cancel_left (flag_text f) x y (e ∙ ap (λ (h : Flag). flag_text h ++ y) (sym same)))
+
+flag_alone : (f : Flag) → flag_text f ≡ flag_text f ++ []
+flag_alone crd_flag = refl
+flag_alone rules_flag = refl
+flag_alone to_flag = refl
+flag_alone turns_flag = refl
+flag_alone listen_flag = refl
+flag_alone workers_flag = refl
+flag_alone connections_flag = refl
+
+-- a word that begins with no name of these three groups begins with none
+pub no_name : (w : List ℕ) → ((end : List ℕ) → w ≢ flag_text turns_flag ++ end)
+    → ((end : List ℕ) → w ≢ flag_text crd_flag ++ end) → ((end : List ℕ) → w ≢ flag_text rules_flag ++ end) → ((end : List ℕ) → w ≢ flag_text to_flag ++ end)
+    → ((end : List ℕ) → w ≢ flag_text listen_flag ++ end) → ((end : List ℕ) → w ≢ flag_text workers_flag ++ end) → ((end : List ℕ) → w ≢ flag_text connections_flag ++ end)
+    → (f : Flag) (end : List ℕ) → w ≢ flag_text f ++ end
+no_name w turns crd rules to listen workers connections crd_flag = crd
+no_name w turns crd rules to listen workers connections rules_flag = rules
+no_name w turns crd rules to listen workers connections to_flag = to
+no_name w turns crd rules to listen workers connections turns_flag = turns
+no_name w turns crd rules to listen workers connections listen_flag = listen
+no_name w turns crd rules to listen workers connections workers_flag = workers
+no_name w turns crd rules to listen workers connections connections_flag = connections
+
+-- the first word begins with the option's name
+pub front : (w : List ℕ) (ws : List (List ℕ)) (f : Flag) (v : List ℕ) (r : List (List ℕ)) → BeginsWithOption (w ∷ ws) f v r
+    → (end : List ℕ) × (w ≡ flag_text f ++ end)
+front w ws f v r (apart is value) = let e : w ≡ flag_text f = cc in ([], e ∙ flag_alone f)
+front w ws f v r (joined is value) = (codes "=" ++ v, cc)
+
+pub none_begins : (f : Flag) (v : List ℕ) (r : List (List ℕ)) → BeginsWithOption [] f v r → ⊥
+none_begins f v r (apart is value) = cc
+none_begins f v r (joined is value) = cc
+
+-- a word that is an option's name has its value in the next one
+pub record IsApart (f g : Flag) (ws : List (List ℕ)) (v : List ℕ) (r : List (List ℕ)) : Type 0 where
+  pub flag : f ≡ g
+  pub words : ws ≡ v ∷ r
+  pub value : IsValue v
+
+pub is_apart : (f g : Flag) (ws : List (List ℕ)) (v : List ℕ) (r : List (List ℕ)) → BeginsWithOption (flag_text g ∷ ws) f v r → IsApart f g ws v r
+is_apart f g ws v r (apart is value) =
+    let e : flag_text f ≡ flag_text g = cc in
+    let p : flag_text f ++ [] ≡ flag_text g ++ [] = sym (flag_alone f) ∙ e ∙ flag_alone g in
+    record { flag = (same_flag f g [] [] p).0; words = cc; value = value }
+is_apart f g ws v r (joined is value) =
+    let d : flag_text f ++ (codes "=" ++ v) ≡ flag_text g = cc in
+    let p : flag_text f ++ (codes "=" ++ v) ≡ flag_text g ++ [] = d ∙ flag_alone g in
+    let e : codes "=" ++ v ≡ [] = (same_flag f g (codes "=" ++ v) [] p).1 in cc
+
+-- a longer one has its value behind it
+pub record IsJoined (f g : Flag) (end : List ℕ) (ws : List (List ℕ)) (v : List ℕ) (r : List (List ℕ)) : Type 0 where
+  pub flag : f ≡ g
+  pub end_is : end ≡ codes "=" ++ v
+  pub rest : ws ≡ r
+  pub value : IsValue v
+
+pub is_joined : (f g : Flag) (end : List ℕ) (ws : List (List ℕ)) (v : List ℕ) (r : List (List ℕ)) → end ≢ []
+    → BeginsWithOption ((flag_text g ++ end) ∷ ws) f v r → IsJoined f g end ws v r
+is_joined f g end ws v r some (apart is value) =
+    let d : flag_text g ++ end ≡ flag_text f = cc in
+    let p : flag_text g ++ end ≡ flag_text f ++ [] = d ∙ flag_alone f in
+    absurd (some (same_flag g f end [] p).1)
+is_joined f g end ws v r some (joined is value) =
+    let p : flag_text g ++ end ≡ flag_text f ++ (codes "=" ++ v) = cc in
+    let s = same_flag g f end (codes "=" ++ v) p in
+    record { flag = sym s.0; end_is = s.1; rest = cc; value = value }
+
+-- words begin with one option
+pub record AreSame (f g : Flag) (v w : List ℕ) (r s : List (List ℕ)) : Type 0 where
+  pub flag : f ≡ g
+  pub value : v ≡ w
+  pub rest : r ≡ s
+
+pub one_option : (ws : List (List ℕ)) (f g : Flag) (v w : List ℕ) (r s : List (List ℕ)) → BeginsWithOption ws f v r → BeginsWithOption ws g w s → AreSame f g v w r s
+one_option ws f g v w r s (apart is value) b =
+    let a = is_apart g f (v ∷ r) w s (subst (λ (x : List (List ℕ)). BeginsWithOption x g w s) is b) in
+    let e : v ∷ r ≡ w ∷ s = a.words in
+    record { flag = sym a.flag; value = cc; rest = cc }
+one_option ws f g v w r s (joined is value) b =
+    let a = is_joined g f (codes "=" ++ v) r w s (λ e. cc) (subst (λ (x : List (List ℕ)). BeginsWithOption x g w s) is b) in
+    record { flag = sym a.flag; value = append_cancel_left (codes "=") v w a.end_is; rest = a.rest }
+
+-- ---- all options
+
+pub gives_rest : (ws : List (List ℕ)) (f : Flag) (v : List ℕ) (r : List (List ℕ)) (before after : Values) → BeginsWithOption ws f v r
+    → Gives ws before after → (value_at f before ≡ None) × Gives r (with_value f v before) after
+gives_rest ws f v r before after b (no_more values) = absurd (none_begins f v r b)
+gives_rest ws f v r before after b (one_more words g w s first last c free gives) =
+    let same = one_option ws f g v w r s b c in
+    (rw same.flag free, rw (same.flag, same.value, same.rest) gives)
+
+-- ---- the line
+
+-- a text spells one number
+one_number : (given : Option (List ℕ)) (m n : ℕ) → SpellsTurns given m → SpellsTurns given n → m ≡ n
+one_number None m n one other = one ∙ sym other
+one_number (Some text) m n one other = decimal_injective m n (omega (arith, one.1)) (omega (arith, other.1)) (sym one.0 ∙ other.0)
+
+-- a text spells one number of workers
+one_workers : (given : Option (List ℕ)) (m n : ℕ) → SpellsWorkers given m → SpellsWorkers given n → m ≡ n
+one_workers None m n one other = one ∙ sym other
+one_workers (Some text) m n one other = decimal_injective m n (omega (arith, one.1)) (omega (arith, other.1)) (sym one.0 ∙ other.0)
+
+-- and one number of connections, or none
+pub one_connections : (given : Option (List ℕ)) (c d : Option ℕ) → SpellsConnections given c → SpellsConnections given d → c ≡ d
+one_connections None c d one other = one ∙ sym other
+one_connections (Some text) c d one other =
+    let same : one.0 ≡ other.0 = decimal_injective one.0 other.0 (omega (arith, one.4)) (omega (arith, other.4)) (sym one.2 ∙ other.2) in
+    one.1 ∙ ap (λ (n : ℕ). Some n) same ∙ sym other.1
+
+one_service : (s t : Service) → Some s.crd ≡ Some t.crd → Some s.rules ≡ Some t.rules → Some s.place ≡ Some t.place → s.workers ≡ t.workers → s.connections ≡ t.connections → s ≡ t
+one_service s t crd rules place workers connections =
+    let c : s.crd ≡ t.crd = cc in
+    let r : s.rules ≡ t.rules = cc in
+    let p : s.place ≡ t.place = cc in
+    ap (λ (x : List ℕ). record s { crd = x }) c
+    ∙ ap (λ (x : List ℕ). record { crd = t.crd; rules = x; place = s.place; workers = s.workers; connections = s.connections }) r
+    ∙ ap (λ (x : List ℕ). record { crd = t.crd; rules = t.rules; place = x; workers = s.workers; connections = s.connections }) p
+    ∙ ap (λ (n : ℕ). record { crd = t.crd; rules = t.rules; place = t.place; workers = n; connections = s.connections }) workers
+    ∙ ap (λ (o : Option ℕ). record t { connections = o }) connections
+
+pub one_line : (a b : Line) (v : Values) → command_word a ≡ command_word b → HasValues a v → HasValues b v → a ≡ b
+one_line (pipe built_in m) (pipe built_in n) v e one other = ap (λ (k : ℕ). pipe built_in k) (one_number v.turns m n one.3 other.3)
+one_line (pipe built_in m) (pipe (from_files d s) n) v e one other = let crd_is : None ≡ Some d = sym one.0 ∙ other.0 in cc
+one_line (pipe built_in m) (task d s (convert w)) v e one other = let first : 112 ≡ 99 = ap (λ (s : List ℕ). get_or s 0 0) e in absurd (omega (arith, first))
+one_line (pipe built_in m) (task d s review) v e one other = let first : 112 ≡ 114 = ap (λ (s : List ℕ). get_or s 0 0) e in absurd (omega (arith, first))
+one_line (pipe built_in m) (pipe example n) v e one other = absurd other
+one_line (pipe built_in m) (pipe no_definition n) v e one other = absurd other
+one_line (pipe built_in m) (migrate u) v e one other = absurd other
+one_line (pipe built_in m) (drill a b) v e one other = absurd other
+one_line (pipe built_in m) (serve s) v e one other = let listen : None ≡ Some s.place = sym one.4.0 ∙ other.4 in cc
+one_line (pipe example m) b v e one other = absurd one
+one_line (pipe no_definition m) b v e one other = absurd one
+one_line (migrate u) b v e one other = absurd one
+one_line (drill x n) b v e one other = absurd one
+one_line (pipe (from_files c r) m) (pipe built_in n) v e one other = let crd_is : Some c ≡ None = sym one.0 ∙ other.0 in cc
+one_line (pipe (from_files c r) m) (pipe (from_files d s) n) v e one other =
+    let crd_is : Some c ≡ Some d = sym one.0 ∙ other.0 in
+    let rules_is : Some r ≡ Some s = sym one.1 ∙ other.1 in
+    let turns_are : m ≡ n = one_number v.turns m n one.3 other.3 in
+    cc
+one_line (pipe (from_files c r) m) (task d s (convert w)) v e one other = let first : 112 ≡ 99 = ap (λ (s : List ℕ). get_or s 0 0) e in absurd (omega (arith, first))
+one_line (pipe (from_files c r) m) (task d s review) v e one other = let first : 112 ≡ 114 = ap (λ (s : List ℕ). get_or s 0 0) e in absurd (omega (arith, first))
+one_line (pipe (from_files c r) m) (pipe example n) v e one other = absurd other
+one_line (pipe (from_files c r) m) (pipe no_definition n) v e one other = absurd other
+one_line (pipe (from_files c r) m) (migrate u) v e one other = absurd other
+one_line (pipe (from_files c r) m) (drill a b) v e one other = absurd other
+one_line (pipe (from_files c r) m) (serve s) v e one other = let listen : None ≡ Some s.place = sym one.4.0 ∙ other.4 in cc
+one_line (task c r (convert v2)) (pipe built_in n) v e one other = let first : 99 ≡ 112 = ap (λ (s : List ℕ). get_or s 0 0) e in absurd (omega (arith, first))
+one_line (task c r (convert v2)) (pipe (from_files d s) n) v e one other = let first : 99 ≡ 112 = ap (λ (s : List ℕ). get_or s 0 0) e in absurd (omega (arith, first))
+one_line (task c r (convert v2)) (task d s (convert w)) v e one other =
+    let crd_is : Some c ≡ Some d = sym one.0 ∙ other.0 in
+    let rules_is : Some r ≡ Some s = sym one.1 ∙ other.1 in
+    let to_is : Some v2 ≡ Some w = sym one.2 ∙ other.2 in
+    cc
+one_line (task c r (convert v2)) (task d s review) v e one other = let first : 99 ≡ 114 = ap (λ (s : List ℕ). get_or s 0 0) e in absurd (omega (arith, first))
+one_line (task c r (convert v2)) (pipe example n) v e one other = absurd other
+one_line (task c r (convert v2)) (pipe no_definition n) v e one other = absurd other
+one_line (task c r (convert v2)) (migrate u) v e one other = absurd other
+one_line (task c r (convert v2)) (drill a b) v e one other = absurd other
+one_line (task c r (convert v2)) (serve s) v e one other = let listen : None ≡ Some s.place = sym one.4.0 ∙ other.4 in cc
+one_line (task c r review) (pipe built_in n) v e one other = let first : 114 ≡ 112 = ap (λ (s : List ℕ). get_or s 0 0) e in absurd (omega (arith, first))
+one_line (task c r review) (pipe (from_files d s) n) v e one other = let first : 114 ≡ 112 = ap (λ (s : List ℕ). get_or s 0 0) e in absurd (omega (arith, first))
+one_line (task c r review) (task d s (convert w)) v e one other = let first : 114 ≡ 99 = ap (λ (s : List ℕ). get_or s 0 0) e in absurd (omega (arith, first))
+one_line (task c r review) (task d s review) v e one other =
+    let crd_is : Some c ≡ Some d = sym one.0 ∙ other.0 in
+    let rules_is : Some r ≡ Some s = sym one.1 ∙ other.1 in
+    cc
+one_line (task c r review) (pipe example n) v e one other = absurd other
+one_line (task c r review) (pipe no_definition n) v e one other = absurd other
+one_line (task c r review) (migrate u) v e one other = absurd other
+one_line (task c r review) (drill a b) v e one other = absurd other
+one_line (task c r review) (serve s) v e one other = let listen : None ≡ Some s.place = sym one.4.0 ∙ other.4 in cc
+one_line (serve s) (pipe built_in n) v e one other = let listen : Some s.place ≡ None = sym one.4 ∙ other.4.0 in cc
+one_line (serve s) (pipe (from_files c r) n) v e one other = let listen : Some s.place ≡ None = sym one.4 ∙ other.4.0 in cc
+one_line (serve s) (pipe example n) v e one other = absurd other
+one_line (serve s) (pipe no_definition n) v e one other = absurd other
+one_line (serve s) (migrate u) v e one other = absurd other
+one_line (serve s) (task c r (convert w)) v e one other = let listen : Some s.place ≡ None = sym one.4 ∙ other.4.0 in cc
+one_line (serve s) (task c r review) v e one other = let listen : Some s.place ≡ None = sym one.4 ∙ other.4.0 in cc
+one_line (serve s) (drill a b) v e one other = absurd other
+one_line (serve s) (serve t) v e one other =
+    ap (λ (x : Service). serve x) (one_service s t (sym one.0 ∙ other.0) (sym one.1 ∙ other.1) (sym one.4 ∙ other.4)
+    (one_workers v.workers s.workers t.workers one.5 other.5) (one_connections v.connections s.connections t.connections one.6 other.6))
+
+-- a command that isn't `serve` has none of its options
+pub none_unserved : (w : List ℕ) (v : Values) → (w ≡ codes "serve" → ⊥) → (IsUnserved v → ⊥) → (line : Line) → w ≡ command_word line → HasValues line v → ⊥
+none_unserved w v other some (pipe built_in turns) e has = some has.4
+none_unserved w v other some (pipe (from_files c r) turns) e has = some has.4
+none_unserved w v other some (pipe example turns) e has = has
+none_unserved w v other some (pipe no_definition turns) e has = has
+none_unserved w v other some (task c r (convert to)) e has = some has.4
+none_unserved w v other some (task c r review) e has = some has.4
+none_unserved w v other some (drill start count) e has = has
+none_unserved w v other some (serve s) e has = other e
+none_unserved w v other some (migrate url) e has = has
+
+-- ---- words in memory
+
+pub map_length : (ws : List Txt) → length (map bytes_of ws) ≡ length ws
+map_length [] = refl
+map_length (x ∷ ws) = ap (λ n. suc n) (map_length ws)
+
+-- nothing stands behind the name
+pub no_end : (f : Flag) (end : List ℕ) (ws : List (List ℕ)) (o : Option Taken) → length end ≡ 0 → TakesFirst (flag_text f ∷ ws) o → TakesFirst ((flag_text f ++ end) ∷ ws) o
+no_end f [] ws o n first = subst (λ (x : List ℕ). TakesFirst (x ∷ ws) o) (flag_alone f) first
+no_end f (b ∷ bs) ws o n first = absurd (omega (arith, n))
+
+pub first_word : (ws : List Txt) (first : Txt) (w : List ℕ) → 1 ≤ length ws → first ≡ get_or ws 0 first → w ≡ bytes_of first → map bytes_of ws ≡ w ∷ map bytes_of (take (length ws - 1) (drop 1 ws))
+first_word [] first w n is spelled = absurd (omega (arith, n))
+first_word (x ∷ ws) first w n is spelled =
+    let k : length (x ∷ ws) - 1 ≡ length ws = omega arith in
+    let t : take (length (x ∷ ws) - 1) ws ≡ ws = ap (λ (i : ℕ). take i ws) k ∙ take-length ws in
+    let h : bytes_of x ≡ w = ap bytes_of (sym is) ∙ sym spelled in
+    ap (λ (b : List ℕ). b ∷ map bytes_of ws) h ∙ ap (λ (y : List Txt). w ∷ map bytes_of y) (sym t)
+
+-- the first word begins with no option's name
+pub no_flag : (w : List ℕ) (ws all : List (List ℕ)) → all ≡ w ∷ ws → ((f : Flag) (end : List ℕ) → w ≢ flag_text f ++ end)
+    → (f : Flag) (v : List ℕ) (r : List (List ℕ)) → BeginsWithOption all f v r → ⊥
+no_flag w ws all is none f v r begins =
+    let e = front w ws f v r (subst (λ (x : List (List ℕ)). BeginsWithOption x f v r) is begins) in
+    none f e.0 e.1
+
+pub no_words : (ws : List Txt) (values : Values) → length ws < 1 → Gives (map bytes_of ws) values values
+no_words [] values n = no_more values
+no_words (x ∷ ws) values n = absurd (omega (arith, n))
+
+pub none_given : (ws : List (List ℕ)) (before after : Values) → 1 ≤ length ws → ((f : Flag) (v : List ℕ) (r : List (List ℕ)) → BeginsWithOption ws f v r → ⊥)
+    → Gives ws before after → ⊥
+none_given ws before after n none (no_more values) = omega (arith, n)
+none_given ws before after n none (one_more words f v r first last begins free gives) = none f v r begins
+
+pub gives_more : (ws : List (List ℕ)) (f : Flag) (v : List ℕ) (r : List (List ℕ)) (before more : Values) (o : Option Given) → BeginsWithOption ws f v r
+    → value_at f before ≡ None → more ≡ with_value f v before → GivesOne r more o → GivesOne ws before o
+gives_more ws f v r before more None begins free is gives = λ after g.
+    gives after (rw is (gives_rest ws f v r before after begins g).1)
+gives_more ws f v r before more (Some g) begins free is gives =
+    one_more ws f v r before (values_in g) begins free (subst (λ (x : Values). Gives r x (values_in g)) is gives)
+
+-- a line's words are its command and its options
+pub line_found : (first : List ℕ) (rest : List (List ℕ)) (values : Values) (o : Option Command) (line : Line)
+    → ((after : Values) → Gives rest no_values after → after ≡ values) → IsCommand first values o → HasOptions (first ∷ rest) line → MatchOption o ⊥ (λ c. line ≡ line_of c)
+line_found first rest values None line one command l =
+    let same : first ∷ rest ≡ command_word line ∷ l.options = l.command in
+    let e : first ≡ command_word line = cc in
+    let t : l.options ≡ rest = cc in
+    let g : Gives rest no_values l.values = rw (sym t) l.gives in
+    command line e (subst (λ (v : Values). HasValues line v) (one l.values g) l.has)
+line_found first rest values (Some c) line one command l =
+    let same : first ∷ rest ≡ command_word line ∷ l.options = l.command in
+    let e : first ≡ command_word line = cc in
+    let t : l.options ≡ rest = cc in
+    let g : Gives rest no_values l.values = rw (sym t) l.gives in
+    one_line line (line_of c) values (sym e ∙ command.0) (subst (λ (v : Values). HasValues line v) (one l.values g) l.has) command.1
+
+-- words give one end
+pub one_end : (ws : List (List ℕ)) (before one other : Values) → Gives ws before one → Gives ws before other → other ≡ one
+one_end ws before one other (no_more values) (no_more others) = refl
+one_end ws before one other (no_more values) (one_more words f v r first last begins free gives) = absurd (none_begins f v r begins)
+one_end ws before one other (one_more words f v r first last begins free gives) g =
+    one_end r (with_value f v before) one other gives (gives_rest ws f v r before other begins g).1
+
+-- ---- drills
+
+-- a drill has no options
+pub no_drill : (rest : List (List ℕ)) (line : Line) → HasOptions (codes "drill" ∷ rest) line → ⊥
+no_drill rest (pipe named turns) l =
+    let e : codes "drill" ≡ codes "pipe" = let same : codes "drill" ∷ rest ≡ codes "pipe" ∷ l.options = l.command in cc in
+    let first : 100 ≡ 112 = ap (λ (s : List ℕ). get_or s 0 0) e in omega (arith, first)
+no_drill rest (task c r (convert to)) l =
+    let e : codes "drill" ≡ codes "convert" = let same : codes "drill" ∷ rest ≡ codes "convert" ∷ l.options = l.command in cc in
+    let first : 100 ≡ 99 = ap (λ (s : List ℕ). get_or s 0 0) e in omega (arith, first)
+no_drill rest (task c r review) l =
+    let e : codes "drill" ≡ codes "review" = let same : codes "drill" ∷ rest ≡ codes "review" ∷ l.options = l.command in cc in
+    let first : 100 ≡ 114 = ap (λ (s : List ℕ). get_or s 0 0) e in omega (arith, first)
+no_drill rest (drill start count) l = l.has
+no_drill rest (migrate url) l = l.has
+no_drill rest (serve s) l =
+    let e : codes "drill" ≡ codes "serve" = let same : codes "drill" ∷ rest ≡ codes "serve" ∷ l.options = l.command in cc in
+    let first : 100 ≡ 115 = ap (λ (s : List ℕ). get_or s 0 0) e in omega (arith, first)
+
+-- and another command has no two numbers
+pub only_drill : (first : List ℕ) (rest : List (List ℕ)) (line : Line) → HasNumbers (first ∷ rest) line → first ≡ codes "drill"
+only_drill first rest line h =
+    let same : first ∷ rest ≡ codes "drill" ∷ decimal h.start ∷ decimal h.count ∷ [] = h.spelled in cc
+
+-- two numbers are one drill
+pub same_drill : (a b : List ℕ) (x n : ℕ) (line : Line) → a ≡ decimal x → x ≤ 9223372036854775807 → b ≡ decimal n → n ≤ MOST_STEPS → HasNumbers (codes "drill" ∷ a ∷ b ∷ []) line → line ≡ drill x n
+same_drill a b x n line start low count few h =
+    h.is ∙ ap (λ (y : ℕ). drill y h.count) (sym first) ∙ ap (λ (m : ℕ). drill x m) (sym second)
+  where
+    words : codes "drill" ∷ a ∷ b ∷ [] ≡ codes "drill" ∷ decimal h.start ∷ decimal h.count ∷ []
+    words = h.spelled
+
+    first : x ≡ h.start
+    first = let spelled : a ≡ decimal h.start = cc in decimal_injective x h.start (omega (arith, low)) (omega (arith, h.low)) (sym start ∙ spelled)
+
+    second : n ≡ h.count
+    second = let spelled : b ≡ decimal h.count = cc in decimal_injective n h.count (omega (arith, few)) (omega (arith, h.few)) (sym count ∙ spelled)
+
+-- how many words stand behind the command
+pub no_numbers : (ws : List Txt) (line : Line) → length ws < 1 → HasNumbers (codes "drill" ∷ map bytes_of ws) line → ⊥
+no_numbers [] line few h = let same : codes "drill" ∷ [] ≡ codes "drill" ∷ decimal h.start ∷ decimal h.count ∷ [] = h.spelled in cc
+no_numbers (x ∷ ws) line few h = omega (arith, few)
+
+pub no_count : (a : List ℕ) (ws : List Txt) (line : Line) → length ws < 1 → HasNumbers (codes "drill" ∷ a ∷ map bytes_of ws) line → ⊥
+no_count a [] line few h = let same : codes "drill" ∷ a ∷ [] ≡ codes "drill" ∷ decimal h.start ∷ decimal h.count ∷ [] = h.spelled in cc
+no_count a (x ∷ ws) line few h = omega (arith, few)
+
+pub no_third : (a b : List ℕ) (ws : List Txt) (line : Line) → 1 ≤ length ws → HasNumbers (codes "drill" ∷ a ∷ b ∷ map bytes_of ws) line → ⊥
+no_third a b [] line some h = omega (arith, some)
+no_third a b (x ∷ ws) line some h =
+    let same : codes "drill" ∷ a ∷ b ∷ bytes_of x ∷ map bytes_of ws ≡ codes "drill" ∷ decimal h.start ∷ decimal h.count ∷ [] = h.spelled in cc
+
+pub none_behind : (ws : List Txt) → length ws < 1 → map bytes_of ws ≡ []
+none_behind [] few = refl
+none_behind (x ∷ ws) few = absurd (omega (arith, few))
+
+-- a line of the same words
+pub only_line : (o : Option Command) (ws us : List (List ℕ)) → ws ≡ us → ((line : Line) → HasNumbers us line → MatchOption o ⊥ (λ c. line ≡ line_of c))
+    → (line : Line) → HasNumbers ws line → MatchOption o ⊥ (λ c. line ≡ line_of c)
+only_line o ws us same only line h = only line (subst (λ (x : List (List ℕ)). HasNumbers x line) same h)
+
+pub is_line : (o : Option Command) (ws us : List (List ℕ)) → ws ≡ us → IfSome o (λ c. HasNumbers us (line_of c)) → IfSome o (λ c. HasNumbers ws (line_of c))
+is_line None ws us same is = tt
+is_line (Some c) ws us same is = subst (λ (x : List (List ℕ)). HasNumbers x (line_of c)) (sym same) is
+
+-- ---- a command and the words behind it
+
+pub drill_is : (o : Option Command) (w : List ℕ) (ws : List (List ℕ)) → w ≡ codes "drill" → IfSome o (λ c. HasNumbers (codes "drill" ∷ ws) (line_of c)) → IfSome o (λ c. Within (w ∷ ws) (line_of c))
+drill_is None w ws same is = tt
+drill_is (Some c) w ws same is = inr (subst (λ (x : List ℕ). HasNumbers (x ∷ ws) (line_of c)) (sym same) is)
+
+pub drill_only : (o : Option Command) (w : List ℕ) (ws : List (List ℕ)) → w ≡ codes "drill"
+    → ((line : Line) → HasNumbers (codes "drill" ∷ ws) line → MatchOption o ⊥ (λ c. line ≡ line_of c)) → (line : Line) → Within (w ∷ ws) line → MatchOption o ⊥ (λ c. line ≡ line_of c)
+drill_only o w ws same only line (inl l) = absurd (no_drill ws line (subst (λ (x : List ℕ). HasOptions (x ∷ ws) line) same l))
+drill_only o w ws same only line (inr h) = only line (subst (λ (x : List ℕ). HasNumbers (x ∷ ws) line) same h)
+
+pub options_are : (o : Option Command) (ws : List (List ℕ)) → IfSome o (λ c. HasOptions ws (line_of c)) → IfSome o (λ c. Within ws (line_of c))
+options_are None ws is = tt
+options_are (Some c) ws is = inl is
+
+pub options_only : (o : Option Command) (w : List ℕ) (ws : List (List ℕ)) → (w ≡ codes "drill" → ⊥)
+    → ((line : Line) → HasOptions (w ∷ ws) line → MatchOption o ⊥ (λ c. line ≡ line_of c)) → (line : Line) → Within (w ∷ ws) line → MatchOption o ⊥ (λ c. line ≡ line_of c)
+options_only o w ws other only line (inl l) = only line l
+options_only o w ws other only line (inr h) = absurd (other (only_drill w ws line h))
+
+-- ---- an address
+
+-- no other line begins with the word of a migration
+pub no_within : (rest : List (List ℕ)) (line : Line) → Within (codes "migrate" ∷ rest) line → ⊥
+no_within rest (pipe named turns) (inl l) =
+    let e : codes "migrate" ≡ codes "pipe" = let same : codes "migrate" ∷ rest ≡ codes "pipe" ∷ l.options = l.command in cc in
+    let first : 109 ≡ 112 = ap (λ (s : List ℕ). get_or s 0 0) e in omega (arith, first)
+no_within rest (task c r (convert to)) (inl l) =
+    let e : codes "migrate" ≡ codes "convert" = let same : codes "migrate" ∷ rest ≡ codes "convert" ∷ l.options = l.command in cc in
+    let first : 109 ≡ 99 = ap (λ (s : List ℕ). get_or s 0 0) e in omega (arith, first)
+no_within rest (task c r review) (inl l) =
+    let e : codes "migrate" ≡ codes "review" = let same : codes "migrate" ∷ rest ≡ codes "review" ∷ l.options = l.command in cc in
+    let first : 109 ≡ 114 = ap (λ (s : List ℕ). get_or s 0 0) e in omega (arith, first)
+no_within rest (drill start count) (inl l) = l.has
+no_within rest (migrate url) (inl l) = l.has
+no_within rest (serve s) (inl l) =
+    let e : codes "migrate" ≡ codes "serve" = let same : codes "migrate" ∷ rest ≡ codes "serve" ∷ l.options = l.command in cc in
+    let first : 109 ≡ 115 = ap (λ (s : List ℕ). get_or s 0 0) e in omega (arith, first)
+no_within rest line (inr h) =
+    let e : codes "migrate" ≡ codes "drill" = let same : codes "migrate" ∷ rest ≡ codes "drill" ∷ decimal h.start ∷ decimal h.count ∷ [] = h.spelled in cc in
+    let first : 109 ≡ 100 = ap (λ (s : List ℕ). get_or s 0 0) e in omega (arith, first)
+
+-- and a migration begins with no other word
+pub only_migrate : (first : List ℕ) (rest : List (List ℕ)) (line : Line) → HasAddress (first ∷ rest) line → first ≡ codes "migrate"
+only_migrate first rest line h = let same : first ∷ rest ≡ codes "migrate" ∷ h.url ∷ [] = h.spelled in cc
+
+-- one address is one line
+pub same_address : (url : List ℕ) (line : Line) → HasAddress (codes "migrate" ∷ url ∷ []) line → line ≡ migrate url
+same_address url line h =
+    let words : codes "migrate" ∷ url ∷ [] ≡ codes "migrate" ∷ h.url ∷ [] = h.spelled in
+    let same : h.url ≡ url = cc in
+    h.is ∙ ap (λ (u : List ℕ). migrate u) same
+
+-- what isn't a value is no address
+pub no_address : (url : List ℕ) (line : Line) → (IsValue url → ⊥) → HasAddress (codes "migrate" ∷ url ∷ []) line → ⊥
+no_address url line bad h =
+    let words : codes "migrate" ∷ url ∷ [] ≡ codes "migrate" ∷ h.url ∷ [] = h.spelled in
+    let same : h.url ≡ url = cc in
+    bad (subst IsValue same h.value)
+
+-- one word stands behind the command
+pub one_word : (ws us : List (List ℕ)) (line : Line) → ws ≡ us → HasAddress (codes "migrate" ∷ ws) line → length us ≡ 1
+one_word ws us line is h =
+    let words : codes "migrate" ∷ ws ≡ codes "migrate" ∷ h.url ∷ [] = h.spelled in
+    let same : us ≡ h.url ∷ [] = cc in
+    ap (λ (l : List (List ℕ)). length l) same
+
+pub address_is : (o : Option Command) (w : List ℕ) (ws : List (List ℕ)) → w ≡ codes "migrate" → IfSome o (λ c. HasAddress (codes "migrate" ∷ ws) (line_of c)) → IfSome o (λ c. IsLine (w ∷ ws) (line_of c))
+address_is None w ws same is = tt
+address_is (Some c) w ws same is = inr (inr (subst (λ (x : List ℕ). HasAddress (x ∷ ws) (line_of c)) (sym same) is))
+
+pub address_only : (o : Option Command) (w : List ℕ) (ws : List (List ℕ)) → w ≡ codes "migrate"
+    → ((line : Line) → HasAddress (codes "migrate" ∷ ws) line → MatchOption o ⊥ (λ c. line ≡ line_of c)) → (line : Line) → IsLine (w ∷ ws) line → MatchOption o ⊥ (λ c. line ≡ line_of c)
+address_only o w ws same only line (inl l) = absurd (no_within ws line (inl (subst (λ (x : List ℕ). HasOptions (x ∷ ws) line) same l)))
+address_only o w ws same only line (inr (inl h)) = absurd (no_within ws line (inr (subst (λ (x : List ℕ). HasNumbers (x ∷ ws) line) same h)))
+address_only o w ws same only line (inr (inr a)) = only line (subst (λ (x : List ℕ). HasAddress (x ∷ ws) line) same a)
+
+pub within_is : (o : Option Command) (ws : List (List ℕ)) → IfSome o (λ c. Within ws (line_of c)) → IfSome o (λ c. IsLine ws (line_of c))
+within_is None ws is = tt
+within_is (Some c) ws (inl l) = inl l
+within_is (Some c) ws (inr h) = inr (inl h)
+
+pub within_only : (o : Option Command) (w : List ℕ) (ws : List (List ℕ)) → (w ≡ codes "migrate" → ⊥)
+    → ((line : Line) → Within (w ∷ ws) line → MatchOption o ⊥ (λ c. line ≡ line_of c)) → (line : Line) → IsLine (w ∷ ws) line → MatchOption o ⊥ (λ c. line ≡ line_of c)
+within_only o w ws other only line (inl l) = only line (inl l)
+within_only o w ws other only line (inr (inl h)) = only line (inr h)
+within_only o w ws other only line (inr (inr a)) = absurd (other (only_migrate w ws line a))
+
+-- words in memory are a line as the same words are
+pub line_is : (o : Option Command) (ws us : List (List ℕ)) → ws ≡ us → IfSome o (λ c. IsLine us (line_of c)) → IfSome o (λ c. IsLine ws (line_of c))
+line_is None ws us same is = tt
+line_is (Some c) ws us same is = subst (λ (x : List (List ℕ)). IsLine x (line_of c)) (sym same) is
+
+pub line_only : (o : Option Command) (ws us : List (List ℕ)) → ws ≡ us → ((line : Line) → IsLine us line → MatchOption o ⊥ (λ c. line ≡ line_of c))
+    → (line : Line) → IsLine ws line → MatchOption o ⊥ (λ c. line ≡ line_of c)
+line_only o ws us same only line l = only line (subst (λ (x : List (List ℕ)). IsLine x line) same l)
+
+-- no words are no line
+pub no_line : (ws : List Txt) (words : List (List ℕ)) (line : Line) → map bytes_of ws ≡ words → length ws < 1 → IsLine words line → ⊥
+no_line [] words line same few (inl l) = let none : [] ≡ command_word line ∷ l.options = same ∙ l.command in cc
+no_line [] words line same few (inr (inl h)) = let none : [] ≡ codes "drill" ∷ decimal h.start ∷ decimal h.count ∷ [] = same ∙ h.spelled in cc
+no_line [] words line same few (inr (inr a)) = let none : [] ≡ codes "migrate" ∷ a.url ∷ [] = same ∙ a.spelled in cc
+no_line (x ∷ ws) words line same few l = omega (arith, few)

@@ -1,0 +1,67 @@
+-- What the types of the code stand for: a line, options, and one option taken of words.
+use Rattle.std.specs.Prelude.{◌≡◌, ◌⊎◌, ℕ, List, Option, MatchOption, option_map, map}
+use Rattle.kj_value.specs.Texts.{bytes_of}
+use Rattle.command_lines.specs.declared.words.Named.{Named as NamedCode}
+use Rattle.command_lines.specs.declared.words.Named.TheVariants as named
+use Rattle.command_lines.specs.declared.words.Task.{Task as TaskCode}
+use Rattle.command_lines.specs.declared.words.Task.TheVariants as tasks
+use Rattle.command_lines.specs.declared.service.Service.{Service as ServiceCode}
+use Rattle.command_lines.specs.declared.words.Command.{Command}
+use Rattle.command_lines.specs.declared.words.Command.TheVariants as commands
+use Rattle.command_lines.specs.declared.words.Flag.{Flag as FlagCode}
+use Rattle.command_lines.specs.declared.words.Flag.TheVariants as flags
+use Rattle.command_lines.specs.declared.words.Taken.{Taken}
+use Rattle.command_lines.specs.declared.words.Given.{Given}
+use Rattle.command_lines.specs.Lines.{Named, built_in, from_files, Task, convert, review, Line, Service, pipe, task, drill, serve, migrate, Flag, crd_flag, rules_flag, to_flag, turns_flag, listen_flag, workers_flag, connections_flag, BeginsWithOption, Values, Gives, command_word, HasValues, HasOptions, HasNumbers}
+
+abbrev pub named_of : NamedCode → Named
+named_of named.BuiltIn = built_in
+named_of (named.FromFiles crd rules) = from_files crd.now rules.now
+
+abbrev pub task_of : TaskCode → Task
+task_of (tasks.Convert to) = convert to.now
+task_of tasks.Review = review
+
+abbrev pub service_of : ServiceCode → Service
+service_of s = record { crd = s.crd.now; rules = s.rules.now; place = s.place.now; workers = s.workers; connections = s.connections }
+
+abbrev pub line_of : Command → Line
+line_of (commands.Pipe n turns) = pipe (named_of n) turns
+line_of (commands.Task crd rules t) = task crd.now rules.now (task_of t)
+line_of (commands.Drill start count) = drill start count
+line_of (commands.Serve s) = serve (service_of s)
+line_of (commands.Migrate url) = migrate url.now
+
+abbrev pub flag_in : FlagCode → Flag
+flag_in flags.Crd = crd_flag
+flag_in flags.Rules = rules_flag
+flag_in flags.To = to_flag
+flag_in flags.Turns = turns_flag
+flag_in flags.Listen = listen_flag
+flag_in flags.Workers = workers_flag
+flag_in flags.Connections = connections_flag
+
+abbrev pub values_in : Given → Values
+values_in g = record { crd = option_map (λ x. x.now) g.crd; rules = option_map (λ x. x.now) g.rules; to = option_map (λ x. x.now) g.to; turns = option_map (λ x. x.now) g.turns; listen = option_map (λ x. x.now) g.listen; workers = option_map (λ x. x.now) g.workers; connections = option_map (λ x. x.now) g.connections }
+
+-- the option that the words begin with, and none where nothing is told
+abbrev pub TakesFirst : List (List ℕ) → Option Taken → Type 0
+TakesFirst words o = MatchOption o
+    ((f : Flag) (value : List ℕ) (rest : List (List ℕ)) → BeginsWithOption words f value rest → ⊥)
+    (λ t. BeginsWithOption words (flag_in t.flag) t.value.now (map bytes_of t.rest.now))
+
+-- the options that the words are, behind those values, and none where nothing is told
+abbrev pub GivesOne : List (List ℕ) → Values → Option Given → Type 0
+GivesOne words before o = MatchOption o
+    ((after : Values) → Gives words before after → ⊥)
+    (λ g. Gives words before (values_in g))
+
+-- the line of that command with those options, and none where nothing is told
+abbrev pub IsCommand : List ℕ → Values → Option Command → Type 0
+IsCommand word values o = MatchOption o
+    ((line : Line) → word ≡ command_word line → HasValues line values → ⊥)
+    (λ c. (word ≡ command_word (line_of c)) × HasValues (line_of c) values)
+
+-- the words are this line, which doesn't work on a server from outside
+abbrev pub Within : List (List ℕ) → Line → Type 0
+Within words line = HasOptions words line ⊎ HasNumbers words line

@@ -1,0 +1,17 @@
+//! The words of a command line: a command with its options, each given once and in any order, or a drill with its two numbers.
+//!
+//! The crate's one contract is that of `command_of`: what the words ask for, exactly where they are a line of the program. It knows nothing
+//! of what a line does, nor of what the files hold that it names.
+#![tactic(auto)]
+
+mod drill_words;
+mod numbers;
+mod serve_words;
+mod service;
+mod turns;
+mod words;
+
+pub use numbers::MOST_STEPS;
+pub use service::{MOST_CONNECTIONS, MOST_WORKERS, Service, USUAL_WORKERS};
+pub use turns::MOST_TURNS;
+pub use words::{Command, Named, Task, Words, command_of};

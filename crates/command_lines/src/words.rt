@@ -1,0 +1,530 @@
+//! The words of the command line.
+ghost use Rattle.std.specs.Prelude.{◌≡◌, ◌≢◌, ◌≤◌, ◌<◌, ◌↔◌, ◌++◌, ◌∷◌, [], ℕ, List, None, IfSome, IsTrue, MatchOption, codes, map, length};
+ghost use Rattle.kj_value.specs.Texts.{bytes_of};
+ghost use Rattle.command_lines.specs.Lines.{Line, Flag as FlagView, HasAddress, HasOptions, IsLine, IsUnserved, IsValue, SpellsTurns, crd_flag, rules_flag, to_flag, listen_flag, workers_flag, connections_flag, flag_text, value_at, with_value};
+ghost use Rattle.command_lines.specs.Given.{Within, line_of, flag_in, values_in, TakesFirst, GivesOne, IsCommand};
+
+use crate::drill_words::drill_of;
+use crate::serve_words::{is_unserved, serve_of};
+use crate::service::Service;
+use crate::turns::turns_of;
+use kj_value::{TextList, Txt};
+
+/// The words of the command line, without the program's name.
+pub type Words = TextList;
+
+/// The definition that a line names: the one that is built in, or that of two files.
+#[derive(Clone, Copy)]
+pub enum Named<'a> {
+    BuiltIn,
+    FromFiles { crd: &'a str, rules: &'a str },
+}
+
+/// What is done with one document: it is converted to a version, or it is a review.
+#[derive(Clone, Copy)]
+pub enum Task<'a> {
+    Convert { to: &'a str },
+    Review,
+}
+
+/// What the words ask for.
+#[derive(Clone, Copy)]
+pub enum Command<'a> {
+    /// To answer the requests of the input, and to take so many turns of a worker after each answer.
+    Pipe {
+        named: Named<'a>,
+        turns: u64,
+    },
+    /// To read one document, and to write one line.
+    Task {
+        crd: &'a str,
+        rules: &'a str,
+        task: Task<'a>,
+    },
+    /// To take so many steps of a drill, drawn from the state of the first number on.
+    Drill {
+        start: u64,
+        count: u64,
+    },
+    /// To answer connections.
+    Serve(Service<'a>),
+    /// To put each object back that a server lists at the place of this address.
+    Migrate {
+        url: &'a str,
+    },
+}
+
+// The name of an option.
+#[derive(Clone, Copy)]
+enum Flag {
+    Crd,
+    Rules,
+    To,
+    Turns,
+    Listen,
+    Workers,
+    Connections,
+}
+
+// An option with its value, and the words behind it.
+#[derive(Clone, Copy)]
+struct Taken<'a> {
+    flag: Flag,
+    value: &'a str,
+    rest: &'a [Txt],
+}
+
+/// The options that are given.
+#[derive(Clone, Copy)]
+pub(crate) struct Given<'a> {
+    pub(crate) crd: Option<&'a str>,
+    pub(crate) rules: Option<&'a str>,
+    pub(crate) to: Option<&'a str>,
+    pub(crate) turns: Option<&'a str>,
+    pub(crate) listen: Option<&'a str>,
+    pub(crate) workers: Option<&'a str>,
+    pub(crate) connections: Option<&'a str>,
+}
+
+// Nothing is given.
+const NOTHING: Given<'static> = Given {
+    crd: None,
+    rules: None,
+    to: None,
+    turns: None,
+    listen: None,
+    workers: None,
+    connections: None,
+};
+
+// Whether a word can be a value: it isn't empty, and doesn't begin as an option does.
+fn is_value(word: &str) -> bool
+    ensures { IsTrue result ↔ IsValue word.now }
+{
+    match word.as_bytes() {
+        [] => false,
+        [first, ..] => *first != b'-',
+    }
+}
+
+// What stands behind the front of a word, or `None` exactly where the word begins otherwise.
+fn behind<'a>(word: &'a str, front: &str) -> Option<&'a str>
+    ensures { MatchOption result ((end : List ℕ) → word.now ≢ front.now ++ end) (λ end. word.now ≡ front.now ++ end.now) }
+{
+    word.strip_prefix(front)
+}
+
+// The option whose name stands at the front of a word, and what stands behind the name, of those that name files and a version.
+fn file_flag_of(word: &str) -> Option<(Flag, &str)>
+    ensures { MatchOption result
+        (((end : List ℕ) → word.now ≢ flag_text crd_flag ++ end) × ((end : List ℕ) → word.now ≢ flag_text rules_flag ++ end) × ((end : List ℕ) → word.now ≢ flag_text to_flag ++ end))
+        (λ p. word.now ≡ flag_text (flag_in p.0) ++ p.1.now) }
+{
+    match behind(word, "--crd") {
+        Some(end) => Some((Flag::Crd, end)),
+        None => match behind(word, "--rules") {
+            Some(end) => Some((Flag::Rules, end)),
+            None => match behind(word, "--to") {
+                Some(end) => Some((Flag::To, end)),
+                None => None,
+            },
+        },
+    }
+}
+
+// The same of those that say where connections come, and how many.
+fn service_flag_of(word: &str) -> Option<(Flag, &str)>
+    ensures { MatchOption result
+        (((end : List ℕ) → word.now ≢ flag_text listen_flag ++ end) × ((end : List ℕ) → word.now ≢ flag_text workers_flag ++ end) × ((end : List ℕ) → word.now ≢ flag_text connections_flag ++ end))
+        (λ p. word.now ≡ flag_text (flag_in p.0) ++ p.1.now) }
+{
+    match behind(word, "--listen") {
+        Some(end) => Some((Flag::Listen, end)),
+        None => match behind(word, "--workers") {
+            Some(end) => Some((Flag::Workers, end)),
+            None => match behind(word, "--connections") {
+                Some(end) => Some((Flag::Connections, end)),
+                None => None,
+            },
+        },
+    }
+}
+
+// The option whose name stands at the front of a word, and what stands behind the name.
+fn flag_of(word: &str) -> Option<(Flag, &str)>
+    ensures { MatchOption result ((f : FlagView) (end : List ℕ) → word.now ≢ flag_text f ++ end)
+        (λ p. word.now ≡ flag_text (flag_in p.0) ++ p.1.now) }
+{
+    match behind(word, "--turns") {
+        Some(end) => Some((Flag::Turns, end)),
+        None => match file_flag_of(word) {
+            Some((flag, end)) => Some((flag, end)),
+            None => match service_flag_of(word) {
+                Some((flag, end)) => Some((flag, end)),
+                None => None,
+            },
+        },
+    }
+}
+
+// An option whose name is a word, with its value in the next one.
+fn apart<'a>(flag: Flag, rest: &'a [Txt]) -> Option<Taken<'a>>
+    ensures first { TakesFirst (flag_text (flag_in flag) ∷ map bytes_of rest.now) result }
+    ensures fewer { IfSome result (λ t. length t.rest.now ≤ length rest.now) }
+{
+    match rest {
+        [] => None,
+        [next, others @ ..] => {
+            let value = next.as_str();
+            if is_value(value) {
+                Some(Taken {
+                    flag,
+                    value,
+                    rest: others,
+                })
+            } else {
+                None
+            }
+        }
+    }
+}
+
+// An option whose name and value are one word, of which `end` stands behind the name.
+fn joined<'a>(flag: Flag, end: &'a str, rest: &'a [Txt]) -> Option<Taken<'a>>
+    requires { end.now ≢ [] }
+    ensures first { TakesFirst ((flag_text (flag_in flag) ++ end.now) ∷ map bytes_of rest.now) result }
+    ensures fewer { IfSome result (λ t. length t.rest.now ≤ length rest.now) }
+{
+    match behind(end, "=") {
+        Some(value) => {
+            if is_value(value) {
+                Some(Taken { flag, value, rest })
+            } else {
+                None
+            }
+        }
+        None => None,
+    }
+}
+
+// An option whose name has `end` behind it.
+fn take_value<'a>(flag: Flag, end: &'a str, rest: &'a [Txt]) -> Option<Taken<'a>>
+    ensures first { TakesFirst ((flag_text (flag_in flag) ++ end.now) ∷ map bytes_of rest.now) result }
+    ensures fewer { IfSome result (λ t. length t.rest.now ≤ length rest.now) }
+{
+    if end.len() == 0 {
+        apart(flag, rest)
+    } else {
+        joined(flag, end, rest)
+    }
+}
+
+// The option at the front of the words.
+fn take_option<'a>(words: &'a [Txt]) -> Option<Taken<'a>>
+    ensures first { TakesFirst (map bytes_of words.now) result }
+    ensures fewer { IfSome result (λ t. length t.rest.now < length words.now) }
+{
+    match words {
+        [] => None,
+        [first, rest @ ..] => match flag_of(first.as_str()) {
+            Some((flag, end)) => take_value(flag, end, rest),
+            None => None,
+        },
+    }
+}
+
+impl<'a> Given<'a> {
+    // One more option, or `None` exactly where it is given already.
+    fn with(self, flag: Flag, value: &'a str) -> Option<Given<'a>>
+        ensures { MatchOption result (value_at (flag_in flag) (values_in self.entry) ≢ None)
+            (λ g. (value_at (flag_in flag) (values_in self.entry) ≡ None) × (values_in g ≡ with_value (flag_in flag) value.now (values_in self.entry))) }
+    {
+        match flag {
+            Flag::Crd => match self.crd {
+                Some(_) => None,
+                None => Some(Given {
+                    crd: Some(value),
+                    ..self
+                }),
+            },
+            Flag::Rules => match self.rules {
+                Some(_) => None,
+                None => Some(Given {
+                    rules: Some(value),
+                    ..self
+                }),
+            },
+            Flag::To => match self.to {
+                Some(_) => None,
+                None => Some(Given {
+                    to: Some(value),
+                    ..self
+                }),
+            },
+            Flag::Turns => match self.turns {
+                Some(_) => None,
+                None => Some(Given {
+                    turns: Some(value),
+                    ..self
+                }),
+            },
+            Flag::Listen => match self.listen {
+                Some(_) => None,
+                None => Some(Given {
+                    listen: Some(value),
+                    ..self
+                }),
+            },
+            Flag::Workers => match self.workers {
+                Some(_) => None,
+                None => Some(Given {
+                    workers: Some(value),
+                    ..self
+                }),
+            },
+            Flag::Connections => match self.connections {
+                Some(_) => None,
+                None => Some(Given {
+                    connections: Some(value),
+                    ..self
+                }),
+            },
+        }
+    }
+}
+
+// The options that the words are, behind those that are given. Each call fills a place, so that there are few.
+fn give<'a>(words: &'a [Txt], given: Given<'a>) -> Option<Given<'a>>
+    ensures { GivesOne (map bytes_of words.now) (values_in given.entry) result }
+{
+    match words {
+        [] => Some(given),
+        [_, ..] => match take_option(words) {
+            Some(taken) => match given.with(taken.flag, taken.value) {
+                Some(more) => give(taken.rest, more),
+                None => None,
+            },
+            None => None,
+        },
+    }
+}
+
+// The line of `pipe` with these options, where so many turns are spelled.
+fn pipe_with<'a>(given: Given<'a>, turns: u64) -> Option<Command<'a>>
+    requires unserved { IsUnserved (values_in given) }
+    requires turns { SpellsTurns (values_in given).turns turns }
+    ensures { IsCommand (codes "pipe") (values_in given.entry) result }
+{
+    match given.to {
+        Some(_) => None,
+        None => match given.crd {
+            Some(crd) => match given.rules {
+                Some(rules) => Some(Command::Pipe {
+                    named: Named::FromFiles { crd, rules },
+                    turns,
+                }),
+                None => None,
+            },
+            None => match given.rules {
+                Some(_) => None,
+                None => Some(Command::Pipe {
+                    named: Named::BuiltIn,
+                    turns,
+                }),
+            },
+        },
+    }
+}
+
+// The line of `pipe` with these options.
+fn pipe_of<'a>(given: Given<'a>) -> Option<Command<'a>>
+    requires { IsUnserved (values_in given) }
+    ensures { IsCommand (codes "pipe") (values_in given.entry) result }
+{
+    match turns_of(given.turns) {
+        Some(turns) => pipe_with(given, turns),
+        None => None,
+    }
+}
+
+// The line of `convert` with the options that aren't `--turns`.
+fn convert_with<'a>(given: Given<'a>) -> Option<Command<'a>>
+    requires unserved { IsUnserved (values_in given) }
+    requires turns { (values_in given).turns ≡ None }
+    ensures { IsCommand (codes "convert") (values_in given.entry) result }
+{
+    match given.to {
+        None => None,
+        Some(to) => match given.crd {
+            None => None,
+            Some(crd) => match given.rules {
+                None => None,
+                Some(rules) => Some(Command::Task {
+                    crd,
+                    rules,
+                    task: Task::Convert { to },
+                }),
+            },
+        },
+    }
+}
+
+// The line of `convert` with these options.
+fn convert_of<'a>(given: Given<'a>) -> Option<Command<'a>>
+    requires { IsUnserved (values_in given) }
+    ensures { IsCommand (codes "convert") (values_in given.entry) result }
+{
+    match given.turns {
+        Some(_) => None,
+        None => convert_with(given),
+    }
+}
+
+// The line of `review` with the options that aren't `--turns`.
+fn review_with<'a>(given: Given<'a>) -> Option<Command<'a>>
+    requires unserved { IsUnserved (values_in given) }
+    requires turns { (values_in given).turns ≡ None }
+    ensures { IsCommand (codes "review") (values_in given.entry) result }
+{
+    match given.to {
+        Some(_) => None,
+        None => match given.crd {
+            None => None,
+            Some(crd) => match given.rules {
+                None => None,
+                Some(rules) => Some(Command::Task {
+                    crd,
+                    rules,
+                    task: Task::Review,
+                }),
+            },
+        },
+    }
+}
+
+// The line of `review` with these options.
+fn review_of<'a>(given: Given<'a>) -> Option<Command<'a>>
+    requires { IsUnserved (values_in given) }
+    ensures { IsCommand (codes "review") (values_in given.entry) result }
+{
+    match given.turns {
+        Some(_) => None,
+        None => review_with(given),
+    }
+}
+
+// The line of a command with these options, of which none is of `serve` alone.
+fn unserved<'a>(word: &str, given: Given<'a>) -> Option<Command<'a>>
+    requires { IsUnserved (values_in given) }
+    ensures { IsCommand word.now (values_in given.entry) result }
+{
+    if word == "pipe" {
+        pipe_of(given)
+    } else if word == "convert" {
+        convert_of(given)
+    } else if word == "review" {
+        review_of(given)
+    } else {
+        None
+    }
+}
+
+fn is_serve(word: &str) -> bool
+    ensures { IsTrue result ↔ (word.now ≡ codes "serve") }
+{
+    word == "serve"
+}
+
+// The line of a command with these options.
+fn command_named<'a>(word: &str, given: Given<'a>) -> Option<Command<'a>>
+    ensures { IsCommand word.now (values_in given.entry) result }
+{
+    if is_serve(word) {
+        return serve_of(given);
+    }
+    if is_unserved(given) {
+        return unserved(word, given);
+    }
+    None
+}
+
+// The line of a command with the options that the words behind it are.
+fn optioned<'a>(word: &str, options: &'a [Txt]) -> Option<Command<'a>>
+    ensures is { IfSome result (λ c. HasOptions (word.now ∷ map bytes_of options.now) (line_of c)) }
+    ensures only { (line : Line) → HasOptions (word.now ∷ map bytes_of options.now) line → MatchOption result ⊥ (λ c. line ≡ line_of c) }
+{
+    match give(options, NOTHING) {
+        Some(given) => command_named(word, given),
+        None => None,
+    }
+}
+
+fn is_drill(word: &str) -> bool
+    ensures { IsTrue result ↔ (word.now ≡ codes "drill") }
+{
+    word == "drill"
+}
+
+fn is_migrate(word: &str) -> bool
+    ensures { IsTrue result ↔ (word.now ≡ codes "migrate") }
+{
+    word == "migrate"
+}
+
+// The line of a migration with one word behind the command.
+fn migrate_at<'a>(url: &'a str) -> Option<Command<'a>>
+    ensures is { IfSome result (λ c. HasAddress (codes "migrate" ∷ url.now ∷ []) (line_of c)) }
+    ensures only { (line : Line) → HasAddress (codes "migrate" ∷ url.now ∷ []) line → MatchOption result ⊥ (λ c. line ≡ line_of c) }
+{
+    if is_value(url) {
+        Some(Command::Migrate { url })
+    } else {
+        None
+    }
+}
+
+// The line of a migration with the words behind the command.
+fn migrate_of<'a>(rest: &'a [Txt]) -> Option<Command<'a>>
+    ensures is { IfSome result (λ c. HasAddress (codes "migrate" ∷ map bytes_of rest.now) (line_of c)) }
+    ensures only { (line : Line) → HasAddress (codes "migrate" ∷ map bytes_of rest.now) line → MatchOption result ⊥ (λ c. line ≡ line_of c) }
+{
+    match rest {
+        [url] => migrate_at(url.as_str()),
+        _ => None,
+    }
+}
+
+// The line of a command with options, or of a drill.
+fn served_with<'a>(word: &str, rest: &'a [Txt]) -> Option<Command<'a>>
+    ensures is { IfSome result (λ c. Within (word.now ∷ map bytes_of rest.now) (line_of c)) }
+    ensures only { (line : Line) → Within (word.now ∷ map bytes_of rest.now) line → MatchOption result ⊥ (λ c. line ≡ line_of c) }
+{
+    if is_drill(word) {
+        drill_of(rest)
+    } else {
+        optioned(word, rest)
+    }
+}
+
+// The line of a command with the words behind it.
+fn line_with<'a>(word: &str, rest: &'a [Txt]) -> Option<Command<'a>>
+    ensures is { IfSome result (λ c. IsLine (word.now ∷ map bytes_of rest.now) (line_of c)) }
+    ensures only { (line : Line) → IsLine (word.now ∷ map bytes_of rest.now) line → MatchOption result ⊥ (λ c. line ≡ line_of c) }
+{
+    if is_migrate(word) {
+        migrate_of(rest)
+    } else {
+        served_with(word, rest)
+    }
+}
+
+/// What the words ask for, or `None` exactly where they are no line of the program. It takes no memory.
+pub fn command_of(words: &Words) -> Option<Command<'_>>
+    ensures is { IfSome result (λ c. IsLine words.now (line_of c)) }
+    ensures only { (line : Line) → IsLine words.now line → MatchOption result ⊥ (λ c. line ≡ line_of c) }
+{
+    match words.as_slice() {
+        [] => None,
+        [first, rest @ ..] => line_with(first.as_str(), rest),
+    }
+}
