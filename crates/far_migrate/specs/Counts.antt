@@ -1,5 +1,5 @@
 -- What becomes of the objects of a list that are put back, and how many there are of each kind.
-use Rattle.std.specs.Prelude.{◌≡◌, ◌+◌, ℕ}
+use Rattle.std.specs.Prelude.{◌≡◌, ◌+◌, ⊤, ℕ}
 use Rattle.far_migrate.specs.declared.tally.Tally.{Tally}
 use Rattle.far_migrate.specs.declared.tally.FarFault.{FarFault}
 use Rattle.far_migrate.specs.declared.tally.FarFault.TheVariants as faults
@@ -58,3 +58,10 @@ fault_of faults.LinkFault = link
 fault_of (faults.Answer code) = answer code
 fault_of faults.Restarted = restarted
 fault_of faults.NoMemory = memory
+
+-- P holds where the exchange failed
+abbrev pub OnLink : Type 0 → FarFault → Type 0
+OnLink P faults.LinkFault = P
+OnLink P (faults.Answer c) = ⊤
+OnLink P faults.Restarted = ⊤
+OnLink P faults.NoMemory = ⊤

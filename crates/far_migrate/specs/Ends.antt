@@ -29,13 +29,6 @@ use Rattle.far_migrate.specs.declared.putting.Put.TheVariants as put
 use Rattle.far_migrate.specs.declared.putting.Got.{Got}
 use Rattle.far_migrate.specs.declared.putting.Got.TheVariants as got
 
--- P holds where the exchange failed
-abbrev pub OnLink : Type 0 → FarFault → Type 0
-OnLink P faults.LinkFault = P
-OnLink P (faults.Answer c) = ⊤
-OnLink P faults.Restarted = ⊤
-OnLink P faults.NoMemory = ⊤
-
 -- the reply that an end tells; want of memory tells none
 abbrev pub OnReply : (Reply → Type 0) → Type 0 → WireEnd → Type 0
 OnReply P starved wire.LinkFault = P broken

@@ -1,6 +1,6 @@
 -- What a migration's exchanges say.
 use Rattle.edge_io.specs.Exchanges.{Exchange}
-use Rattle.std.specs.Prelude.{◌≡◌, ℕ, List, [], ◌∷◌, ◌++◌}
+use Rattle.std.specs.Prelude.{Result, Ok, Err, ◌≡◌, ℕ, List, [], ◌∷◌, ◌++◌}
 use Rattle.kj_value.specs.Json.{Json}
 use Rattle.kube_meta.specs.Key.{KeyView}
 use Rattle.api_calls.specs.Legal.{In}
@@ -8,12 +8,20 @@ use Rattle.place.specs.Place.{Names}
 use Rattle.wire_client.specs.Calls.{lists, gets, puts}
 use Rattle.wire_client.specs.Answers.{given}
 use Rattle.far_migrate.specs.Answered.{Did, Asked}
-use Rattle.far_migrate.specs.Puts.{key_of, Handled}
+use Rattle.far_migrate.specs.Counts.{counts_of, fault_of}
+use Rattle.far_migrate.specs.Puts.{key_of, Handled, all, failed}
+use Rattle.far_migrate.specs.declared.tally.Tally.{Tally}
+use Rattle.far_migrate.specs.declared.tally.FarFault.{FarFault}
 use Rattle.far_migrate.specs.Pages.{at_first, first_limit, objects_of, Runs}
 
 -- These exchanges are those of a migration with that end: pages of at most 500 objects are listed, and each object is put back.
 abbrev pub Migrates : Names → List Exchange → Handled → Type 0
 Migrates n es h = Runs n (at_first first_limit 0) es h
+
+-- the end of a migration, as it is answered
+abbrev pub tally_of : Result Tally FarFault → Handled
+tally_of (Ok t) = all (counts_of t)
+tally_of (Err f) = failed (fault_of f)
 
 -- ---- only what was given is put
 

@@ -11,7 +11,7 @@ use Rattle.far_migrate.specs.Answered.{Did}
 use Rattle.far_migrate.specs.Counts.{counts_of, fault_of}
 use Rattle.far_migrate.specs.Pages.{at_first, Step, Stop, most_objects, most_restarts}
 use Rattle.far_migrate.specs.Pages as pages
-use Rattle.far_migrate.specs.Puts.{Handled, all, failed}
+use Rattle.far_migrate.specs.Puts.{all, failed}
 use Rattle.far_migrate.specs.declared.run.Run.{Run}
 use Rattle.far_migrate.specs.declared.tally.Tally.{Tally}
 use Rattle.far_migrate.specs.declared.tally.FarFault.{FarFault}
@@ -48,10 +48,6 @@ abbrev pub Turns : Names → Run → List Exchange → Run → Result Turned Far
 Turns n a es b (Ok turned.More) = Step n (run_of a) es (run_of b) × (left_in b < left_in a)
 Turns n a es b (Ok turned.Done) = Stop n (run_of a) es (all (counts_of b.counts))
 Turns n a es b (Err f) = Stop n (run_of a) es (failed (fault_of f))
-
-abbrev pub tally_of : Result Tally FarFault → Handled
-tally_of (Ok t) = all (counts_of t)
-tally_of (Err f) = failed (fault_of f)
 
 -- the same where the page is there already
 abbrev pub TakesPage : Names → Run → ListPage → List Exchange → Run → Result Turned FarFault → Type 0

@@ -4,10 +4,8 @@ ghost use Rattle.edge_io.specs.Causes.{Rose};
 ghost use Rattle.edge_io.specs.Exchanges.{Exchange};
 ghost use Rattle.place.specs.Place.{place_of};
 ghost use Rattle.wire_client.specs.Far.{Made};
-ghost use Rattle.far_migrate.specs.Counts.{AddsUp, counts_of};
-ghost use Rattle.far_migrate.specs.Ends.{OnLink};
-ghost use Rattle.far_migrate.specs.Migrates.{Migrates};
-ghost use Rattle.far_migrate.specs.Runs.{tally_of};
+ghost use Rattle.far_migrate.specs.Counts.{OnLink, AddsUp, counts_of};
+ghost use Rattle.far_migrate.specs.Migrates.{Migrates, tally_of};
 
 use crate::paging::{Turned, turn};
 use crate::run::Run;

@@ -7,7 +7,8 @@ ghost use Rattle.edge_io.specs.Exchanges.{Exchange};
 ghost use Rattle.place.specs.Place.{place_of};
 ghost use Rattle.wire_client.specs.Far.{Made};
 ghost use Rattle.wire_client.specs.declared.buffer.TheConstants.{ANSWER_LEVELS};
-ghost use Rattle.far_migrate.specs.Ends.{OnLink, TriedPut, TriedGet, IsLow, became};
+ghost use Rattle.far_migrate.specs.Counts.{OnLink};
+ghost use Rattle.far_migrate.specs.Ends.{TriedPut, TriedGet, IsLow, became};
 ghost use Rattle.far_migrate.specs.Puts.{number_of, PutBack};
 
 use crate::ending::{Refused, Ungot, get_end, put_end};

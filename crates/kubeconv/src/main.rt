@@ -9,6 +9,7 @@ use std::process::ExitCode;
 use std::time::Clock;
 use std::{env, io};
 use tcp_ears::TcpEars;
+use tcp_links::TcpLinks;
 
 // The status where the command line can't be had: there is no memory for it, or a word isn't UTF-8.
 fn status_of(fault: io::Error) -> u8 {
@@ -57,6 +58,7 @@ fn main(rt: HostRuntime) -> ExitCode {
     let mut input = StdSource::new(reader);
     let mut output = StdSink::new(writer);
     let mut ears = TcpEars::new(&rt, alloc);
+    let mut links = TcpLinks::new(&rt);
     let clock = RealClock::new(&rt);
     ExitCode::from(run(
         &rt,
@@ -67,6 +69,7 @@ fn main(rt: HostRuntime) -> ExitCode {
         &mut output,
         &mut errors,
         &mut ears,
+        &mut links,
         &clock,
         boot,
     ))

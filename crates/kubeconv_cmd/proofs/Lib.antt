@@ -1,4 +1,3 @@
-pub mod LineWords
 pub mod Taking
 pub mod Alone
 pub mod Serving

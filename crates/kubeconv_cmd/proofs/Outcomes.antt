@@ -1,5 +1,5 @@
 -- What a run of each line comes to, from what its parts came to.
-use Rattle.std.proofs.Common.{◌≡◌, ◌≢◌, ◌<◌, ◌⊎◌, ℕ, List, Option, Some, Result, Ok, Err, inl, inr, ap, sym, subst, arith}
+use Rattle.std.proofs.Common.{◌≡◌, ◌≢◌, ◌∙◌, ◌<◌, ◌⊎◌, ℕ, List, Option, Some, Result, Ok, Err, inl, inr, refl, ap, sym, subst, arith}
 use Rattle.std.specs.Prelude.{IfOk, IfErr, OnOk, OnErr, IfSome}
 use Rattle.std.specs.Io.KnownBytes.{IsAtEnd}
 use Rattle.kj_value.specs.declared.error.NoMemory.{NoMemory}
@@ -7,15 +7,25 @@ use Rattle.crd_loading.specs.Load.{Loads}
 use Rattle.crd_loading.specs.Set.{set_of}
 use Rattle.crd_loading.specs.View.{LoadedView}
 use Rattle.crd_meaning.specs.Definition.{Definition}
-use Rattle.kubeconv_cmd.specs.Lines.{Named, example, Task, Line, pipe, task, drill, serve}
+use Rattle.command_lines.specs.Lines.{Named, example, Task, Line, pipe, task, drill, serve, migrate}
 use Rattle.kubeconv_cmd.specs.Listening.{Told, ToldSome, Announced}
 use Rattle.kubeconv_cmd.specs.Beside.{ServesAll}
 use Rattle.kubeconv_cmd.specs.Tasks.{AnswersDocument, RefusesDocument, Wrote, Broke}
 use Rattle.http_front.specs.Link.{UnlessUnwritten}
 use Rattle.kubeconv_cmd.specs.Serving.{Blames, Converses, DrillsTexts, link_end}
 use Rattle.kubeconv_cmd.specs.Refusal.{RefusesNamed}
+use Rattle.place.specs.Place.{IsPlace, PlaceView}
+use Rattle.far_migrate.specs.Counts.{Counts, fault_of}
+use Rattle.far_migrate.specs.Puts.{Handled, all as all_put, failed as failed_by}
+use Rattle.far_migrate.specs.declared.tally.FarFault.{FarFault}
+use Rattle.far_migrate.specs.declared.tally.FarFault.TheVariants as faults
+use Rattle.far_lines.specs.Migrated.{Migrated}
+use Rattle.far_lines.specs.Ends.{Came, put_back, broke as broke_so, unmade, CameOf, at_place, placeless as no_place, unread as unread_place, Told as ToldTally, IfSilent, OnUnwritten, fault_end}
+use Rattle.far_lines.specs.declared.end.MigrateEnd.{MigrateEnd}
+use Rattle.far_lines.specs.declared.end.MigrateEnd.TheVariants as migrated
+use Rattle.kubeconv_cmd.specs.Migrations.{migrate_end_line, migrate_status}
 use Rattle.kubeconv_cmd.specs.Status.{error_line, pipe_status}
-use Rattle.kubeconv_cmd.specs.Outcome.{World, OfTexts, OfInput, HasLoaded, HasHandedOn, Says, IsSilent, HearsNobody, AnswersSo, Stopped, unreadable, refused, wanting, PipeOutcome, talked, unserved, TaskOutcome, wrote_line, broke_line, refused_input, unread_input, wanting_task, unloaded_task, DrillOutcome, wrote_drill, broke_drill, wanting_drill, ServeOutcome, answered, answered_fewer, unheard, untold, wanting_service, unloaded_service, Outcome, FilesFail, InputFails, OutputFails, EarsFail, InputStays, OutputStays}
+use Rattle.kubeconv_cmd.specs.Outcome.{World, OfTexts, OfInput, HasLoaded, HasHandedOn, Says, IsSilent, HearsNobody, AnswersSo, Stopped, unreadable, refused, wanting, PipeOutcome, talked, unserved, TaskOutcome, wrote_line, broke_line, refused_input, unread_input, wanting_task, unloaded_task, DrillOutcome, wrote_drill, broke_drill, wanting_drill, ServeOutcome, answered, answered_fewer, unheard, untold, wanting_service, unloaded_service, MigratedAt, MigrateOutcome, settled, contested, broke_tally, forgotten, misanswered, unlinked, wanting_migration, placeless, IsPlaceless, Outcome, FilesFail, InputFails, OutputFails, EarsFail, FilesStay, InputStays, OutputStays, EarsStay}
 use Rattle.kubeconv_cmd.specs.Ends.{OnRefused, OnUnread, stop_status, stop_line, talk_status, why_text}
 use Rattle.kubeconv_cmd.specs.Halts.{OnHalt, Unwritten, task_status, task_line}
 use Rattle.kubeconv_cmd.specs.Served.{OnUnheard, UnlessUnheard, OnUntold, Silent, served_status}
@@ -27,7 +37,7 @@ use Rattle.kubeconv_cmd.specs.declared.halt.Halt.{Halt}
 use Rattle.kubeconv_cmd.specs.declared.halt.Halt.TheVariants as halts
 use Rattle.kubeconv_cmd.specs.declared.serve_line.Unserved.{Unserved}
 use Rattle.kubeconv_cmd.specs.declared.serve_line.Unserved.TheVariants as ends
-use Rattle.kubeconv_cmd.specs.declared.status.TheConstants.{BAD_WORDS, REFUSED, BAD_INPUT, LISTEN_FAILED}
+use Rattle.kubeconv_cmd.specs.declared.status.TheConstants.{BAD_WORDS, REFUSED, BAD_INPUT, LISTEN_FAILED, BAD_ANSWER}
 use Rattle.kubeconv_cmd.proofs.TaskLemmas.{wrote_texts, broke_texts, refuses_texts}
 
 -- what a line comes to is what an equal line does
@@ -137,6 +147,66 @@ serve_outcome w named connections d (Err ends.NotListening) s loaded found done 
 serve_outcome w named connections d (Err ends.WriteFailed) s loaded found done told silent fewer front untouched is = untold is front loaded silent untouched
 serve_outcome w named connections d (Err ends.NoMemory) s loaded found done told silent fewer front untouched is = wanting_service is silent untouched
 
+-- ---- `migrate`
+
+at_so : {F S K A : Type 0} (w : World F S K A) (url : List ℕ) (p : PlaceView) (h : Handled) → IsPlace url p → Migrated p.names w.linked_before w.linked h → MigratedAt w url h
+at_so w url p h is m = record { place = p; is = is; migrated = m }
+
+tally_outcome : {F S K A : Type 0} (w : World F S K A) (url : List ℕ) (p : PlaceView) (came : MigrateEnd) (s : ℕ) → IsPlace url p
+    → (t : Counts) → Migrated p.names w.linked_before w.linked (all_put t) → ToldTally t w.written_before w.written w.flushed came
+    → OnUnwritten (OutputFails w) came → IfSilent (OutputStays w) came → StaysSilent w → s ≡ migrate_status came → MigrateOutcome w url s
+tally_outcome w url p migrated.Done s at t m told cause silent same is = settled t is told.0 (at_so w url p (all_put t) at m) told.1.wrote told.1.handed_on
+tally_outcome w url p migrated.Contested s at t m told cause silent same is = contested t is told.0 (at_so w url p (all_put t) at m) told.1.wrote told.1.handed_on
+tally_outcome w url p migrated.BadPlace s at t m told cause silent same is = absurd told
+tally_outcome w url p migrated.LinkFault s at t m told cause silent same is = absurd told
+tally_outcome w url p (migrated.Answer code) s at t m told cause silent same is = absurd told
+tally_outcome w url p migrated.Restarted s at t m told cause silent same is = absurd told
+tally_outcome w url p migrated.WriteFault s at t m told cause silent same is = broke_tally t is cause (at_so w url p (all_put t) at m) told
+tally_outcome w url p migrated.NoMemory s at t m told cause silent same is = wanting_migration is (silent_so w silent same)
+
+broke_outcome : {F S K A : Type 0} (w : World F S K A) (url : List ℕ) (p : PlaceView) (fault : FarFault) (s : ℕ) → IsPlace url p → Migrated p.names w.linked_before w.linked (failed_by (fault_of fault))
+    → IfSilent (OutputStays w) (fault_end fault) → StaysSilent w → s ≡ migrate_status (fault_end fault) → Says w (migrate_end_line (fault_end fault)) → MigrateOutcome w url s
+broke_outcome w url p faults.LinkFault s at m silent same is says = unlinked is (at_so w url p _ at m) (silent_so w silent same)
+broke_outcome w url p (faults.Answer code) s at m silent same is says = misanswered code is (at_so w url p _ at m) says (silent_so w silent same)
+broke_outcome w url p faults.Restarted s at m silent same is says = forgotten is (at_so w url p _ at m) (silent_so w silent same)
+broke_outcome w url p faults.NoMemory s at m silent same is says = wanting_migration is (silent_so w silent same)
+
+wanting_so : {F S K A : Type 0} (w : World F S K A) (url : List ℕ) (came : MigrateEnd) (s : ℕ) → came ≡ migrated.NoMemory → IfSilent (OutputStays w) came → StaysSilent w
+    → s ≡ migrate_status came → MigrateOutcome w url s
+wanting_so w url came s e silent same is =
+    wanting_migration (is ∙ ap migrate_status e) (silent_so w (subst (IfSilent (OutputStays w)) e silent) same)
+
+pub migrate_outcome : {F S K A : Type 0} (w : World F S K A) (url : List ℕ) (came : MigrateEnd) (s : ℕ) → CameOf url w.linked_before w.linked w.written_before w.written w.flushed came
+    → OnUnwritten (OutputFails w) came → IfSilent (OutputStays w) came → StaysSilent w → s ≡ migrate_status came → Says w (migrate_end_line came) → MigrateOutcome w url s
+migrate_outcome w url came s (at_place p at (put_back t m told)) cause silent same is says = tally_outcome w url p came s at t m told cause silent same is
+migrate_outcome w url came s (at_place p at (broke_so fault e m)) cause silent same is says =
+    broke_outcome w url p fault s at m (subst (IfSilent (OutputStays w)) e silent) same (is ∙ ap migrate_status e) (subst (λ (c : MigrateEnd). Says w (migrate_end_line c)) e says)
+migrate_outcome w url came s (at_place p at (unmade e stays)) cause silent same is says = wanting_so w url came s e silent same is
+migrate_outcome w url came s (no_place e none stays) cause silent same is says =
+    placeless (is ∙ ap migrate_status e) none stays (silent_so w (subst (IfSilent (OutputStays w)) e silent) same)
+migrate_outcome w url came s (unread_place e stays) cause silent same is says = wanting_so w url came s e silent same is
+
+pub migrated_line : (came : MigrateEnd) (s : ℕ) → s ≡ migrate_status came → s ≢ BAD_ANSWER → migrate_end_line came ≡ error_line s
+migrated_line migrated.Done s is other = ap error_line (sym is)
+migrated_line migrated.Contested s is other = ap error_line (sym is)
+migrated_line migrated.BadPlace s is other = ap error_line (sym is)
+migrated_line migrated.LinkFault s is other = ap error_line (sym is)
+migrated_line (migrated.Answer code) s is other = absurd (other is)
+migrated_line migrated.Restarted s is other = ap error_line (sym is)
+migrated_line migrated.WriteFault s is other = ap error_line (sym is)
+migrated_line migrated.NoMemory s is other = ap error_line (sym is)
+
+-- only at a bad place the words are told to be bad
+pub bad_place : (came : MigrateEnd) (s : ℕ) → s ≡ migrate_status came → s ≡ BAD_WORDS → came ≡ migrated.BadPlace
+bad_place migrated.Done s is e = absurd (omega (arith, is, e))
+bad_place migrated.Contested s is e = absurd (omega (arith, is, e))
+bad_place migrated.BadPlace s is e = refl
+bad_place migrated.LinkFault s is e = absurd (omega (arith, is, e))
+bad_place (migrated.Answer code) s is e = absurd (omega (arith, is, e))
+bad_place migrated.Restarted s is e = absurd (omega (arith, is, e))
+bad_place migrated.WriteFault s is e = absurd (omega (arith, is, e))
+bad_place migrated.NoMemory s is e = absurd (omega (arith, is, e))
+
 -- ---- no line ends as words do that are no line
 
 never_stopped : {F S K A : Type 0} (w : World F S K A) (named : Named) (s : ℕ) → Stopped w named s → s ≡ BAD_WORDS → ⊥
@@ -177,8 +247,20 @@ never_served w named connections s (untold is fails loaded told nobody) e = omeg
 never_served w named connections s (wanting_service is told nobody) e = omega (arith, is, e)
 never_served w named connections s (unloaded_service stopped silent nobody) e = never_stopped w named s stopped e
 
-pub never_bad_words : {F S K A : Type 0} (w : World F S K A) (line : Line) (s : ℕ) → Outcome w line s → s ≡ BAD_WORDS → ⊥
-never_bad_words w (pipe named turns) s out e = never_piped w named turns s out.0 e
-never_bad_words w (task c r t) s out e = never_tasked w _ t s out.0 e
-never_bad_words w (drill start count) s out e = never_drilled w start count s out.0 e
-never_bad_words w (serve v) s out e = never_served w _ v.connections s out.0 e
+only_placeless : {F S K A : Type 0} (w : World F S K A) (url : List ℕ) (s : ℕ) → MigrateOutcome w url s → s ≡ BAD_WORDS → ((p : PlaceView) → IsPlace url p → ⊥) × (OutputStays w)
+only_placeless w url s (settled t is none at wrote flushed) e = absurd (omega (arith, is, e))
+only_placeless w url s (contested t is some at wrote flushed) e = absurd (omega (arith, is, e))
+only_placeless w url s (broke_tally t is fails at front) e = absurd (omega (arith, is, e))
+only_placeless w url s (forgotten is at silent) e = absurd (omega (arith, is, e))
+only_placeless w url s (misanswered code is at says silent) e = absurd (omega (arith, is, e))
+only_placeless w url s (unlinked is at silent) e = absurd (omega (arith, is, e))
+only_placeless w url s (wanting_migration is silent) e = absurd (omega (arith, is, e))
+only_placeless w url s (placeless is none stays silent) e = (none, silent.0)
+
+-- a line whose words are told to be bad has a place that is none, and touches nothing
+pub bad_words : {F S K A : Type 0} (w : World F S K A) (line : Line) (s : ℕ) → Outcome w line s → s ≡ BAD_WORDS → IsPlaceless line × (FilesStay w) × (InputStays w) × (OutputStays w) × (EarsStay w)
+bad_words w (pipe named turns) s out e = absurd (never_piped w named turns s out.0 e)
+bad_words w (task c r t) s out e = absurd (never_tasked w _ t s out.0 e)
+bad_words w (drill start count) s out e = absurd (never_drilled w start count s out.0 e)
+bad_words w (serve v) s out e = absurd (never_served w _ v.connections s out.0 e)
+bad_words w (migrate url) s out e = let found = only_placeless w url s out.0 e in (found.0, out.1, out.2, found.1, out.3)

@@ -13,7 +13,7 @@ use Rattle.crd_loading.specs.declared.loading.Which.TheVariants.{Crd, Rules}
 use Rattle.crd_loading.specs.Set.{set_of}
 use Rattle.crd_versions.specs.Set.{definition_of}
 use Rattle.crd_versions.specs.declared.set.VersionSet.{VersionSet}
-use Rattle.kubeconv_cmd.specs.Lines.{from_files}
+use Rattle.command_lines.specs.Lines.{from_files}
 use Rattle.kubeconv_cmd.specs.Refusal.{IsText, IsUnfit, IsFirstRefused, IsServed, DontLoad, file_of}
 use Rattle.kubeconv_cmd.specs.Ends.{OnRefused}
 use Rattle.kubeconv_cmd.specs.declared.stop.Stop.{Stop}

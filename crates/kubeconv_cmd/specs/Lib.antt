@@ -1,4 +1,4 @@
-pub mod Lines
+pub mod Texts
 pub mod Tasks
 pub mod Listening
 pub mod Serving
@@ -6,7 +6,7 @@ pub mod Beside
 pub mod Outcome
 pub mod Status
 pub mod Refusal
-pub mod Given
 pub mod Ends
 pub mod Halts
+pub mod Migrations
 pub mod Served

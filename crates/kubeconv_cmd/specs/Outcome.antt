@@ -1,16 +1,23 @@
 -- What a run of a line comes to, whatever the outside does: by cases on the line, and on how it ended. A new line is a new case.
 use Rattle.std.specs.Prelude.{◌≡◌, ◌<◌, ◌⊎◌, ℕ, List, Option, Some, IfSome}
+use Rattle.edge_io.specs.Sends.{AddsSome}
+use Rattle.tcp_links.specs.Links.{Ending as LinkEnding}
+use Rattle.place.specs.Place.{IsPlace, Names, PlaceView}
+use Rattle.far_migrate.specs.Counts.{Counts, answer, link, restarted}
+use Rattle.far_migrate.specs.Puts.{Handled, all, failed}
+use Rattle.far_lines.specs.Migrated.{Migrated, tally_lines}
 use Rattle.std.specs.Io.KnownBytes.{append_known, IsAtEnd}
 use Rattle.edge_io.specs.Causes.{Rose}
 use Rattle.edge_io.specs.Connections.{Origin, Ending}
-use Rattle.kubeconv_cmd.specs.Lines.{Named, from_files, example, Task, Line, pipe, task, drill, serve, Texts}
+use Rattle.command_lines.specs.Lines.{Named, from_files, example, Task, Line, pipe, task, drill, serve, migrate}
+use Rattle.kubeconv_cmd.specs.Texts.{Texts}
 use Rattle.kubeconv_cmd.specs.Listening.{Told, ToldSome, Announced}
 use Rattle.kubeconv_cmd.specs.Beside.{ServesAll}
 use Rattle.kubeconv_cmd.specs.Tasks.{AnswersTexts, RefusesTexts, Wrote, Broke}
 use Rattle.kubeconv_cmd.specs.Serving.{Start, Converses, DrillsTexts, WasHeld}
 use Rattle.kubeconv_cmd.specs.Refusal.{RefusesNamed, IsServed}
-use Rattle.kubeconv_cmd.specs.Status.{line_saying, refusal_line}
-use Rattle.kubeconv_cmd.specs.declared.status.TheConstants.{DONE, REFUSED, BAD_INPUT, READ_FAILED, WRITE_FAILED, NO_MEMORY, LISTEN_FAILED}
+use Rattle.kubeconv_cmd.specs.Status.{answer_line, line_saying, refusal_line}
+use Rattle.kubeconv_cmd.specs.declared.status.TheConstants.{DONE, BAD_WORDS, REFUSED, BAD_INPUT, READ_FAILED, WRITE_FAILED, NO_MEMORY, LISTEN_FAILED, LINK_FAILED, BAD_ANSWER, UNSETTLED}
 
 -- ---- the outside
 
@@ -36,6 +43,9 @@ pub record World (F S K A : Type 0) : Type 0 where
   pub handed : Option (List Origin)
   pub returned_before : Option (List Ending)
   pub returned : Option (List Ending)
+  -- the links that had been given back
+  pub linked_before : Option (List LinkEnding)
+  pub linked : Option (List LinkEnding)
   -- how often each had failed
   pub files_faults_before : ℕ
   pub files_faults : ℕ
@@ -189,12 +199,56 @@ pub data ServeOutcome {F S K A : Type 0} (w : World F S K A) (named : Named) (co
   wanting_service : status ≡ NO_MEMORY → MayHaveTold w → HearsNobody w → ServeOutcome w named connections status
   unloaded_service : Stopped w named status → IsSilent w → HearsNobody w → ServeOutcome w named connections status
 
+-- the link that was made to the place of the address made the exchanges of a migration that came to this, and was given back
+pub record MigratedAt {F S K A : Type 0} (w : World F S K A) (url : List ℕ) (h : Handled) : Type 0 where
+  pub place : PlaceView
+  pub is : IsPlace url place
+  pub migrated : Migrated place.names w.linked_before w.linked h
+
+-- the address is that of a place, or no link was made
+pub data MigrateOutcome {F S K A : Type 0} (w : World F S K A) (url : List ℕ) (status : ℕ) : Type 0 where
+  -- each object was put back, and the tally was written and handed on
+  settled : (t : Counts) → status ≡ DONE → t.contested ≡ 0 → MigratedAt w url (all t) → w.written ≡ append_known w.written_before (tally_lines t) → w.flushed ≡ w.written
+      → MigrateOutcome w url status
+  -- the same, but some object changed at each of its puts
+  contested : (t : Counts) → status ≡ UNSETTLED → 0 < t.contested → MigratedAt w url (all t) → w.written ≡ append_known w.written_before (tally_lines t) → w.flushed ≡ w.written
+      → MigrateOutcome w url status
+  -- a front of the tally was written, and then the output failed
+  broke_tally : (t : Counts) → status ≡ WRITE_FAILED → (OutputFails w) → MigratedAt w url (all t) → AddsSome w.written_before w.written (tally_lines t) → MigrateOutcome w url status
+  -- its list was forgotten too often
+  forgotten : status ≡ UNSETTLED → MigratedAt w url (failed restarted) → IsSilent w → MigrateOutcome w url status
+  -- an answer for which there is no rule, whose code the error line names
+  misanswered : (code : ℕ) → status ≡ BAD_ANSWER → MigratedAt w url (failed (answer code)) → Says w (answer_line code) → IsSilent w → MigrateOutcome w url status
+  -- the link failed
+  unlinked : status ≡ LINK_FAILED → MigratedAt w url (failed link) → IsSilent w → MigrateOutcome w url status
+  -- memory was wanted for the place, the link, the migration or the tally
+  wanting_migration : status ≡ NO_MEMORY → IsSilent w → MigrateOutcome w url status
+  -- the address is that of no place, and no link was made
+  placeless : status ≡ BAD_WORDS → ((p : PlaceView) → IsPlace url p → ⊥) → w.linked ≡ w.linked_before → IsSilent w → MigrateOutcome w url status
+
+-- the line works at an address that is that of no place
+abbrev pub IsPlaceless : Line → Type 0
+IsPlaceless (pipe named turns) = ⊥
+IsPlaceless (task crd rules t) = ⊥
+IsPlaceless (drill start count) = ⊥
+IsPlaceless (serve s) = ⊥
+IsPlaceless (migrate url) = (p : PlaceView) → IsPlace url p → ⊥
+
+-- P holds of a line that works on no server from outside
+abbrev pub IfUnlinked : Line → Type 0 → Type 0
+IfUnlinked (pipe named turns) P = P
+IfUnlinked (task crd rules t) P = P
+IfUnlinked (drill start count) P = P
+IfUnlinked (serve s) P = P
+IfUnlinked (migrate url) P = Unit {0}
+
 -- ---- any line
 
 -- The run of the line came to this status. `serve` reads no input, and the other lines ask nothing of the ears; a drill reads no file
--- either, and no input.
+-- either, and no input, nor does a migration.
 abbrev pub Outcome : {F S K A : Type 0} → World F S K A → Line → ℕ → Type 0
 Outcome w (pipe named turns) status = PipeOutcome w named turns status × (EarsStay w)
 Outcome w (task c r t) status = TaskOutcome w (from_files c r) t status × (EarsStay w)
 Outcome w (drill start count) status = DrillOutcome w start count status × (FilesStay w) × (InputStays w) × (EarsStay w)
 Outcome w (serve s) status = ServeOutcome w (from_files s.crd s.rules) s.connections status × (InputStays w)
+Outcome w (migrate url) status = MigrateOutcome w url status × (FilesStay w) × (InputStays w) × (EarsStay w)

@@ -8,7 +8,7 @@ use Rattle.crd_loading.specs.Told.{RefusesIn}
 use Rattle.crd_loading.specs.View.{LoadedView}
 use Rattle.crd_loading.specs.declared.loading.Which.{Which}
 use Rattle.crd_loading.specs.declared.loading.Which.TheVariants.{Crd, Rules}
-use Rattle.kubeconv_cmd.specs.Lines.{Named, built_in, from_files, example}
+use Rattle.command_lines.specs.Lines.{Named, built_in, from_files, example, no_definition}
 
 -- ---- one file
 
@@ -65,11 +65,13 @@ file_of Rules c r = r
 abbrev pub RefusesNamed : Named → List ℕ → List ℕ → List ℕ → List ℕ → Type 0
 RefusesNamed built_in crd rules name why = ⊥
 RefusesNamed example crd rules name why = ⊥
+RefusesNamed no_definition crd rules name why = ⊥
 RefusesNamed (from_files c r) crd rules name why = (which : Which) × (name ≡ file_of which c r) × IsFirstRefused crd rules which why
 
 -- The texts are served: the files aren't too long, and load. What is built in always is, and so is the example.
 abbrev pub IsServed : Named → List ℕ → List ℕ → Type 0
 IsServed built_in crd rules = Unit {0}
 IsServed example crd rules = Unit {0}
+IsServed no_definition crd rules = ⊥
 IsServed (from_files c r) crd rules =
     (length crd ≤ MOST_FILE_BYTES) × (length rules ≤ MOST_FILE_BYTES) × (l : LoadedView) × Loads crd rules l

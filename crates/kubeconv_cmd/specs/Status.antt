@@ -1,9 +1,9 @@
 -- The status of a run, and what it says of a fault.
-use Rattle.std.specs.Prelude.{◌==◌, ◌++◌, ℕ, List, [], codes, if◌then◌else◌}
+use Rattle.std.specs.Prelude.{◌==◌, ◌++◌, ℕ, List, [], codes, decimal, if◌then◌else◌}
 use Rattle.http_wire.specs.Stream.{End, closed, closing, spent, torn, refused}
 use Rattle.kubeconv_cmd.specs.declared.pipe.PipeEnd.{PipeEnd}
 use Rattle.kubeconv_cmd.specs.declared.pipe.PipeEnd.TheVariants.{Closed, Torn, Refused, Spent, ReadFault, WriteFault}
-use Rattle.kubeconv_cmd.specs.declared.status.TheConstants.{DONE, BAD_WORDS, READ_FAILED, WRITE_FAILED, NO_MEMORY, LISTEN_FAILED, CUT, TOO_MANY}
+use Rattle.kubeconv_cmd.specs.declared.status.TheConstants.{DONE, BAD_WORDS, READ_FAILED, WRITE_FAILED, NO_MEMORY, LISTEN_FAILED, CUT, TOO_MANY, LINK_FAILED, UNSETTLED}
 
 -- the status of the end of an input
 abbrev pub status_of : End → ℕ
@@ -29,7 +29,9 @@ fault_text status =
     if status == READ_FAILED then codes "read failed" else (
     if status == NO_MEMORY then codes "out of memory" else (
     if status == LISTEN_FAILED then codes "listening failed" else (
-    if status == CUT then codes "request cut or refused" else codes "too many requests"))))
+    if status == CUT then codes "request cut or refused" else (
+    if status == LINK_FAILED then codes "link failed" else (
+    if status == UNSETTLED then codes "contested" else codes "too many requests"))))))
 
 -- an error line that says this
 abbrev pub line_saying : List ℕ → List ℕ
@@ -45,3 +47,7 @@ error_line status =
 -- the line that names a refused file and says why
 unfoldable pub refusal_line : List ℕ → List ℕ → List ℕ
 refusal_line name why = codes "kubeconv: " ++ (name ++ (codes ": " ++ (why ++ codes "\n")))
+
+-- the line that names the code of an answer for which there is no rule
+unfoldable pub answer_line : ℕ → List ℕ
+answer_line code = codes "kubeconv: answer " ++ (decimal code ++ codes "\n")

@@ -17,7 +17,7 @@ use Rattle.crd_meaning.specs.Definition.{Definition, count_of, version_at}
 use Rattle.crd_meaning.specs.Converted.{IsConverted}
 use Rattle.crd_meaning.specs.Unconverted.{IsUnconverted}
 use Rattle.review_batch.specs.Answer.{IsAnswer, IsNoRequest}
-use Rattle.kubeconv_cmd.specs.Lines.{Task, convert, review}
+use Rattle.command_lines.specs.Lines.{Task, convert, review}
 use Rattle.kubeconv_cmd.specs.declared.input.TheConstants.{MOST_INPUT_BYTES}
 
 -- ---- a document that is converted

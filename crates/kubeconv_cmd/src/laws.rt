@@ -12,16 +12,17 @@ ghost use Rattle.rule_reading.specs.declared.rules.TheConstants.{MAX_RULES as mo
 ghost use Rattle.kept_entries.specs.declared.reading.TheConstants.{KEPT_LEVELS as most_kept_levels};
 ghost use Rattle.crd_meaning.specs.declared.limits.TheConstants.{MAX_MEASURE as most_measure};
 ghost use Rattle.http_routes.specs.declared.query.TheConstants.{MOST_LIMIT_DIGITS as most_limit_digits};
-ghost use Rattle.review_batch.specs.declared.levels.TheConstants.{REVIEW_LEVELS as most_review_levels, ANSWER_ROOM as most_answer_bytes};
+ghost use Rattle.command_lines.specs.declared.numbers.TheConstants.{MOST_STEPS as most_steps};
+ghost use Rattle.command_lines.specs.declared.service.TheConstants.{USUAL_WORKERS as usual_workers, MOST_WORKERS as most_workers, MOST_CONNECTIONS as most_connections};
+ghost use Rattle.command_lines.specs.declared.turns.TheConstants.{MOST_TURNS as most_turns};
+ghost use Rattle.review_batch.specs.declared.levels.TheConstants.{ANSWER_ROOM as most_answer_bytes};
+ghost use Rattle.review_forms.specs.declared.levels.TheConstants.{REVIEW_LEVELS as most_review_levels};
 
 use crate::input::MOST_INPUT_BYTES;
-use crate::numbers::MOST_STEPS;
-use crate::service::{MOST_CONNECTIONS, MOST_WORKERS, USUAL_WORKERS};
 use crate::status::{
-    BAD_INPUT, BAD_WORDS, CUT, DONE, LISTEN_FAILED, NO_MEMORY, READ_FAILED, REFUSED, TOO_MANY,
-    WRITE_FAILED,
+    BAD_ANSWER, BAD_INPUT, BAD_WORDS, CUT, DONE, LINK_FAILED, LISTEN_FAILED, NO_MEMORY,
+    READ_FAILED, REFUSED, TOO_MANY, UNSETTLED, WRITE_FAILED,
 };
-use crate::turns::MOST_TURNS;
 
 /// The statuses.
 pub fn statuses()
@@ -35,6 +36,9 @@ pub fn statuses()
     ensures listen_failed { LISTEN_FAILED ≡ 8 }
     ensures cut { CUT ≡ 9 }
     ensures too_many { TOO_MANY ≡ 10 }
+    ensures link_failed { LINK_FAILED ≡ 11 }
+    ensures bad_answer { BAD_ANSWER ≡ 12 }
+    ensures unsettled { UNSETTLED ≡ 13 }
 {}
 
 /// The bounds on definitions, schemas, rules, objects and their texts, lists and reviews: numbers of things, bytes, digits and levels.
@@ -47,9 +51,9 @@ pub fn bounds()
     ensures measure { most_measure ≡ 262_144 }
     ensures labels { most_label_bytes ≡ 63 }
     ensures documents { MOST_INPUT_BYTES ≡ 4_194_304 }
-    ensures turns { MOST_TURNS ≡ 1_000 }
-    ensures service { (USUAL_WORKERS ≡ 2) × (MOST_WORKERS ≡ 15) × (MOST_CONNECTIONS ≡ 1_000_000) }
-    ensures steps { MOST_STEPS ≡ 100_000 }
+    ensures turns { most_turns ≡ 1_000 }
+    ensures service { (usual_workers ≡ 2) × (most_workers ≡ 15) × (most_connections ≡ 1_000_000) }
+    ensures steps { most_steps ≡ 100_000 }
     ensures lists { most_limit_digits ≡ 18 }
     ensures reviews { (most_review_levels ≡ 67) × (most_answer_bytes ≡ 67_108_864) }
     ensures finalizers { (most_finalizers ≡ 64) × (most_finalizer_bytes ≡ 317) }

@@ -9,15 +9,9 @@
 
 pub mod laws;
 
-// The words, and the definition that they name.
-mod drill_words;
+// The definition that a line names.
 mod loading;
-mod numbers;
-mod serve_words;
-mod service;
 mod stop;
-mod turns;
-mod words;
 
 // The work of `pipe`.
 mod pipe;
@@ -37,14 +31,11 @@ mod serve_line;
 mod status;
 mod top;
 
+pub use command_lines::Words;
 pub use input::MOST_INPUT_BYTES;
-pub use numbers::MOST_STEPS;
 pub use pipe::PipeEnd;
-pub use service::{MOST_CONNECTIONS, MOST_WORKERS, USUAL_WORKERS};
 pub use status::{
-    BAD_INPUT, BAD_WORDS, CUT, DONE, LISTEN_FAILED, NO_MEMORY, READ_FAILED, REFUSED, TOO_MANY,
-    WRITE_FAILED, ended,
+    BAD_ANSWER, BAD_INPUT, BAD_WORDS, CUT, DONE, LINK_FAILED, LISTEN_FAILED, NO_MEMORY,
+    READ_FAILED, REFUSED, TOO_MANY, UNSETTLED, WRITE_FAILED, ended,
 };
 pub use top::run;
-pub use turns::MOST_TURNS;
-pub use words::Words;

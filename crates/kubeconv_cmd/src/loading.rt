@@ -8,14 +8,14 @@ ghost use Rattle.crd_versions.specs.Set.{definition_of};
 ghost use Rattle.kj_value.specs.Reading.{Reads};
 ghost use Rattle.crontab_example.specs.Documents.{definition_document, rules_document};
 ghost use Rattle.built_in.specs.Texts.{definition_text, rules_text};
-ghost use Rattle.kubeconv_cmd.specs.Lines.{Texts};
+ghost use Rattle.kubeconv_cmd.specs.Texts.{Texts};
 ghost use Rattle.kubeconv_cmd.specs.Refusal.{IsText, IsUnfit, IsFirstRefused, IsServed, DontLoad, RefusesNamed, file_of};
-ghost use Rattle.kubeconv_cmd.specs.Given.{named_of};
+ghost use Rattle.command_lines.specs.Given.{named_of};
 ghost use Rattle.kubeconv_cmd.specs.Ends.{OnRefused, OnUnread};
 
 use crate::stop::{Stop, Why};
-use crate::words::Named;
 use built_in::accepted;
+use command_lines::Named;
 use crd_versions::{LoadFault, VersionSet, Which, load};
 use edge_io::{FileFault, Files};
 use kj_value::{NoMemory, Txt, one_reading};

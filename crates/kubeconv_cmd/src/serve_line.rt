@@ -12,10 +12,10 @@ ghost use Rattle.kubeconv_cmd.specs.Listening.{listening_line, Told, ToldSome, A
 ghost use Rattle.kubeconv_cmd.specs.Beside.{AnsweredAll, ServesAll};
 ghost use Rattle.kubeconv_cmd.specs.Served.{OnUnheard, UnlessUnheard, OnUntold, Silent, served_status};
 
-use crate::service::Service;
 use crate::status::{DONE, LISTEN_FAILED, NO_MEMORY, WRITE_FAILED, ended};
 use crate::tasks::write_line;
 use api_calls::{NoTool, NoTools, Versions};
+use command_lines::Service;
 use crd_versions::VersionSet;
 use edge_io::{Clock, Ears, Failed, Sink, send};
 use kube_meta::Limits;
@@ -170,7 +170,7 @@ pub(crate) fn serve_set<
         alloc,
         versions,
         service.place,
-        service.workers,
+        service.workers(),
         service.connections,
         output,
         ears,

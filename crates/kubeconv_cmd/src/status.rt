@@ -3,15 +3,18 @@ ghost use Rattle.std.specs.Prelude.{◌≡◌, ◌++◌, Option, List, ℕ, code
 ghost use Rattle.std.specs.Io.KnownBytes.{append_known};
 ghost use Rattle.edge_io.specs.Causes.{HasCause, Rose};
 ghost use Rattle.edge_io.specs.Sends.{Sends};
-ghost use Rattle.kubeconv_cmd.specs.Status.{pipe_status, error_line as error_line_of, line_saying, refusal_line};
+ghost use Rattle.kubeconv_cmd.specs.Status.{pipe_status, answer_line, error_line as error_line_of, line_saying, refusal_line};
 ghost use Rattle.kubeconv_cmd.specs.Refusal.{blame_text};
 ghost use Rattle.kubeconv_cmd.specs.Ends.{stop_line, stop_status, talk_status, why_text};
 ghost use Rattle.kubeconv_cmd.specs.Halts.{task_line, task_status};
+ghost use Rattle.kubeconv_cmd.specs.Migrations.{migrate_end_line, migrate_status};
 
 use crate::halt::Halt;
 use crate::pipe::PipeEnd;
 use crate::stop::{Stop, Why};
 use edge_io::{Failed, Sink, send};
+use far_lines::MigrateEnd;
+use itoa::Buffer;
 use kj_value::NoMemory;
 
 /// Done: of `pipe` the input was read to its end between two requests, or an answered request asked for closing.
@@ -44,6 +47,15 @@ pub const CUT: u8 = 9;
 /// As many requests were answered as are, and the last didn't ask for closing.
 pub const TOO_MANY: u8 = 10;
 
+/// The link to a server failed.
+pub const LINK_FAILED: u8 = 11;
+
+/// A server's answer is one for which there is no rule.
+pub const BAD_ANSWER: u8 = 12;
+
+/// Some object changed at each of its puts, or a list was forgotten too often.
+pub const UNSETTLED: u8 = 13;
+
 // What stands before an error's text.
 const PROGRAM: &[u8] = b"kubeconv: ";
 
@@ -66,7 +78,7 @@ fn status_of(end: PipeEnd) -> u8
     }
 }
 
-// The line that a status but `REFUSED` and `BAD_INPUT` puts on the error stream.
+// The line that a status but `REFUSED`, `BAD_INPUT` and `BAD_ANSWER` puts on the error stream.
 #[tactic(auto, unfolding(crate::specs::Status::error_line))]
 fn error_line(status: u8) -> &'static str
     ensures { result.now ≡ error_line_of status }
@@ -79,6 +91,8 @@ fn error_line(status: u8) -> &'static str
         NO_MEMORY => "kubeconv: out of memory\n",
         LISTEN_FAILED => "kubeconv: listening failed\n",
         CUT => "kubeconv: request cut or refused\n",
+        LINK_FAILED => "kubeconv: link failed\n",
+        UNSETTLED => "kubeconv: contested\n",
         _ => "kubeconv: too many requests\n",
     }
 }
@@ -156,7 +170,7 @@ fn write_refusal<E: Sink>(errors: &mut E, file: &str, why: &Why) -> Result<(), F
     errors.flush()
 }
 
-/// Ends with a status but `REFUSED` and `BAD_INPUT`, whose line is written: a run, or a program whose run can't begin, since a word of the
+/// Ends with a status but `REFUSED`, `BAD_INPUT` and `BAD_ANSWER`, whose line is written: a run, or a program whose run can't begin, since a word of the
 /// command line isn't UTF-8 (`BAD_WORDS`) or memory is wanted (`NO_MEMORY`). A failed write of that line changes nothing.
 pub fn ended<E: Sink>(errors: &mut E, status: u8) -> u8
     ensures status { result ≡ status }
@@ -230,5 +244,57 @@ pub(crate) fn tell_task<E: Sink>(errors: &mut E, came: Result<(), Halt>) -> u8
         Err(Halt::WriteFailed) => ended(errors, WRITE_FAILED),
         Err(Halt::Input { why }) => bad_input(errors, why.as_str()),
         Err(Halt::NoMemory) => ended(errors, NO_MEMORY),
+    }
+}
+
+// Writes the line that names a code.
+fn send_answer<E: Sink>(errors: &mut E, code: &[u8]) -> Result<(), Failed>
+    ensures sent { Sends (E.written errors.old) (E.written errors.new) (codes "kubeconv: answer " ++ (code.now ++ codes "\n")) result }
+    ensures cause { HasCause (E.faults errors.old) (E.faults errors.new) result }
+{
+    send(errors, b"kubeconv: answer ")?;
+    send(errors, code)?;
+    send(errors, LINE_END)
+}
+
+// Writes the line that names the code of an answer, and flushes.
+#[tactic(auto, unfolding(crate::specs::Status::answer_line))]
+fn write_answer<E: Sink>(errors: &mut E, code: u16) -> Result<(), Failed>
+    ensures sent { Sends (E.written errors.old) (E.written errors.new) (answer_line code) result }
+    ensures cause { HasCause (E.faults errors.old) (E.faults errors.new) result }
+{
+    let mut buffer = Buffer::new();
+    let text = buffer.format(code);
+    send_answer(errors, text.as_bytes())?;
+    errors.flush()
+}
+
+// Ends a run at an answer for which there is no rule.
+fn bad_answer<E: Sink>(errors: &mut E, code: u16) -> u8
+    ensures status { result ≡ BAD_ANSWER }
+    ensures line { ¬ (Rose (E.faults errors.old) (E.faults errors.new))
+        → E.written errors.new ≡ append_known (E.written errors.old) (answer_line code) }
+{
+    match write_answer(errors, code) {
+        Ok(()) => BAD_ANSWER,
+        Err(_) => BAD_ANSWER,
+    }
+}
+
+/// Ends a run by how its migration ended.
+pub(crate) fn tell_migrated<E: Sink>(errors: &mut E, came: MigrateEnd) -> u8
+    ensures status { result ≡ migrate_status came }
+    ensures line { ¬ (Rose (E.faults errors.old) (E.faults errors.new))
+        → E.written errors.new ≡ append_known (E.written errors.old) (migrate_end_line came) }
+{
+    match came {
+        MigrateEnd::Done => ended(errors, DONE),
+        MigrateEnd::Contested => ended(errors, UNSETTLED),
+        MigrateEnd::BadPlace => ended(errors, BAD_WORDS),
+        MigrateEnd::LinkFault => ended(errors, LINK_FAILED),
+        MigrateEnd::Answer { code } => bad_answer(errors, code),
+        MigrateEnd::Restarted => ended(errors, UNSETTLED),
+        MigrateEnd::WriteFault => ended(errors, WRITE_FAILED),
+        MigrateEnd::NoMemory => ended(errors, NO_MEMORY),
     }
 }

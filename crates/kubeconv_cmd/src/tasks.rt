@@ -15,14 +15,14 @@ ghost use Rattle.crd_versions.specs.Set.{definition_of};
 ghost use Rattle.review_batch.specs.Answer.{IsAnswer, IsNoRequest};
 ghost use Rattle.kj_value.specs.Text.{text_of};
 ghost use Rattle.kubeconv_cmd.specs.declared.input.TheConstants.{MOST_INPUT_BYTES};
-ghost use Rattle.kubeconv_cmd.specs.Given.{task_of};
+ghost use Rattle.command_lines.specs.Given.{task_of};
 ghost use Rattle.kubeconv_cmd.specs.Halts.{Follows, OnHalt, Unwritten, NoValue, NoAnswer};
 ghost use Rattle.kubeconv_cmd.specs.Tasks.{AnswersDocument, RefusesDocument, Wrote, Broke, IsValueOf, IsWithout, fault_words, no_version as no_version_text, not_review as not_review_text, ended_line};
 
 use crate::halt::Halt;
 use crate::input::{Unread, read_input};
-use crate::words::Task;
 use api_calls::{AdmitFault, Cause, OBJECT_LEVELS, Versions, Why};
+use command_lines::Task;
 use crd_meaning::one_value;
 use crd_versions::VersionSet;
 use edge_io::{Failed, Sink, Source, send};

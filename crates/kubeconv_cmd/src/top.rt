@@ -2,25 +2,30 @@
 ghost use Rattle.std.specs.Prelude.{◌≡◌, ◌≢◌, ◌↔◌, ℕ, List};
 ghost use Rattle.std.specs.Io.KnownBytes.{append_known};
 ghost use Rattle.edge_io.specs.Causes.{Rose};
-ghost use Rattle.kubeconv_cmd.specs.Lines.{Line, IsLine};
+ghost use Rattle.command_lines.specs.Lines.{Line, IsLine};
 ghost use Rattle.kubeconv_cmd.specs.Listening.{IfServes, NamesPlace};
-ghost use Rattle.kubeconv_cmd.specs.Outcome.{Outcome};
+ghost use Rattle.kubeconv_cmd.specs.Outcome.{IfUnlinked, IsPlaceless, Outcome};
 ghost use Rattle.kubeconv_cmd.specs.Status.{error_line};
-ghost use Rattle.kubeconv_cmd.specs.Given.{line_of};
+ghost use Rattle.command_lines.specs.Given.{line_of};
 
 use crate::drill_line::do_drill;
 use crate::loading::load_named;
 use crate::pipe::serve;
 use crate::serve_line::{serve_set, tell_served};
-use crate::status::{BAD_INPUT, BAD_WORDS, REFUSED, ended, tell_pipe, tell_stop, tell_task};
+use crate::status::{
+    BAD_ANSWER, BAD_INPUT, BAD_WORDS, REFUSED, ended, tell_migrated, tell_pipe, tell_stop,
+    tell_task,
+};
 use crate::tasks::do_task;
-use crate::words::{Command, Named, Words, command_of};
+use command_lines::{Command, Named, Words, command_of};
 use edge_io::{Clock, Ears, Files, Sink, Source};
+use far_lines::migrate_line;
 use std::alloc::Global;
 use std::sync::Wait;
 use std::thread::Threads;
 use std::time;
 use tcp_ears::Place;
+use tcp_links::Links;
 
 // Does what the words ask for.
 fn run_command<
@@ -30,6 +35,7 @@ fn run_command<
     K: Sink,
     E: Sink,
     A: Ears + Place + Send,
+    L: Links,
     C: Clock + Sync,
 >(
     rt: &R,
@@ -40,6 +46,7 @@ fn run_command<
     output: &mut K,
     errors: &mut E,
     ears: &mut A,
+    links: &mut L,
     clock: &C,
     boot: u64,
 ) -> u8
@@ -58,6 +65,8 @@ fn run_command<
       handed = A.origins ears.new;
       returned_before = A.returned ears.old;
       returned = A.returned ears.new;
+      linked_before = L.returned links.old;
+      linked = L.returned links.new;
       files_faults_before = F.faults files.old;
       files_faults = F.faults files.new;
       input_faults_before = S.faults input.old;
@@ -78,7 +87,9 @@ fn run_command<
       ears = ears.new;
     }) (line_of command.entry) result }
     ensures place { IfServes (line_of command.entry) (λ s. NamesPlace (A.is_told s.place) (K.written output.old) (K.written output.new)) }
-    ensures errors { result ≢ REFUSED → result ≢ BAD_INPUT → ¬ (Rose (E.faults errors.old) (E.faults errors.new))
+    ensures unlinked { IfUnlinked (line_of command.entry) (links.new ≡ links.old) }
+    ensures unused { result ≡ BAD_WORDS → links.new ≡ links.old }
+    ensures errors { result ≢ REFUSED → result ≢ BAD_INPUT → result ≢ BAD_ANSWER → ¬ (Rose (E.faults errors.old) (E.faults errors.new))
         → E.written errors.new ≡ append_known (E.written errors.old) (error_line result) }
     ensures kept { (name : List ℕ) → F.file files.new name ≡ F.file files.old name }
 {
@@ -116,6 +127,10 @@ fn run_command<
                 Err(stop) => tell_stop(errors, stop),
             }
         }
+        Command::Migrate { url } => {
+            let came = migrate_line(alloc, url, links, output);
+            tell_migrated(errors, came)
+        }
     }
 }
 
@@ -139,13 +154,18 @@ fn run_command<
 ///   that was taken. Then connections are answered beside each other, so many or, where no number is given, as many as come, with so many
 ///   workers of migrations beside them. It reads no input.
 ///
+/// - `migrate URL`, the address of a place `http://HOST[:PORT]/apis/GROUP/VERSION/PLURAL`: over one link that `links` make to its server all
+///   objects are listed, and each is put back as it came. Then five lines are written, of a word, a space and a number: how many objects the
+///   last list had (`listed`), and of how many the put was answered with another number (`written`), with the same (`unchanged`), that they
+///   are gone (`gone`), and four times that they had changed (`contested`). It reads no file and no input.
+///
 /// The definition's file is read first, then that of the rules, and then both are loaded; nothing of the input is read before that.
 /// The input of `convert` and `review` has at most 4,194,304 bytes. Whether there is a version of the name is asked before it is read.
 ///
 /// | status | comes where |
 /// |---|---|
 /// | 0 | of `pipe` the input was read to its end between two requests, or an answered request asked for closing; of `serve` as many connections were given back as were asked for; of the others what is written was written |
-/// | 2 | exactly where the words are no such line; nothing is read or written then but the error line |
+/// | 2 | exactly where the words are no such line, or the URL isn't the address of a place; nothing is read or written then but the error line |
 /// | 3 | a file is longer than 4,194,304 bytes, isn't UTF-8, or something of it is refused |
 /// | 4 | the input of `convert` or `review` is too long or refused, or no version has the name; nothing is written then but the error line |
 /// | 5 | only where the count of faults of `files` or of `input` rose |
@@ -154,11 +174,14 @@ fn run_command<
 /// | 8 | only where the count of faults of `ears` rose: nobody can listen at the address, or no further connection could be had |
 /// | 9 | the input of `pipe` ended inside a request, or the head of a request was refused |
 /// | 10 | `pipe` answered 10,000 requests, and the last didn't ask for closing |
+/// | 11 | only where the link's count of faults rose |
+/// | 12 | a server's answer is one for which there is no rule; nothing is written then |
+/// | 13 | some object changed at each of four puts, and the five lines were written; or the server forgot the list seventeen times, and nothing was |
 ///
 /// Each status but 0 and 6 puts one line on `errors`. That of 3 names the file as it stands in the words, and says `TooLong`,
 /// `NotText`, or the path of what is refused, which is empty for the whole file, and a word. That of 4 says `TooLong`, `no version
-/// NAME`, `NotReview PATH`, `NotJson`, `TooDeep`, `NotWhole`, `NotObject`, or the field of the document and the rule that it breaks. A failed
-/// write of the line changes no status.
+/// NAME`, `NotReview PATH`, `NotJson`, `TooDeep`, `NotWhole`, `NotObject`, or the field of the document and the rule that it breaks. That of 12 says
+/// `answer CODE`, 0 where the last answer has another form, order or length. A failed write of the line changes no status.
 ///
 /// Where all that stood on `output` before was handed on, so is all that stands on it at the end of a line but `serve`, unless `output`
 /// failed.
@@ -169,6 +192,7 @@ pub fn run<
     K: Sink,
     E: Sink,
     A: Ears + Place + Send,
+    L: Links,
     C: Clock + Sync,
 >(
     rt: &R,
@@ -179,6 +203,7 @@ pub fn run<
     output: &mut K,
     errors: &mut E,
     ears: &mut A,
+    links: &mut L,
     clock: &C,
     boot: u64,
 ) -> u8
@@ -198,6 +223,8 @@ pub fn run<
       handed = A.origins ears.new;
       returned_before = A.returned ears.old;
       returned = A.returned ears.new;
+      linked_before = L.returned links.old;
+      linked = L.returned links.new;
       files_faults_before = F.faults files.old;
       files_faults = F.faults files.new;
       input_faults_before = S.faults input.old;
@@ -220,18 +247,21 @@ pub fn run<
     // What `serve` writes names a place that the ears may tell where they were asked for that of the words.
     ensures place { (line : Line) → IsLine words.now line → IfServes line (λ s. NamesPlace (A.is_told s.place) (K.written output.old) (K.written output.new)) }
     ensures is_line { result ≢ BAD_WORDS → (line : Line) × IsLine words.now line }
-    // The words are no line exactly at 2, and then nothing is touched but the error stream.
-    ensures words_refused { (result ≡ BAD_WORDS) ↔ ((line : Line) → IsLine words.now line → ⊥) }
-    ensures unused { result ≡ BAD_WORDS → (files.new ≡ files.old) × (input.new ≡ input.old) × (output.new ≡ output.old) × (ears.new ≡ ears.old) }
-    // Each status but 3 and 4 puts its line on the error stream, and no run changes a file.
-    ensures errors { result ≢ REFUSED → result ≢ BAD_INPUT → ¬ (Rose (E.faults errors.old) (E.faults errors.new))
+    // Where the words are no line the status is 2. It comes for no others, but where the address of their place is that of none, and then nothing is
+    // touched but the error stream.
+    ensures words_refused { (result ≡ BAD_WORDS → (line : Line) → IsLine words.now line → IsPlaceless line) × (((line : Line) → IsLine words.now line → ⊥) → result ≡ BAD_WORDS) }
+    ensures unused { result ≡ BAD_WORDS → (files.new ≡ files.old) × (input.new ≡ input.old) × (output.new ≡ output.old) × (ears.new ≡ ears.old) × (links.new ≡ links.old) }
+    // The lines that work on no server from outside ask nothing of the links.
+    ensures unlinked { (line : Line) → IsLine words.now line → IfUnlinked line (links.new ≡ links.old) }
+    // Each status but 3, 4 and 12 puts its line on the error stream, and no run changes a file.
+    ensures errors { result ≢ REFUSED → result ≢ BAD_INPUT → result ≢ BAD_ANSWER → ¬ (Rose (E.faults errors.old) (E.faults errors.new))
         → E.written errors.new ≡ append_known (E.written errors.old) (error_line result) }
     ensures kept { (name : List ℕ) → F.file files.new name ≡ F.file files.old name }
 {
     match command_of(words) {
         Some(command) => {
             run_command(
-                rt, alloc, command, files, input, output, errors, ears, clock, boot,
+                rt, alloc, command, files, input, output, errors, ears, links, clock, boot,
             )
         }
         None => ended(errors, BAD_WORDS),

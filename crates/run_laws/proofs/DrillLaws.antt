@@ -1,6 +1,7 @@
 -- What holds of a line of `drill`.
 use Rattle.std.proofs.Common.{◌≡◌, ◌≢◌, ◌∙◌, ◌⊎◌, ℕ, List, inl, inr, sym, arith}
-use Rattle.kubeconv_cmd.specs.Lines.{example, Texts}
+use Rattle.command_lines.specs.Lines.{example}
+use Rattle.kubeconv_cmd.specs.Texts.{Texts}
 use Rattle.kubeconv_cmd.specs.Serving.{DrillsTexts}
 use Rattle.kubeconv_cmd.specs.Tasks.{Wrote, Broke}
 use Rattle.kubeconv_cmd.specs.Outcome.{World, OfTexts, DrillOutcome, wrote_drill, broke_drill, wanting_drill, OutputFails, OutputStays}

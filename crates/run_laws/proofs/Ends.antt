@@ -1,6 +1,7 @@
 -- By its status, what a run without a definition came to, and how a conversation ended.
 use Rattle.std.proofs.Common.{◌≡◌, ◌≢◌, ◌∙◌, ◌⊎◌, ℕ, List, inl, inr, sym, arith}
-use Rattle.kubeconv_cmd.specs.Lines.{Named, Texts}
+use Rattle.command_lines.specs.Lines.{Named}
+use Rattle.kubeconv_cmd.specs.Texts.{Texts}
 use Rattle.kubeconv_cmd.specs.Refusal.{RefusesNamed}
 use Rattle.kubeconv_cmd.specs.Status.{pipe_status}
 use Rattle.kubeconv_cmd.specs.Outcome.{World, Stopped, unreadable, refused, wanting, BlamesFile, FilesFail}

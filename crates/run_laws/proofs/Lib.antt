@@ -5,3 +5,4 @@ pub mod PipeLaws
 pub mod TaskLaws
 pub mod DrillLaws
 pub mod ServeLaws
+pub mod MigrateLaws

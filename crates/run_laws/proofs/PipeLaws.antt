@@ -6,7 +6,8 @@ use Rattle.http_wire.specs.Stream.{End, closed, closing, spent, torn, refused as
 use Rattle.http_wire.specs.declared.limits.TheConstants.{MOST_REQUESTS}
 use Rattle.http_wire.specs.declared.WireFault.TheVariants.{HeadTooLong}
 use Rattle.http_front.specs.Talk.{asked}
-use Rattle.kubeconv_cmd.specs.Lines.{Named, Texts}
+use Rattle.command_lines.specs.Lines.{Named}
+use Rattle.kubeconv_cmd.specs.Texts.{Texts}
 use Rattle.kubeconv_cmd.specs.Refusal.{RefusesNamed, IsServed}
 use Rattle.http_front.specs.Link.{UnlessUnwritten}
 use Rattle.kubeconv_cmd.specs.Serving.{Blames, Converses, WasHeld, link_end}

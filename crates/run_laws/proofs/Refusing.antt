@@ -19,7 +19,7 @@ use Rattle.crd_loading.specs.View.{LoadedView}
 use Rattle.crd_loading.specs.Load.{IsUnread, Defines, LoadsRules, AreNoRules, Loads, RefusesDefinition, RefusesRules}
 use Rattle.crd_loading.specs.declared.loading.Which.{Which}
 use Rattle.crd_loading.specs.declared.loading.Which.TheVariants.{Crd, Rules}
-use Rattle.kubeconv_cmd.specs.Lines.{Named, built_in, from_files, example}
+use Rattle.command_lines.specs.Lines.{Named, built_in, from_files, example, no_definition}
 use Rattle.kubeconv_cmd.specs.Refusal.{IsUnfit, IsFirstRefused, RefusesNamed, IsServed}
 
 -- ---- bytes that are read
@@ -91,5 +91,6 @@ never crd rules l Rules why c r a (inr bad) = never_no_rules crd rules l bad.bla
 pub not_both : (named : Named) (crd rules name why : List ℕ) → IsServed named crd rules → RefusesNamed named crd rules name why → ⊥
 not_both built_in crd rules name why served bad = bad
 not_both example crd rules name why served bad = bad
+not_both no_definition crd rules name why served bad = bad
 not_both (from_files c r) crd rules name why served bad =
     never crd rules served.2 bad.0 why served.0 served.1 served.3 bad.2

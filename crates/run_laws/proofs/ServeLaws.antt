@@ -1,7 +1,8 @@
 -- What holds of a line of `serve`.
 use Rattle.std.proofs.Common.{◌≡◌, ◌≢◌, ◌∙◌, ◌⊎◌, ◌<◌, ℕ, List, Option, Some, inl, inr, sym, arith}
 use Rattle.std.specs.Prelude.{IfSome}
-use Rattle.kubeconv_cmd.specs.Lines.{Named, Texts}
+use Rattle.command_lines.specs.Lines.{Named}
+use Rattle.kubeconv_cmd.specs.Texts.{Texts}
 use Rattle.kubeconv_cmd.specs.Listening.{Announced}
 use Rattle.kubeconv_cmd.specs.Refusal.{RefusesNamed}
 use Rattle.kubeconv_cmd.specs.Outcome.{World, Stopped, unreadable, refused, wanting, BlamesFile, AnswersSo, HearsNobody, ServeOutcome, answered, answered_fewer, unheard, untold, wanting_service, unloaded_service, FilesFail, OutputFails, EarsFail, OutputStays}

@@ -1,7 +1,8 @@
 -- What holds of a line of one document.
 use Rattle.std.proofs.Common.{◌≡◌, ◌≢◌, ◌∙◌, ◌⊎◌, ℕ, List, Some, inl, inr, sym, arith}
 use Rattle.std.specs.Io.KnownBytes.{IsAtEnd}
-use Rattle.kubeconv_cmd.specs.Lines.{Named, Task, Texts}
+use Rattle.command_lines.specs.Lines.{Named, Task}
+use Rattle.kubeconv_cmd.specs.Texts.{Texts}
 use Rattle.kubeconv_cmd.specs.Refusal.{RefusesNamed}
 use Rattle.kubeconv_cmd.specs.Status.{line_saying}
 use Rattle.kubeconv_cmd.specs.Tasks.{AnswersTexts, RefusesTexts, Wrote, Broke}

@@ -1,6 +1,7 @@
 //! Of each line.
 ghost use Rattle.std.specs.Prelude.{◌≡◌, ◌⊎◌, ℕ, List, Some};
-ghost use Rattle.kubeconv_cmd.specs.Lines.{Line, Texts, named_in};
+ghost use Rattle.command_lines.specs.Lines.{Line, named_in};
+ghost use Rattle.kubeconv_cmd.specs.Texts.{Texts};
 ghost use Rattle.kubeconv_cmd.specs.Outcome.{BlamesFile, Outcome, World, FilesFail, InputFails, OutputFails, EarsFail, InputStays, OutputStays, EarsStay};
 ghost use Rattle.kubeconv_cmd.specs.Refusal.{IsServed, RefusesNamed};
 ghost use Rattle.kubeconv_cmd.specs.declared.status.TheConstants.{LISTEN_FAILED, NO_MEMORY, READ_FAILED, REFUSED, WRITE_FAILED};

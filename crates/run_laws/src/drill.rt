@@ -1,6 +1,6 @@
 //! Of `drill`.
 ghost use Rattle.std.specs.Prelude.{◌≡◌, ◌≢◌, ◌⊎◌, ℕ, List};
-ghost use Rattle.kubeconv_cmd.specs.Lines.{drill, example};
+ghost use Rattle.command_lines.specs.Lines.{drill, example};
 ghost use Rattle.kubeconv_cmd.specs.Outcome.{OfTexts, Outcome, World, FilesStay, InputStays, OutputStays};
 ghost use Rattle.kubeconv_cmd.specs.Serving.{DrillsTexts};
 ghost use Rattle.kubeconv_cmd.specs.Tasks.{Broke, Wrote};

@@ -6,6 +6,7 @@
 
 pub mod any_line;
 pub mod drill;
+pub mod migrate;
 pub mod pipe;
 pub mod serve;
 pub mod task;

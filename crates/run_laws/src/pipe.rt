@@ -3,7 +3,8 @@ ghost use Rattle.std.specs.Prelude.{◌≡◌, ◌≢◌, ◌⊎◌, ℕ, List, 
 ghost use Rattle.http_wire.specs.Head.{Request};
 ghost use Rattle.http_wire.specs.Stream.{Asks, End};
 ghost use Rattle.http_wire.specs.declared.limits.TheConstants.{MOST_REQUESTS};
-ghost use Rattle.kubeconv_cmd.specs.Lines.{Named, Texts, pipe};
+ghost use Rattle.command_lines.specs.Lines.{Named, pipe};
+ghost use Rattle.kubeconv_cmd.specs.Texts.{Texts};
 ghost use Rattle.kubeconv_cmd.specs.Outcome.{HasHandedOn, OfInput, Outcome, World, FilesFail, InputFails, OutputFails, InputStays, OutputStays};
 ghost use Rattle.kubeconv_cmd.specs.Refusal.{IsServed};
 ghost use Rattle.kubeconv_cmd.specs.Serving.{Converses, WasHeld};

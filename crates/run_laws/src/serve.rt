@@ -1,6 +1,6 @@
 //! Of `serve`.
 ghost use Rattle.std.specs.Prelude.{◌≡◌, ◌≢◌, ℕ};
-ghost use Rattle.kubeconv_cmd.specs.Lines.{Service, from_files, serve};
+ghost use Rattle.command_lines.specs.Lines.{Service, from_files, serve};
 ghost use Rattle.kubeconv_cmd.specs.Listening.{Announced};
 ghost use Rattle.kubeconv_cmd.specs.Outcome.{AnswersSo, HearsNobody, Outcome, World, EarsFail, InputStays};
 ghost use Rattle.kubeconv_cmd.specs.declared.status.TheConstants.{BAD_INPUT};

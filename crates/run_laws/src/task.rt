@@ -1,7 +1,7 @@
 //! Of `convert` and `review`.
 ghost use Rattle.std.specs.Prelude.{◌≡◌, ◌≢◌, ℕ, List};
 ghost use Rattle.std.specs.Io.KnownBytes.{IsAtEnd};
-ghost use Rattle.kubeconv_cmd.specs.Lines.{Task, from_files, task};
+ghost use Rattle.command_lines.specs.Lines.{Task, from_files, task};
 ghost use Rattle.kubeconv_cmd.specs.Outcome.{OfInput, Outcome, Says, World, OutputStays};
 ghost use Rattle.kubeconv_cmd.specs.Status.{line_saying};
 ghost use Rattle.kubeconv_cmd.specs.Tasks.{AnswersTexts, Broke, RefusesTexts, Wrote};

@@ -1,11 +1,11 @@
 use Rattle.std.proofs.Common.{◌≡◌, ℕ, List, refl, ap, subst, inl}
 use Rattle.std.specs.Io.KnownBytes.{append_known}
 use Rattle.crd_versions.specs.Set.{definition_of}
-use Rattle.kubeconv_cmd.specs.Given.{named_of, task_of}
-use Rattle.kubeconv_cmd.specs.Lines.{from_files}
+use Rattle.command_lines.specs.Given.{named_of, task_of}
+use Rattle.command_lines.specs.Lines.{from_files}
 use Rattle.kubeconv_cmd.specs.Outcome.{unserved, unloaded_task, unloaded_service}
 use Rattle.kubeconv_cmd.proofs.Serving.{converses_at}
-use Rattle.kubeconv_cmd.proofs.Outcomes.{stopped_so, stopped_line, pipe_outcome, task_outcome, tasks_line, drill_outcome, serve_outcome}
+use Rattle.kubeconv_cmd.proofs.Outcomes.{stopped_so, stopped_line, pipe_outcome, task_outcome, tasks_line, drill_outcome, serve_outcome, migrate_outcome, migrated_line, bad_place}
 use Rattle.kubeconv_cmd.proofs.top.run_command.Goals as goal
 
 pub returns-in-Ok-clause-outcome : goal.returns-in-Ok-clause-outcome
@@ -31,7 +31,7 @@ returns-in-Err-clause-outcome g c =
 
 pub returns-in-Err-clause-errors : goal.returns-in-Err-clause-errors
 returns-in-Err-clause-errors g c =
-    λ other input ne.
+    λ other input answer ne.
     subst (λ (text : List ℕ). g.E.Sink.written c.tell_stop.new.errors ≡ append_known (g.E.Sink.written c.args.errors.now) text)
     (stopped_line c.in-Err.stop c.tell_stop.result c.tell_stop.ensures.status other) (c.tell_stop.ensures.line ne)
 
@@ -48,7 +48,7 @@ returns-in-Ok-load_named-clause-outcome g c =
 
 pub returns-in-Ok-load_named-clause-errors : goal.returns-in-Ok-load_named-clause-errors
 returns-in-Ok-load_named-clause-errors g c =
-    λ other input ne.
+    λ other input answer ne.
     subst (λ (text : List ℕ). g.E.Sink.written c.tell_task.new.errors ≡ append_known (g.E.Sink.written c.args.errors.now) text)
     (tasks_line c.do_task-came.result c.tell_task.result c.tell_task.ensures.status input) (c.tell_task.ensures.line ne)
 
@@ -61,7 +61,7 @@ returns-in-Err-load_named-clause-outcome g c =
 
 pub returns-in-Err-load_named-clause-errors : goal.returns-in-Err-load_named-clause-errors
 returns-in-Err-load_named-clause-errors g c =
-    λ other input ne.
+    λ other input answer ne.
     subst (λ (text : List ℕ). g.E.Sink.written c.tell_stop-in-Err-load_named.new.errors ≡ append_known (g.E.Sink.written c.args.errors.now) text)
     (stopped_line c.in-Err-load_named.stop c.tell_stop-in-Err-load_named.result c.tell_stop-in-Err-load_named.ensures.status other) (c.tell_stop-in-Err-load_named.ensures.line ne)
 
@@ -79,7 +79,7 @@ returns-in-Drill-clause-outcome g c =
 
 pub returns-in-Drill-clause-errors : goal.returns-in-Drill-clause-errors
 returns-in-Drill-clause-errors g c =
-    λ other input ne.
+    λ other input answer ne.
     subst (λ (text : List ℕ). g.E.Sink.written c.tell_task-in-Drill.new.errors ≡ append_known (g.E.Sink.written c.args.errors.now) text)
     (tasks_line c.do_drill-came.result c.tell_task-in-Drill.result c.tell_task-in-Drill.ensures.status input) (c.tell_task-in-Drill.ensures.line ne)
 
@@ -102,7 +102,7 @@ returns-in-Err-load_named-2-clause-outcome g c =
 
 pub returns-in-Err-load_named-2-clause-errors : goal.returns-in-Err-load_named-2-clause-errors
 returns-in-Err-load_named-2-clause-errors g c =
-    λ other input ne.
+    λ other input answer ne.
     subst (λ (text : List ℕ). g.E.Sink.written c.tell_stop-in-Err-load_named-2.new.errors ≡ append_known (g.E.Sink.written c.args.errors.now) text)
     (stopped_line c.in-Err-load_named-2.stop c.tell_stop-in-Err-load_named-2.result c.tell_stop-in-Err-load_named-2.ensures.status other) (c.tell_stop-in-Err-load_named-2.ensures.line ne)
 
@@ -126,3 +126,50 @@ returns-in-Ok-load_named-2-clause-place g c = rw c.in-Serve.is c.serve_set-came.
 
 pub returns-in-Err-load_named-2-clause-place : goal.returns-in-Err-load_named-2-clause-place
 returns-in-Err-load_named-2-clause-place g c = rw c.in-Serve.is (inl refl)
+
+pub returns-in-Ok-clause-unlinked : goal.returns-in-Ok-clause-unlinked
+returns-in-Ok-clause-unlinked g c = rw c.in-Pipe.is refl
+
+pub returns-in-Err-clause-unlinked : goal.returns-in-Err-clause-unlinked
+returns-in-Err-clause-unlinked g c = rw c.in-Pipe.is refl
+
+pub returns-in-Ok-load_named-clause-unlinked : goal.returns-in-Ok-load_named-clause-unlinked
+returns-in-Ok-load_named-clause-unlinked g c = rw c.in-Task.is refl
+
+pub returns-in-Err-load_named-clause-unlinked : goal.returns-in-Err-load_named-clause-unlinked
+returns-in-Err-load_named-clause-unlinked g c = rw c.in-Task.is refl
+
+pub returns-in-Drill-clause-unlinked : goal.returns-in-Drill-clause-unlinked
+returns-in-Drill-clause-unlinked g c = rw c.in-Drill.is refl
+
+pub returns-in-Ok-load_named-2-clause-unlinked : goal.returns-in-Ok-load_named-2-clause-unlinked
+returns-in-Ok-load_named-2-clause-unlinked g c = rw c.in-Serve.is refl
+
+pub returns-in-Err-load_named-2-clause-unlinked : goal.returns-in-Err-load_named-2-clause-unlinked
+returns-in-Err-load_named-2-clause-unlinked g c = rw c.in-Serve.is refl
+
+pub returns-in-Migrate-clause-outcome : goal.returns-in-Migrate-clause-outcome
+returns-in-Migrate-clause-outcome g c =
+    rw c.in-Migrate.is (
+      migrate_outcome _ c.in-Migrate.url.now c.migrate_line-came.result c.tell_migrated.result c.migrate_line-came.ensures.came
+          c.migrate_line-came.ensures.cause c.migrate_line-came.ensures.silent (λ e. (ap g.K.Sink.written e, ap g.K.Sink.flushed e))
+          c.tell_migrated.ensures.status c.tell_migrated.ensures.line,
+      refl,
+      refl,
+      refl,
+    )
+
+pub returns-in-Migrate-clause-place : goal.returns-in-Migrate-clause-place
+returns-in-Migrate-clause-place g c = rw c.in-Migrate.is tt
+
+pub returns-in-Migrate-clause-unlinked : goal.returns-in-Migrate-clause-unlinked
+returns-in-Migrate-clause-unlinked g c = rw c.in-Migrate.is tt
+
+pub returns-in-Migrate-clause-unused : goal.returns-in-Migrate-clause-unused
+returns-in-Migrate-clause-unused g c = λ bad. c.migrate_line-came.ensures.unused (bad_place c.migrate_line-came.result c.tell_migrated.result c.tell_migrated.ensures.status bad)
+
+pub returns-in-Migrate-clause-errors : goal.returns-in-Migrate-clause-errors
+returns-in-Migrate-clause-errors g c =
+    λ other input answer ne.
+    subst (λ (text : List ℕ). g.E.Sink.written c.tell_migrated.new.errors ≡ append_known (g.E.Sink.written c.args.errors.now) text)
+    (migrated_line c.migrate_line-came.result c.tell_migrated.result c.tell_migrated.ensures.status answer) (c.tell_migrated.ensures.line ne)

@@ -1,4 +1,4 @@
-use Rattle.kubeconv_cmd.specs.Lines.{named_in}
+use Rattle.command_lines.specs.Lines.{named_in}
 use Rattle.run_laws.proofs.Refusing.{not_both}
 use Rattle.run_laws.proofs.Anything.{talk_any, complete_any, refused_any}
 use Rattle.run_laws.proofs.any_line.where_nothing_fails.Goals as goal

@@ -1,5 +1,5 @@
 use Rattle.std.proofs.Common.{arith}
-use Rattle.kubeconv_cmd.specs.Lines.{from_files}
+use Rattle.command_lines.specs.Lines.{from_files}
 use Rattle.kubeconv_cmd.specs.declared.status.TheConstants.{BAD_INPUT}
 use Rattle.run_laws.proofs.ServeLaws.{serve_runs, serve_says, serve_never}
 use Rattle.run_laws.proofs.serve.whatever_fails.Goals as goal

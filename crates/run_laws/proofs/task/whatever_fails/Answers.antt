@@ -1,4 +1,4 @@
-use Rattle.kubeconv_cmd.specs.Lines.{from_files}
+use Rattle.command_lines.specs.Lines.{from_files}
 use Rattle.run_laws.proofs.TaskLaws.{task_wrote, task_broke, task_silent, task_bad_input}
 use Rattle.run_laws.proofs.task.whatever_fails.Goals as goal
 

@@ -1,4 +1,0 @@
-use Rattle.kubeconv_cmd.proofs.serve_words.connections_of.Goals as goal
-
-pub returns-in-Some : goal.returns-in-Some
-returns-in-Some c = rw c.in-Some.is c.some_connections.ensures

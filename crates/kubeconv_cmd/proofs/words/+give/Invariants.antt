@@ -1,5 +1,0 @@
-use Rattle.std.proofs.Common.{length}
-use Rattle.kubeconv_cmd.proofs.words.+give.Given as goal
-
-abbrev pub decreases-give : goal.decreases-give
-decreases-give l = length l.words.now
