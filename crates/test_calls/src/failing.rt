@@ -149,16 +149,9 @@ impl<V: Versions<Tool = NoTool> + Drop> Versions for Failing<V> {
         v: u8,
         hub: Object,
     ) -> Result<Object, ConvFault> {
-        tool.meet(Place::Form);
-        if tool.fails() {
-            drop(hub);
-            return Err(ConvFault::Tool);
-        }
-        match self.inner.into_form(alloc, &mut NoTool, v, hub) {
-            Ok(form) => Ok(form),
-            Err(ConvFault::Tool) => unreachable!(),
-            Err(ConvFault::NoMemory) => Err(ConvFault::NoMemory),
-        }
+        let form = self.form(alloc, tool, v, &hub);
+        drop(hub);
+        form
     }
 
     fn read_flags(&self, alloc: Global, bytes: &[u8]) -> Result<Flags, AdmitFault> {

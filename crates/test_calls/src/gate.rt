@@ -2,9 +2,9 @@
 ghost use Rattle.std.specs.Prelude.{⊤};
 ghost use Rattle.shared_api.specs.Passes.{IsOf};
 
-use crate::order::cut;
+use crate::texts::cut;
 use api_calls::Versions;
-use migrate_workers::{Gate, work};
+use migrate_workers::{Gate, WorkEnd, work};
 use shared_api::{Pass, SharedApi, TurnStep};
 use std::alloc::Global;
 use std::sync::Wait;
@@ -31,31 +31,13 @@ impl Gate for Few {
     }
 }
 
-// Adds so many questions with one step.
-fn add(alloc: Global, out: &mut String, step: TurnStep, times: u64) -> Option<()> {
-    let text = if times == 1 {
-        format!(in alloc; ", {step:?}").ok()?
-    } else {
-        format!(in alloc; ", {step:?} {times} times").ok()?
-    };
-    out.push_str(text.as_str()).ok()
-}
-
-// The steps that the gate was asked with, those that are alike together.
-fn told(alloc: Global, asked: &[TurnStep]) -> Option<String> {
-    let mut out = String::new(alloc);
-    let mut last = *asked.first()?;
-    let mut times = 0u64;
+// How a worker ended, and the steps that its gate was asked with.
+fn told(alloc: Global, end: WorkEnd, asked: &[TurnStep]) -> Option<String> {
+    let mut out = format!(in alloc; "{end:?}").ok()?;
     for step in asked {
-        if *step == last {
-            times = times.saturating_add(1);
-        } else {
-            add(alloc, &mut out, last, times)?;
-            last = *step;
-            times = 1;
-        }
+        let text = format!(in alloc; ", {step:?}").ok()?;
+        out.push_str(text.as_str()).ok()?;
     }
-    add(alloc, &mut out, last, times)?;
     Some(out)
 }
 
@@ -65,11 +47,12 @@ pub(crate) fn hired<V: Versions + Drop, R: Wait>(
     alloc: Global,
     api: &SharedApi<V>,
     pass: &mut Pass<V>,
-    given: &str,
+    order: &str,
 ) -> Option<String>
     requires { IsOf V.meaning api.now pass.old }
     ensures { IsOf V.meaning api.now pass.new }
 {
+    let (_word, given) = cut(order);
     let (turns, yes) = cut(given);
     let turns = turns.parse::<u64>().ok()?;
     let left = yes.parse::<u64>().ok()?;
@@ -78,6 +61,7 @@ pub(crate) fn hired<V: Versions + Drop, R: Wait>(
         asked: Vec::new(alloc),
     };
     let end = work(rt, api, pass, &mut gate, turns);
-    let asked = told(alloc, gate.asked.as_slice())?;
-    format!(in alloc; "{end:?}{}", asked.as_str()).ok()
+    let told = told(alloc, end, gate.asked.as_slice());
+    drop(gate);
+    told
 }

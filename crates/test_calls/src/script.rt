@@ -1,32 +1,28 @@
-//! Scripts: each line is a call, and is told with its answer.
+//! Scripts: each line is an order, and is told with its answer.
 ghost use Rattle.std.specs.Prelude.{◌<◌, ◌+◌, ◌^◌};
 ghost use Rattle.shared_api.specs.Passes.{IsOf};
 
+use crate::beside::beside;
 use crate::calls::called_beside;
-use crate::order::cut;
+use crate::failing::Failing;
+use crate::texts::cut;
 use crate::tool::Chosen;
-use api_calls::Versions;
+use api_calls::{NoTool, Versions};
+use crd_versions::load;
 use kube_meta::Limits;
 use migrate_core::Worker;
 use shared_api::{Pass, SharedApi};
 use std::alloc::Global;
 use std::sync::Wait;
+use std::thread::Threads;
+use versions_fixture::TwoNames;
 
-/// Room for 64 objects of two chunks.
-pub(crate) const ROOM: Limits = Limits {
+// Room for 64 objects of two chunks.
+const ROOM: Limits = Limits {
     objects: 64,
     chunks: 128,
     window_records: 1_024,
     window_chunks: 1_024,
-    migrations: 4,
-};
-
-// Room for 512 objects of two chunks.
-const LARGE: Limits = Limits {
-    objects: 512,
-    chunks: 1_024,
-    window_records: 1_024,
-    window_chunks: 2_048,
     migrations: 4,
 };
 
@@ -38,6 +34,46 @@ const SMALL: Limits = Limits {
     migrations: 1,
 };
 
+fn room_of(head: &str) -> Limits
+    ensures { result.chunks + result.window_chunks < 2 ^ 32 }
+{
+    if head.contains("small") { SMALL } else { ROOM }
+}
+
+/// What a script has: its first line, the input of its connections, and its orders.
+#[derive(Drop)]
+pub(crate) struct Case {
+    pub(crate) head: String,
+    input: String,
+    lines: String,
+}
+
+impl Case {
+    /// A script that has no line yet.
+    pub(crate) fn new(alloc: Global) -> Case {
+        Case {
+            head: String::new(alloc),
+            input: String::new(alloc),
+            lines: String::new(alloc),
+        }
+    }
+
+    // Whether the script got an order more.
+    fn add(&mut self, line: &str) -> bool {
+        self.lines.push_str(line).is_ok() && self.lines.push_str("\n").is_ok()
+    }
+
+    /// Whether the script got one line more.
+    pub(crate) fn take(&mut self, line: String) -> bool {
+        match line.as_bytes().first().copied().unwrap_or(b' ') {
+            b'#' => self.head = line,
+            b'>' => self.input = line,
+            _ => return self.add(line.as_str()),
+        }
+        true
+    }
+}
+
 // The workers of the two passes.
 #[derive(Drop)]
 struct Team {
@@ -45,16 +81,16 @@ struct Team {
     second: Worker,
 }
 
-/// Adds a line with its answer to what was told.
-pub(crate) fn add(out: &mut String, line: &str, answer: &str) -> Option<()> {
+// Adds a line with its answer to what was told.
+fn add(out: &mut String, line: &str, answer: &str) -> Option<()> {
     out.push_str(line).ok()?;
     out.push_str(" => ").ok()?;
     out.push_str(answer).ok()?;
     out.push_str("\n").ok()
 }
 
-// The call of a line and its answer.
-fn step<V: Versions<Tool = Chosen> + Drop, R: Wait>(
+// The answer of a line.
+fn step<V: Versions<Tool = Chosen> + Drop + Send + Sync, R: Threads + Wait + Sync>(
     rt: &R,
     alloc: Global,
     api: &SharedApi<V>,
@@ -62,32 +98,43 @@ fn step<V: Versions<Tool = Chosen> + Drop, R: Wait>(
     second: &mut Pass<V>,
     team: &mut Team,
     line: &str,
+    input: &str,
 ) -> Option<String>
     requires first { IsOf V.meaning api.now first.old }
     requires second { IsOf V.meaning api.now second.old }
     ensures first { IsOf V.meaning api.now first.new }
     ensures second { IsOf V.meaning api.now second.new }
 {
-    let (pass, order) = cut(line);
-    match pass {
-        "A" => called_beside(rt, alloc, api, first, second, &mut team.first, order),
-        "B" => called_beside(rt, alloc, api, second, first, &mut team.second, order),
+    let (sign, order) = cut(line);
+    match *sign.as_bytes().first()? {
+        b'A' => called_beside(rt, alloc, api, first, second, &mut team.first, order, input),
+        b'B' => called_beside(
+            rt,
+            alloc,
+            api,
+            second,
+            first,
+            &mut team.second,
+            order,
+            input,
+        ),
+        b'&' => beside(rt, alloc, api, first, order),
         _ => None,
     }
 }
 
 // What the lines answer, one after another, by two passes whose workers have no claims.
-fn run<V: Versions<Tool = Chosen> + Drop, R: Wait>(
+fn run<V: Versions<Tool = Chosen> + Drop + Send + Sync, R: Threads + Wait + Sync>(
     rt: &R,
     alloc: Global,
     api: &SharedApi<V>,
     first: &mut Pass<V>,
     second: &mut Pass<V>,
     lines: &str,
+    input: &str,
 ) -> Option<String>
     requires first { IsOf V.meaning api.now first.old }
     requires second { IsOf V.meaning api.now second.old }
-    ensures first { IsOf V.meaning api.now first.new }
 {
     let mut team = Team {
         first: Worker { claim: None },
@@ -95,59 +142,76 @@ fn run<V: Versions<Tool = Chosen> + Drop, R: Wait>(
     };
     let mut out = String::new(alloc);
     for line in lines.lines() {
-        let answer = step(rt, alloc, api, first, second, &mut team, line)?;
+        let answer = step(rt, alloc, api, first, second, &mut team, line, input)?;
         add(&mut out, line, answer.as_str())?;
     }
     Some(out)
 }
 
-/// What the lines answer, by a pass and another that is made from it.
-pub(crate) fn by_two<V: Versions<Tool = Chosen> + Drop, R: Wait>(
+// The same, by a pass and another that is made from it.
+fn by_two<V: Versions<Tool = Chosen> + Drop + Send + Sync, R: Threads + Wait + Sync>(
     rt: &R,
     alloc: Global,
     api: &SharedApi<V>,
     pass: &mut Pass<V>,
     lines: &str,
+    input: &str,
 ) -> Option<String>
     requires { IsOf V.meaning api.now pass.old }
-    ensures { IsOf V.meaning api.now pass.new }
 {
     let mut other = api.new_pass(rt, pass, Chosen::at(0)).ok()?;
-    let told = run(rt, alloc, api, pass, &mut other, lines);
+    let told = run(rt, alloc, api, pass, &mut other, lines, input);
     drop(other);
     told
 }
 
-// The same, over a server with this room.
-fn opened<V: Versions<Tool = Chosen> + Drop, R: Wait>(
+// The same, over a server.
+fn opened<V: Versions<Tool = Chosen> + Drop + Send + Sync, R: Threads + Wait + Sync>(
     rt: &R,
     alloc: Global,
     versions: V,
-    limits: Limits,
-    lines: &str,
-) -> Option<String>
-    requires { limits.chunks + limits.window_chunks < 2 ^ 32 }
-{
+    case: &Case,
+) -> Option<String> {
+    let limits = room_of(case.head.as_str());
+    let (_sign, input) = cut(case.input.as_str());
     let (api, mut pass) = SharedApi::open(alloc, versions, Chosen::at(0), limits, 0).ok()?;
-    let told = by_two(rt, alloc, &api, &mut pass, lines);
+    let told = by_two(rt, alloc, &api, &mut pass, case.lines.as_str(), input);
     drop(pass);
     drop(api);
     told
 }
 
-/// What a script answers.
-pub(crate) fn told<V: Versions<Tool = Chosen> + Drop, R: Wait>(
+// The same, over a definition whose calls may be made to fail and to wait.
+fn over<V: Versions<Tool = NoTool> + Drop + Send + Sync, R: Threads + Wait + Sync>(
     rt: &R,
     alloc: Global,
     versions: V,
-    head: &str,
-    lines: &str,
+    case: &Case,
 ) -> Option<String> {
-    if head.contains("small") {
-        opened(rt, alloc, versions, SMALL, lines)
-    } else if head.contains("large") {
-        opened(rt, alloc, versions, LARGE, lines)
-    } else {
-        opened(rt, alloc, versions, ROOM, lines)
+    opened(rt, alloc, Failing::of(versions), case)
+}
+
+fn loaded<R: Threads + Wait + Sync>(
+    rt: &R,
+    alloc: Global,
+    definition: &str,
+    rules: &str,
+    case: &Case,
+) -> Option<String> {
+    let versions = load(alloc, definition.as_bytes(), rules.as_bytes()).ok()?;
+    over(rt, alloc, versions, case)
+}
+
+/// What a script answers over the definition that its first line names.
+pub(crate) fn told<R: Threads + Wait + Sync>(rt: &R, alloc: Global, case: &Case) -> Option<String> {
+    let head = case.head.as_str();
+    if head.starts_with("# fixture") {
+        return over(rt, alloc, TwoNames::new(alloc).ok()?, case);
     }
+    let (definition, rules) = if head.starts_with("# shared") {
+        (crontab_example::definition(), crontab_example::rules())
+    } else {
+        (built_in::definition(), built_in::rules())
+    };
+    loaded(rt, alloc, definition, rules, case)
 }

@@ -2,19 +2,31 @@
 ghost use Rattle.std.specs.Prelude.{◌≡◌, ◌≤◌, ◌<◌, IsTrue};
 
 use api_calls::Tool;
-use std::alloc::{AllocError, Global};
+use std::alloc::Global;
 use std::sync::Arc;
 use std::sync::atomic::{AtomicU64, Ordering};
 
 // How often is asked at most whether the other thread has come so far.
 const TRIES: u64 = 1_000_000_000;
 
-/// A call of the definition.
+/// A call of the definition, or none.
 #[derive(Clone, Copy, Debug, PartialEq, Eq, Drop)]
 pub enum Place {
     Admit,
     Form,
     HubOf,
+    Free,
+}
+
+// The call of this name, by its second letter.
+fn place_of(word: &str) -> Option<Place> {
+    match *word.as_bytes().get(1)? {
+        b'd' => Some(Place::Admit),
+        b'o' => Some(Place::Form),
+        b'u' => Some(Place::HubOf),
+        b'r' => Some(Place::Free),
+        _ => None,
+    }
 }
 
 /// How far two threads have come, of which one waits inside a call until the other has its answer.
@@ -46,6 +58,11 @@ impl Post {
         }
     }
 
+    // Nothing waits here, so that none waits for it.
+    fn wait_not(&self) {
+        self.waits.store(1, Ordering::SeqCst);
+    }
+
     // Waits until the other thread has its answer.
     fn wait(&self) {
         self.waits.store(1, Ordering::SeqCst);
@@ -72,20 +89,14 @@ impl Post {
     }
 }
 
-// A post, and the call of the definition that waits there.
-#[derive(Drop)]
-struct Stop {
-    place: Place,
-    post: Arc<Post, Global>,
-}
-
 /// A tool that fails once, at the conversion of a chosen number, and counts that. It may also wait once, in one call of
 /// the definition.
 #[derive(Drop)]
 pub struct Chosen {
     left: u64,
     faults: u64,
-    stop: Option<Stop>,
+    place: Place,
+    post: Option<Arc<Post, Global>>,
 }
 
 impl Chosen {
@@ -94,17 +105,23 @@ impl Chosen {
         Chosen {
             left: number,
             faults: 0,
-            stop: None,
+            place: Place::Free,
+            post: None,
         }
     }
 
-    /// A tool that never fails, and waits at the post the first time that this call is made.
-    pub fn waiting(place: Place, post: &Arc<Post, Global>) -> Result<Chosen, AllocError> {
-        let post = Arc::try_clone(post)?;
-        Ok(Chosen {
+    /// A tool that never fails, and waits at the post the first time that the call of this name is made. With `free` nothing waits.
+    pub fn waiting(word: &str, post: &Arc<Post, Global>) -> Option<Chosen> {
+        let place = place_of(word)?;
+        if place == Place::Free {
+            post.wait_not();
+        }
+        let post = Arc::try_clone(post).ok()?;
+        Some(Chosen {
             left: 0,
             faults: 0,
-            stop: Some(Stop { place, post }),
+            place,
+            post: Some(post),
         })
     }
 
@@ -112,13 +129,9 @@ impl Chosen {
     pub fn meet(&mut self, place: Place)
         ensures { self.new.faults ≡ self.old.faults }
     {
-        let waits = match &self.stop {
-            Some(stop) => stop.place == place,
-            None => false,
-        };
-        if waits {
-            if let Some(stop) = self.stop.take() {
-                stop.post.wait();
+        if self.place == place {
+            if let Some(post) = self.post.take() {
+                post.wait();
             }
         }
     }

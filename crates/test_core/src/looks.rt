@@ -1,6 +1,6 @@
 //! Looks at a core, which change nothing.
 use crate::answers::{listed, page_text, seen_text, told};
-use crate::order::Order;
+use crate::order::{Order, code};
 use crate::turns::key_of;
 use api_calls::{Token, Versions};
 use api_core::{Core, Seen};
@@ -27,12 +27,6 @@ fn settings<V: Versions>(alloc: Global, core: &Core<V>) -> Option<String> {
     let storage = flags.storage;
     let text = format!(in alloc; "#{revision} @{storage} of").ok()?;
     listed(alloc, text.as_str(), &stored)
-}
-
-// The revision alone.
-fn revision<V: Versions>(alloc: Global, core: &Core<V>) -> Option<String> {
-    let (_flags, _stored, revision) = core.settings();
-    told(alloc, &revision)
 }
 
 // The migration at a place, in the order of their starts.
@@ -66,12 +60,11 @@ fn page<V: Versions>(alloc: Global, core: &Core<V>, order: &Order<'_>) -> Option
 
 /// What a look answers.
 pub fn looked<V: Versions>(alloc: Global, core: &Core<V>, order: &Order<'_>) -> Option<String> {
-    match order.word {
-        "object" => object(alloc, core, order.name),
-        "settings" => settings(alloc, core),
-        "migration" => migration(alloc, core, order.number),
-        "page" => page(alloc, core, order),
-        "revision" => revision(alloc, core),
+    match code(order) {
+        b'o' => object(alloc, core, order.name),
+        b's' => settings(alloc, core),
+        b'm' => migration(alloc, core, order.number),
+        b'p' => page(alloc, core, order),
         _ => None,
     }
 }

@@ -1,21 +1,33 @@
-//! Turns of a core one after another, over the small definition of `versions_fixture`, of a store, and of migrations.
+//! Turns of a core one after another, over the small definition of `versions_fixture`.
 //!
-//! Standard input is scripts, each with an empty line behind it. The first line of a script says what it runs over and its name,
+//! Standard input is scripts, each with an empty line behind it. The first line of a script says how much room there is and its name,
 //! and is printed as it is; each other line is an order, which is printed with its answer. What is wanted stands in `stdout`.
 //! `@` stands before the place of a version of what is prepared or set, `?` before that of the request, `#` before a number, and
-//! `+` before a weight in chunks or the most objects of a page. Storage stands at place 1 at first, `v1beta1`, and the other version
-//! is at place 0, `v1`. Behind `# plan: NAME` the head of a script of migrations says how many records there are, how many of them
-//! are moved already, and how many migrations there is room for.
+//! `+` before a weight in chunks, or how many objects or turns are meant. Storage stands at place 1 at first, `v1beta1`, and the other version
+//! is at place 0, `v1`.
+//!
+//! | line | the turn, or what is done |
+//! |---|---|
+//! | `create NAME`, `replace NAME`, `delete NAME` | |
+//! | `mark NAME`, `let_go NAME` | a delete of an object with a finalizer, whose text is `stamped` then; the removal of one that was marked |
+//! | `store`, `keep`, `begin NAME` | the storage version is set; one version is kept in the stored list; a migration is started |
+//! | `fill` | so many objects `aa`, `ab` .. are created |
+//! | `thousand` | a thousand times the object `a` is created, replaced and deleted, by the numbers from 2 on |
+//! | `1 work`, `2 work` | a turn of the first worker, or of the second |
+//! | `1 touch` | at most so many turns, as long as each moves an object: how many did, and the end of the turn that didn't |
+//! | `1 ask`, `1 gone NAME`, `1 overwritten NAME` | the first half of a turn; the second half, where the object is gone, or was written at the target since |
+//! | `1 claim`, `1 back`, `1 forget` | the worker's claim is told, given back, or forgotten |
+//! | `= object NAME`, `= settings`, `= migration`, `= page NAME` | a look. A page is behind a name as it stood at a number, or without a name the first one of now |
+//!
+//! The first line is `# core: ..`, `# small core: ..`, or tells the room for objects, their chunks, superseded records, their chunks and migrations, as
+//! `# core of 2 3 2 3 1: ..`. Behind `# random turns` there are no orders.
 #![tactic(auto)]
 
 mod answers;
 mod looks;
 mod order;
-mod plans;
 mod random;
 mod script;
-mod stores;
-mod table;
 mod turns;
 mod workers;
 
@@ -23,19 +35,10 @@ use std::alloc::Global;
 use std::io;
 
 fn told(alloc: Global, head: &str, lines: &str) -> Option<String> {
-    if head.starts_with("# core: ") {
-        return script::roomy(alloc, lines);
-    }
-    if head.starts_with("# small core: ") {
-        return script::small(alloc, lines);
-    }
-    if head.starts_with("# random turns") {
+    if head.starts_with("# r") {
         return random::random_turns(alloc);
     }
-    if head.starts_with("# plan: ") {
-        return plans::scripted(alloc, head, lines);
-    }
-    stores::told(alloc, head, lines)
+    script::told(alloc, head, lines)
 }
 
 // Whether the script got one line more.

@@ -2,6 +2,8 @@
 /// A turn or a look, and on what. What a line leaves out is empty, 0 or, of the weight, 1.
 #[derive(Clone, Copy, Drop)]
 pub struct Order<'a> {
+    /// Whose it is: the first byte of the line.
+    pub who: u8,
     pub word: &'a str,
     pub name: &'a str,
     pub text: &'a str,
@@ -11,13 +13,14 @@ pub struct Order<'a> {
     pub number: u64,
     /// The place of the request's version.
     pub asked: u8,
-    /// How many chunks what was prepared weighs, or how many objects a page has at most.
+    /// How many chunks what was prepared weighs, or how many objects or turns are meant.
     pub weight: u64,
 }
 
 /// An order with no operands.
-pub fn bare(word: &str) -> Order<'_> {
+pub fn bare(who: u8, word: &str) -> Order<'_> {
     Order {
+        who,
         word,
         name: "",
         text: "",
@@ -32,34 +35,35 @@ pub fn bare(word: &str) -> Order<'_> {
 // behind `#`, a weight behind `+`, a name, or a text.
 fn with<'a>(order: Order<'a>, word: &'a str) -> Option<Order<'a>> {
     let mut order = order;
-    if let Some(place) = word.strip_prefix('@') {
-        order.at = place.parse::<u8>().ok()?;
-    } else if let Some(number) = word.strip_prefix('#') {
-        order.number = number.parse::<u64>().ok()?;
-    } else {
-        return with_more(order, word);
+    let rest = word.get(1..).unwrap_or("");
+    match word.as_bytes().first()? {
+        b'@' => order.at = rest.parse::<u8>().ok()?,
+        b'?' => order.asked = rest.parse::<u8>().ok()?,
+        b'#' => order.number = rest.parse::<u64>().ok()?,
+        b'+' => order.weight = rest.parse::<u64>().ok()?,
+        _ => if order.name.is_empty() {
+            order.name = word;
+        } else {
+            order.text = word;
+        },
     }
     Some(order)
 }
 
-fn with_more<'a>(order: Order<'a>, word: &'a str) -> Option<Order<'a>> {
-    let mut order = order;
-    if let Some(place) = word.strip_prefix('?') {
-        order.asked = place.parse::<u8>().ok()?;
-    } else if let Some(weight) = word.strip_prefix('+') {
-        order.weight = weight.parse::<u64>().ok()?;
-    } else if order.name.is_empty() {
-        order.name = word;
-    } else {
-        order.text = word;
+// The first byte of a line, and the line behind what says whose it is.
+fn front(line: &str) -> (u8, &str) {
+    let who = line.as_bytes().first().copied().unwrap_or(0);
+    match who {
+        b'1' | b'2' | b'=' => (who, line.get(2..).unwrap_or("")),
+        _ => (who, line),
     }
-    Some(order)
 }
 
 /// The order that a line spells, as `replace a @0 #2 edited`.
 pub fn order_of(line: &str) -> Option<Order<'_>> {
-    let mut order = bare("");
-    for word in line.split_whitespace() {
+    let (who, rest) = front(line);
+    let mut order = bare(who, "");
+    for word in rest.split_whitespace() {
         if order.word.is_empty() {
             order.word = word;
         } else {
@@ -67,4 +71,9 @@ pub fn order_of(line: &str) -> Option<Order<'_>> {
         }
     }
     Some(order)
+}
+
+/// The first byte of an order's word, which tells it.
+pub fn code(order: &Order<'_>) -> u8 {
+    order.word.as_bytes().first().copied().unwrap_or(0)
 }

@@ -53,29 +53,28 @@ fn drawn(n: u64) -> Draw {
     }
 }
 
-// What is to be done, and by whom.
-fn word_of(turn: u64) -> &'static str {
+// Whose turn it is, and what is to be done.
+fn order_at(turn: u64) -> (u8, &'static str) {
     match turn {
-        0..=6 => "create",
-        7..=9 => "replace",
-        10 => "delete",
-        11 => "mark",
-        12 => "release",
-        13 => "store",
-        14 => "keep",
-        15..=16 => "start",
-        17 => "give_back",
-        _ => "work",
+        0..=6 => (b'c', "create"),
+        7..=9 => (b'r', "replace"),
+        10 => (b'd', "delete"),
+        11 => (b'm', "mark"),
+        12 => (b'l', "let_go"),
+        13 => (b's', "store"),
+        14 => (b'k', "keep"),
+        15..=16 => (b'b', "begin"),
+        17 => (b'2', "back"),
+        18..=20 => (b'2', "work"),
+        _ => (b'1', "work"),
     }
 }
 
-// The name of the object, of the migration or of the worker.
+// The name of the object or of the migration.
 fn chosen_name(alloc: Global, draw: &Draw) -> Option<String> {
     match draw.turn {
-        0..=14 => name_of(alloc, draw.object),
         15..=16 => name_of(alloc, draw.migration),
-        17..=20 => String::from_str(alloc, "second").ok(),
-        _ => String::from_str(alloc, "first").ok(),
+        _ => name_of(alloc, draw.object),
     }
 }
 
@@ -116,8 +115,10 @@ fn takes_turn<V: Versions>(
 ) -> Option<String> {
     let name = chosen_name(alloc, draw)?;
     let number = number_of(alloc, core, name.as_str())?;
+    let (who, word) = order_at(draw.turn);
     let order = Order {
-        word: word_of(draw.turn),
+        who,
+        word,
         name: name.as_str(),
         text: "text",
         at: place(draw, storage),

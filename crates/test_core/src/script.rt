@@ -1,12 +1,12 @@
 //! Scripts over a core: each line is an order, and is told with its answer.
-use crate::answers::{set_text, start_text, told, told_of, trim_text, turn_text};
+use crate::answers::{set_text, start_text, told as spelled, told_of, trim_text, turn_text};
 use crate::looks::looked;
-use crate::order::{Order, bare, order_of};
+use crate::order::{Order, bare, code, order_of};
 use crate::random::name_of;
-use crate::turns::{create, delete, keep, mark, opened, release, replace, start, store};
-use crate::workers::{ask, give_back, miss_gone, miss_written, work};
+use crate::turns::{begin, create, delete, keep, let_go, mark, opened, replace, store};
+use crate::workers::{ask, back, gone, overwritten, work};
 use api_calls::Versions;
-use api_core::{Core, CreateEnd, ReplaceEnd, TurnEnd};
+use api_core::{Core, CreateEnd, DeleteEnd, ReplaceEnd, TurnEnd};
 use kube_meta::Limits;
 use migrate_core::Worker;
 use std::alloc::Global;
@@ -53,117 +53,129 @@ pub fn answered<V: Versions>(
     team: &mut Team,
     order: &Order<'_>,
 ) -> Option<String> {
-    match order.word {
-        "create" => told_of(alloc, create(alloc, core, order)),
-        "replace" => told_of(alloc, replace(alloc, core, order)),
-        "delete" => told_of(alloc, delete(alloc, core, order)),
-        "mark" => told_of(alloc, mark(alloc, core, order)),
-        "release" => told_of(alloc, release(alloc, core, order)),
-        _ => changed(alloc, core, team, order),
+    match order.who {
+        b'1' => worked(alloc, core, &mut team.first, order),
+        b'2' => worked(alloc, core, &mut team.second, order),
+        b'=' => looked(alloc, core, order),
+        _ => changed(alloc, core, order),
+    }
+}
+
+// What an order answers that is no worker's.
+fn changed<V: Versions>(alloc: Global, core: &mut Core<V>, order: &Order<'_>) -> Option<String> {
+    match code(order) {
+        b'c' => told_of(alloc, create(alloc, core, order)),
+        b'r' => told_of(alloc, replace(alloc, core, order)),
+        b'd' => told_of(alloc, delete(alloc, core, order)),
+        b'm' => told_of(alloc, mark(alloc, core, order)),
+        b'l' => told_of(alloc, let_go(alloc, core, order)),
+        _ => settled(alloc, core, order),
     }
 }
 
 // What an order answers that is of no object alone.
-fn changed<V: Versions>(
-    alloc: Global,
-    core: &mut Core<V>,
-    team: &mut Team,
-    order: &Order<'_>,
-) -> Option<String> {
-    match order.word {
-        "store" => set_text(alloc, store(core, order.at)),
-        "keep" => trim_text(alloc, keep(core, order.at)),
-        "start" => start_text(alloc, start(alloc, core, order.name)),
-        "create_forty" => create_forty(alloc, core),
-        "edit_often" => edit_often(alloc, core),
-        _ => match order.name {
-            "second" => worked(alloc, core, &mut team.second, order),
-            _ => worked(alloc, core, &mut team.first, order),
-        },
+fn settled<V: Versions>(alloc: Global, core: &mut Core<V>, order: &Order<'_>) -> Option<String> {
+    match code(order) {
+        b's' => set_text(alloc, store(core, order.at)),
+        b'k' => trim_text(alloc, keep(core, order.at)),
+        b'b' => start_text(alloc, begin(alloc, core, order.name)),
+        b'f' => fill(alloc, core, order.weight),
+        b't' => thousand(alloc, core),
+        _ => None,
     }
 }
 
-// What an order to a worker answers, or a look.
+// What an order to a worker answers.
 fn worked<V: Versions>(
     alloc: Global,
     core: &mut Core<V>,
     w: &mut Worker,
     order: &Order<'_>,
 ) -> Option<String> {
-    match order.word {
-        "work" => turn_text(alloc, work(alloc, core, w, order.at)),
-        "ask" => turn_text(alloc, ask(core, w)),
-        "miss_gone" => turn_text(alloc, miss_gone(alloc, core, w, order)),
-        "miss_written" => turn_text(alloc, miss_written(alloc, core, w, order)),
-        "give_back" => told(alloc, &give_back(core, w)),
-        "claim" => told(alloc, &w.claim),
-        "finish" => finish(alloc, core, w, order.number),
-        _ => looked(alloc, core, order),
+    match code(order) {
+        b'w' => turn_text(alloc, work(alloc, core, w, order.at)),
+        b't' => touch(alloc, core, w, order.weight),
+        b'a' => turn_text(alloc, ask(core, w)),
+        b'g' => turn_text(alloc, gone(alloc, core, w, order)),
+        b'o' => turn_text(alloc, overwritten(alloc, core, w, order)),
+        b'b' => spelled(alloc, &back(core, w)),
+        b'f' => {
+            w.claim = None;
+            String::from_str(alloc, "forgotten").ok()
+        }
+        _ => spelled(alloc, &w.claim),
     }
 }
 
-// Creates forty objects, by the numbers from 2 on.
-fn create_forty<V: Versions>(alloc: Global, core: &mut Core<V>) -> Option<String> {
-    for n in 0..40u64 {
+// Creates so many objects at place 1, by the numbers from 2 on.
+fn fill<V: Versions>(alloc: Global, core: &mut Core<V>, count: u64) -> Option<String> {
+    for n in 0..count.min(64) {
         let name = name_of(alloc, n)?;
-        let mut order = bare("create");
+        let mut order = bare(b'c', "create");
         order.name = name.as_str();
         order.text = "first";
         order.at = 1;
         let end = create(alloc, core, &order)?;
-        if end != (CreateEnd::Done { rv: n + 2 }) {
+        if end
+            != (CreateEnd::Done {
+                rv: n.wrapping_add(2),
+            })
+        {
             return None;
         }
     }
     String::from_str(alloc, "Done").ok()
 }
 
-// Replaces the object b, which stands at number 3, 1,025 times, by the numbers from 7 on.
-fn edit_often<V: Versions>(alloc: Global, core: &mut Core<V>) -> Option<String> {
-    let mut order = bare("replace");
-    order.name = "b";
-    order.text = "edited";
-    order.at = 1;
-    order.number = 3;
-    for rv in 7..1_032u64 {
-        let end = replace(alloc, core, &order)?;
-        if end != (ReplaceEnd::Done { rv, born: 3 }) {
-            return None;
-        }
-        order.number = rv;
-    }
-    String::from_str(alloc, "Done").ok()
-}
-
-// The turns of one worker until the migration is marked: how many they were, how many calls they took, where one that
-// moves an object takes two, and how many objects were moved, by the numbers from `first` on.
-fn finish<V: Versions>(
+// A worker's turns, at most so many, until one moves no object: how many did, and the end of the other.
+fn touch<V: Versions>(
     alloc: Global,
     core: &mut Core<V>,
     w: &mut Worker,
-    first: u64,
+    count: u64,
 ) -> Option<String> {
-    let mut turns = 0u64;
-    let mut touched = 0u64;
-    for _ in 0..100u32 {
-        turns = turns.saturating_add(1);
+    for touched in 0..count {
         match work(alloc, core, w, 0)? {
-            TurnEnd::Touched { rv } => {
-                if rv != first.saturating_add(touched) {
-                    return None;
-                }
-                touched = touched.saturating_add(1);
+            TurnEnd::Touched { rv: _ } => {}
+            end => {
+                let text = turn_text(alloc, Some(end))?;
+                return format!(in alloc; "{touched} touched, {}", text.as_str()).ok();
             }
-            TurnEnd::Finished { rv } => {
-                let calls = turns.saturating_add(touched);
-                return format!(in alloc;
-                    "{turns} turns, {calls} calls, {touched} moved, #{rv}"
-                ).ok();
-            }
-            _ => {}
         }
     }
-    None
+    format!(in alloc; "{count} touched").ok()
+}
+
+// Whether the object `a` is created, replaced and deleted at this number and the two behind it.
+fn round<V: Versions>(alloc: Global, core: &mut Core<V>, born: u64) -> Option<bool> {
+    let next = born.wrapping_add(1);
+    let last = born.wrapping_add(2);
+    let mut order = bare(b'c', "create");
+    order.name = "a";
+    order.text = "text";
+    order.at = 1;
+    order.weight = 2;
+    let created = create(alloc, core, &order)?;
+    order.number = born;
+    let replaced = replace(alloc, core, &order)?;
+    order.number = next;
+    let deleted = delete(alloc, core, &order)?;
+    Some(
+        created == (CreateEnd::Done { rv: born })
+            && replaced == (ReplaceEnd::Done { rv: next, born })
+            && deleted == (DeleteEnd::Done { rv: last, born }),
+    )
+}
+
+// A thousand times that, by the numbers from 2 on.
+fn thousand<V: Versions>(alloc: Global, core: &mut Core<V>) -> Option<String> {
+    for number in 0..1_000u64 {
+        let born = number.wrapping_mul(3).wrapping_add(2);
+        if !round(alloc, core, born)? {
+            return None;
+        }
+    }
+    String::from_str(alloc, "Done").ok()
 }
 
 // A line of a script, and what it answers.
@@ -177,31 +189,55 @@ fn step<V: Versions>(
     format!(in alloc; "{line} => {}\n", answer.as_str()).ok()
 }
 
-/// What the lines answer, over a core that nothing has happened to.
-pub fn run<V: Versions>(alloc: Global, core: &mut Core<V>, lines: &str) -> Option<String> {
-    let mut team = Team::new();
+// What the lines answer.
+fn run<V: Versions>(
+    alloc: Global,
+    core: &mut Core<V>,
+    team: &mut Team,
+    lines: &str,
+) -> Option<String> {
     let mut out = String::new(alloc);
     for line in lines.lines() {
-        let told = step(alloc, core, &mut team, line)?;
+        let told = step(alloc, core, team, line)?;
         out.push_str(told.as_str()).ok()?;
     }
     Some(out)
 }
 
-// What the lines answer, over a core of this room.
-fn over(alloc: Global, limits: Limits, lines: &str) -> Option<String> {
+// The room that is told in numbers.
+fn spelled_room(numbers: &str) -> Option<Limits> {
+    let mut limits = SMALL;
+    for (place, word) in numbers.split(' ').enumerate() {
+        let number = word.parse::<u64>().ok()?;
+        match place {
+            0 => limits.objects = number,
+            1 => limits.chunks = number,
+            2 => limits.window_records = number,
+            3 => limits.window_chunks = number,
+            _ => limits.migrations = number,
+        }
+    }
+    Some(limits)
+}
+
+// The room that the first line of a script tells.
+fn room_of(head: &str) -> Option<Limits> {
+    let (front, _name) = head.split_once(": ")?;
+    if front == "# core" {
+        return Some(ROOM);
+    }
+    match front.split_once(" of ") {
+        Some((_words, numbers)) => spelled_room(numbers),
+        None => Some(SMALL),
+    }
+}
+
+/// What a script answers, over a core that nothing has happened to.
+pub fn told(alloc: Global, head: &str, lines: &str) -> Option<String> {
+    let limits = room_of(head)?;
     let mut core = opened(alloc, TwoNames::new(alloc).ok()?, limits)?;
-    let told = run(alloc, &mut core, lines);
+    let mut team = Team::new();
+    let told = run(alloc, &mut core, &mut team, lines);
     drop(core);
     told
-}
-
-/// What a script over such a core answers.
-pub fn roomy(alloc: Global, lines: &str) -> Option<String> {
-    over(alloc, ROOM, lines)
-}
-
-/// What a script over a core of two objects in three chunks answers.
-pub fn small(alloc: Global, lines: &str) -> Option<String> {
-    over(alloc, SMALL, lines)
 }

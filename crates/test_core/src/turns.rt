@@ -169,7 +169,7 @@ fn weight_of<V: Versions>(alloc: Global, core: &Core<V>, key: &Key) -> Option<Op
 }
 
 /// Removes the object of a name, which is being deleted.
-pub fn release<V: Versions>(
+pub fn let_go<V: Versions>(
     alloc: Global,
     core: &mut Core<V>,
     order: &Order<'_>,
@@ -200,7 +200,7 @@ pub fn keep<V: Versions>(core: &mut Core<V>, v: u8) -> Option<TrimEnd> {
 }
 
 /// Starts a migration.
-pub fn start<V: Versions>(alloc: Global, core: &mut Core<V>, name: &str) -> Option<StartEnd> {
+pub fn begin<V: Versions>(alloc: Global, core: &mut Core<V>, name: &str) -> Option<StartEnd> {
     young(core)?;
     if !name_ok(name) {
         return None;

@@ -121,7 +121,7 @@ pub fn work<V: Versions>(
 }
 
 /// A call with the object of a name prepared as it stood at a number, which is gone now.
-pub fn miss_gone<V: Versions>(
+pub fn gone<V: Versions>(
     alloc: Global,
     core: &mut Core<V>,
     w: &mut Worker,
@@ -150,7 +150,7 @@ fn target_of<V: Versions>(alloc: Global, core: &Core<V>) -> Option<u8>
 }
 
 /// A call with the object of a name prepared as it stood at a number, which a client has written at the target since.
-pub fn miss_written<V: Versions>(
+pub fn overwritten<V: Versions>(
     alloc: Global,
     core: &mut Core<V>,
     w: &mut Worker,
@@ -181,6 +181,6 @@ pub fn miss_written<V: Versions>(
 }
 
 /// The worker's claim is given back. Answers whether it was held.
-pub fn give_back<V: Versions>(core: &mut Core<V>, w: &mut Worker) -> bool {
+pub fn back<V: Versions>(core: &mut Core<V>, w: &mut Worker) -> bool {
     core.give_back(w)
 }

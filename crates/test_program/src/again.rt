@@ -123,6 +123,57 @@ fn run_faults<R: Threads + Wait + Clock + Sync>(
     add_line(all, line.as_str())
 }
 
+// Whether the input comes to the same in two pieces, parted at each place.
+fn run_pairs<R: Threads + Wait + Clock + Sync>(
+    rt: &R,
+    alloc: Global,
+    case: &Case,
+    came: &Outcome,
+    all: &mut String,
+) -> Option<()> {
+    let mut same = true;
+    for place in 0..case.asked.input.len() {
+        let other = run_case(rt, alloc, case, case.outside.in_two(place))?;
+        same = same && is_same(&other, came);
+    }
+    let places = case.asked.input.len();
+    let line = format!(in alloc;
+        "in two pieces, parted at each of {places} places, the same: {same}"
+    ).ok()?;
+    add_line(all, line.as_str())
+}
+
+// What an input comes to that ends sooner. There is no answer where what is written is no front of what the whole comes to.
+fn ending(alloc: Global, came: &Outcome, other: &Outcome) -> Option<String> {
+    if !came.output.starts_with(other.output.as_slice()) {
+        return None;
+    }
+    let errors = str::from_utf8(other.errors.as_slice()).ok()?.trim_end();
+    let (length, status) = (other.output.len(), other.status);
+    format!(in alloc; "= {status}, a front of {length} bytes, \"{errors}\"").ok()
+}
+
+// From which place on an input that ends there comes to something else.
+fn run_ends<R: Threads + Wait + Clock + Sync>(
+    rt: &R,
+    alloc: Global,
+    case: &Case,
+    came: &Outcome,
+    all: &mut String,
+) -> Option<()> {
+    let mut before = String::new(alloc);
+    for end in 0..case.asked.input.len() {
+        let other = run_case(rt, alloc, case, case.outside.ended_at(end))?;
+        let told = ending(alloc, came, &other)?;
+        if told != before {
+            let line = format!(in alloc; "ended at {end} and on: {}", told.as_str()).ok()?;
+            add_line(all, line.as_str())?;
+        }
+        before = told;
+    }
+    Some(())
+}
+
 /// Runs a case again as it says, and tells what that comes to beside the first run.
 pub(crate) fn run_again<R: Threads + Wait + Clock + Sync>(
     rt: &R,
@@ -136,6 +187,10 @@ pub(crate) fn run_again<R: Threads + Wait + Clock + Sync>(
     }
     if case.again.faults {
         run_faults(rt, alloc, case, came, &mut all)?;
+    }
+    if case.again.places {
+        run_pairs(rt, alloc, case, came, &mut all)?;
+        run_ends(rt, alloc, case, came, &mut all)?;
     }
     Some(all)
 }

@@ -19,13 +19,24 @@ pub(crate) struct Asked {
     pub(crate) input: String,
 }
 
+/// The connections that the ears have: how many, and which read and which write of each fails.
+#[derive(Clone, Copy)]
+pub(crate) struct Connections {
+    pub(crate) count: usize,
+    pub(crate) failing_read: u64,
+    pub(crate) failing_write: u64,
+}
+
 /// How the outside behaves.
 #[derive(Clone, Copy)]
 pub(crate) struct Outside {
     pub(crate) piece: usize,
+    pub(crate) place: usize,
+    pub(crate) end: usize,
     pub(crate) failing_read: u64,
     pub(crate) failing_write: u64,
     pub(crate) failing_ears: u64,
+    pub(crate) connections: Connections,
     pub(crate) last: usize,
     pub(crate) spoils_crd: bool,
     pub(crate) spoils_rules: bool,
@@ -36,6 +47,7 @@ pub(crate) struct Outside {
 pub(crate) struct Again {
     pub(crate) pieces: String,
     pub(crate) faults: bool,
+    pub(crate) places: bool,
 }
 
 /// Lines that stand once for each number from the first on and below the end; none are gathered where there is no such number.
@@ -62,9 +74,16 @@ impl Outside {
     pub(crate) fn new() -> Outside {
         Outside {
             piece: 4_096,
+            place: 0,
+            end: usize::MAX,
             failing_read: u64::MAX,
             failing_write: u64::MAX,
             failing_ears: u64::MAX,
+            connections: Connections {
+                count: 1,
+                failing_read: u64::MAX,
+                failing_write: u64::MAX,
+            },
             last: usize::MAX,
             spoils_crd: false,
             spoils_rules: false,
@@ -74,6 +93,16 @@ impl Outside {
     /// The same, with reads of so many bytes.
     pub(crate) fn in_pieces(self, piece: usize) -> Outside {
         Outside { piece, ..self }
+    }
+
+    /// The same, where no read gives bytes from both sides of a place.
+    pub(crate) fn in_two(self, place: usize) -> Outside {
+        Outside { place, ..self }
+    }
+
+    /// The same, with an input that ends at a place.
+    pub(crate) fn ended_at(self, end: usize) -> Outside {
+        Outside { end, ..self }
     }
 
     /// The same, where the read with this number fails.
@@ -117,6 +146,7 @@ impl Again {
         Again {
             pieces: String::new(alloc),
             faults: false,
+            places: false,
         }
     }
 }

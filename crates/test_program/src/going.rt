@@ -1,15 +1,17 @@
 //! One run of the program in memory.
 ghost use Rattle.std.specs.Prelude.{IfSome};
-ghost use Rattle.edge_io.specs.MemoryEars.{IsUnread};
+ghost use Rattle.edge_io.specs.MemoryEars.{IsUnread, IsUnwritten};
 
-use crate::case::{Case, Outside};
-use edge_io::{FixedClock, MemConnection, MemEars, MemFile, MemFiles, MemSink, MemSource};
+use crate::case::{Case, Connections, Outside};
+use crate::input::Input;
+use edge_io::{FixedClock, MemConnection, MemEars, MemFile, MemFiles, MemLink, MemSink, MemSource};
 use kj_value::{Stamp, Txt};
 use kubeconv_cmd::{Words, run};
 use std::alloc::Global;
 use std::sync::Wait;
 use std::thread::Threads;
 use std::time::Clock;
+use tcp_links::{MemLinks, MemReady};
 
 // The words of a line `words WORD ..`.
 fn words_of(alloc: Global, line: &str) -> Option<Words> {
@@ -46,28 +48,88 @@ fn files_of(alloc: Global, case: &Case) -> Option<MemFiles> {
     Some(MemFiles::new(files, Vec::new(alloc)))
 }
 
-fn source_of(alloc: Global, case: &Case, outside: Outside) -> Option<MemSource>
-    ensures { IfSome result IsUnread }
-{
-    let piece = outside.piece;
-    if piece == 0 {
+// The input of the program. There is none where its reads give nothing.
+fn input_of(alloc: Global, case: &Case, outside: Outside) -> Option<Input> {
+    if outside.piece == 0 {
         return None;
     }
-    let bytes = bytes_of(alloc, case.asked.input.as_str(), false)?;
-    let failing = vec![in alloc; outside.failing_read].ok()?;
-    Some(MemSource::new(bytes, piece, failing))
+    let mut bytes = bytes_of(alloc, case.asked.input.as_str(), false)?;
+    bytes.truncate(outside.end);
+    Some(Input {
+        bytes,
+        piece: outside.piece,
+        place: outside.place,
+        fails: outside.failing_read,
+        at: 0,
+        reads: 0,
+        faults: 0,
+    })
 }
 
-// Ears with one connection, which holds the input.
+fn source_of(alloc: Global, case: &Case, failing_read: u64) -> Option<MemSource>
+    ensures { IfSome result IsUnread }
+{
+    let bytes = bytes_of(alloc, case.asked.input.as_str(), false)?;
+    let failing = vec![in alloc; failing_read].ok()?;
+    Some(MemSource::new(bytes, 4_096, failing))
+}
+
+fn sink_of(alloc: Global, failing_write: u64) -> Option<MemSink>
+    ensures { IfSome result IsUnwritten }
+{
+    let failing = vec![in alloc; failing_write].ok()?;
+    MemSink::new(alloc, 100_000, failing).ok()
+}
+
+// A connection, which holds the input.
+fn connection_of(alloc: Global, case: &Case, which: Connections) -> Option<MemConnection> {
+    let source = source_of(alloc, case, which.failing_read)?;
+    let sink = sink_of(alloc, which.failing_write)?;
+    MemConnection::new(alloc, source, sink).ok()
+}
+
+// Ears with so many connections.
 fn ears_of(alloc: Global, case: &Case, outside: Outside) -> Option<MemEars> {
-    let source = source_of(alloc, case, Outside::new())?;
-    let Ok(sink) = MemSink::new(alloc, 100_000, Vec::new(alloc)) else {
-        return None;
-    };
-    let connection = MemConnection::new(alloc, source, sink).ok()?;
-    let connections = vec![in alloc; connection].ok()?;
+    let mut connections = Vec::new(alloc);
+    for _ in 0..outside.connections.count {
+        connections
+            .push(connection_of(alloc, case, outside.connections)?)
+            .ok()?;
+    }
     let failing = vec![in alloc; outside.failing_ears].ok()?;
     MemEars::new(alloc, connections, failing).ok()
+}
+
+// A link whose answers are the parts of the input between two `~`.
+fn link_of(alloc: Global, case: &Case, outside: Outside) -> Option<MemReady> {
+    let mut answers = Vec::new(alloc);
+    for part in case.asked.input.split('~') {
+        let answer = part.as_bytes().to_vec(alloc).ok()?;
+        answers.push(answer).ok()?;
+    }
+    let failing = vec![in alloc; outside.failing_ears].ok()?;
+    let link = MemLink::new(alloc, answers, failing);
+    MemReady::new(alloc, link).ok()
+}
+
+// Links of which the first is that one, where the line is one that works on a server from outside.
+fn links_of(alloc: Global, case: &Case, outside: Outside) -> Option<MemLinks> {
+    let mut ready = Vec::new(alloc);
+    if case.asked.words.starts_with("words migrate ") {
+        let link = link_of(alloc, case, outside)?;
+        ready.push(link).ok()?;
+    }
+    Some(MemLinks::new(ready))
+}
+
+// What was written to the connection, or asked over the link.
+fn sent(alloc: Global, ears: &MemEars, links: &MemLinks) -> Option<Vec<u8>> {
+    let mut all = ears.last_written().unwrap_or(&[]).to_vec(alloc).ok()?;
+    for exchange in links.last_made().unwrap_or(&[]) {
+        all.extend_from_slice(exchange.request()).ok()?;
+        all.push(b'\n').ok()?;
+    }
+    Some(all)
 }
 
 /// What a run came to.
@@ -78,6 +140,7 @@ pub(crate) struct Outcome {
     pub(crate) errors: Vec<u8>,
     pub(crate) status: u8,
     pub(crate) calls: u64,
+    pub(crate) handed_out: usize,
 }
 
 // What stands in the sinks behind a run.
@@ -85,12 +148,12 @@ fn outcome_of(
     alloc: Global,
     output: &MemSink,
     ears: &MemEars,
+    connection: Vec<u8>,
     errors: &MemSink,
     status: u8,
     calls: u64,
 ) -> Option<Outcome> {
     let output = output.bytes().to_vec(alloc).ok()?;
-    let connection = ears.last_written().unwrap_or(&[]).to_vec(alloc).ok()?;
     let errors = errors.bytes().to_vec(alloc).ok()?;
     Some(Outcome {
         output,
@@ -98,6 +161,7 @@ fn outcome_of(
         errors,
         status,
         calls,
+        handed_out: ears.handed_out(),
     })
 }
 
@@ -115,18 +179,28 @@ fn run_in<R: Threads + Wait + Clock + Sync>(
     alloc: Global,
     words: &Words,
     files: &mut MemFiles,
-    source: &mut MemSource,
+    source: &mut Input,
     output: &mut MemSink,
     errors: &mut MemSink,
     ears: &mut MemEars,
+    links: &mut MemLinks,
 ) -> Option<Outcome> {
     let clock = FixedClock::new(Stamp {
         text: *b"2024-01-02T03:04:05Z",
     });
     let status = run(
-        rt, alloc, words, files, source, output, errors, ears, &clock, 0,
+        rt, alloc, words, files, source, output, errors, ears, links, &clock, 0,
     );
-    outcome_of(alloc, output, ears, errors, status, files.calls())
+    let connection = sent(alloc, ears, links)?;
+    outcome_of(
+        alloc,
+        output,
+        ears,
+        connection,
+        errors,
+        status,
+        files.calls(),
+    )
 }
 
 /// Runs the program over a case, where the outside behaves so.
@@ -138,9 +212,10 @@ pub(crate) fn run_case<R: Threads + Wait + Clock + Sync>(
 ) -> Option<Outcome> {
     let words = words_of(alloc, case.asked.words.as_str())?;
     let mut files = files_of(alloc, case)?;
-    let mut source = source_of(alloc, case, outside)?;
+    let mut source = input_of(alloc, case, outside)?;
     let (mut output, mut errors) = sinks_of(alloc, outside)?;
     let mut ears = ears_of(alloc, case, outside)?;
+    let mut links = links_of(alloc, case, outside)?;
     run_in(
         rt,
         alloc,
@@ -150,5 +225,6 @@ pub(crate) fn run_case<R: Threads + Wait + Clock + Sync>(
         &mut output,
         &mut errors,
         &mut ears,
+        &mut links,
     )
 }

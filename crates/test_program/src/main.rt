@@ -17,14 +17,18 @@
 //! | `head TEXT`, `input TEXT` | the text in the input, with the end of a line and without |
 //! | `size NUMBER` | a read gives so many bytes at most |
 //! | `fails NUMBER`, `unwritten NUMBER` | the read, or the write, with this number fails, counted from 0 |
-//! | `closed NUMBER` | the call of the ears with this number fails, counted from 0, of which the first listens |
+//! | `many NUMBER` | the ears have so many connections, each of which holds the input, and not one |
+//! | `Fails NUMBER`, `Unwritten NUMBER` | the read, or the write, of each connection with this number fails, counted from 0 |
+//! | `closed NUMBER` | the call of the ears with this number fails, counted from 0, of which the first listens; or the exchange of the link |
 //! | `last NUMBER` | only so many bytes of the output are printed, behind the number of those before them and their digest (FIPS 180-4) |
 //! | `again NUMBER ..` | the case is run again with reads of so many bytes, and it is said whether it comes to the same |
 //! | `every` | it is run again with each write failing in turn, and with each read |
+//! | `every place` | it is run again with the input in two pieces, parted at each of its places in turn, and ended there |
 //! | `@ FIRST END`, `@` | the lines between the two stand once for each number from FIRST on and below END, which stands for each `@` in them |
 //! | `.` | the case ends |
 //!
-//! The ears have one connection, which holds the input too. What was written to it is printed behind the output.
+//! The ears have one connection, which holds the input too, or as many as the case says. The answers of the one link are the parts of the input
+//! between two `~`. What was written to the connection that was given back last, or asked over the link, is printed behind the output.
 //!
 //! Nothing here has a contract.
 #![tactic(auto)]
@@ -32,6 +36,7 @@
 mod again;
 mod case;
 mod going;
+mod input;
 mod steps;
 mod telling;
 

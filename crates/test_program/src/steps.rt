@@ -77,6 +77,9 @@ fn of_outside(outside: &mut Outside, word: u8, text: &str) -> Option<()> {
         b'f' => outside.failing_read = text.parse::<u64>().ok()?,
         b'u' => outside.failing_write = text.parse::<u64>().ok()?,
         b'c' => outside.failing_ears = text.parse::<u64>().ok()?,
+        b'm' => outside.connections.count = text.parse::<usize>().ok()?,
+        b'F' => outside.connections.failing_read = text.parse::<u64>().ok()?,
+        b'U' => outside.connections.failing_write = text.parse::<u64>().ok()?,
         b'l' => outside.last = text.parse::<usize>().ok()?,
         b'D' => outside.spoils_crd = true,
         b'R' => outside.spoils_rules = true,
@@ -88,6 +91,7 @@ fn of_outside(outside: &mut Outside, word: u8, text: &str) -> Option<()> {
 fn of_again(alloc: Global, again: &mut Again, word: u8, text: &str) -> Option<()> {
     match word {
         b'a' => again.pieces = String::from_str(alloc, text).ok()?,
+        _ if text == "place" => again.places = true,
         _ => again.faults = true,
     }
     Some(())

@@ -48,6 +48,15 @@ pub(crate) fn told(alloc: Global, came: &Outcome, last: usize) -> Option<String>
     Some(all)
 }
 
+// How many connections were handed out, where there are many.
+fn add_connections(alloc: Global, all: &mut String, case: &Case, came: &Outcome) -> Option<()> {
+    if case.outside.connections.count > 1 {
+        let line = format!(in alloc; "connections handed out: {}\n", came.handed_out).ok()?;
+        all.push_str(line.as_str()).ok()?;
+    }
+    Some(())
+}
+
 // What a case said of itself alone is forgotten.
 fn clear(alloc: Global, case: &mut Case) -> Option<()> {
     case.documents.crd = String::from_str(alloc, case.documents.base.as_str()).ok()?;
@@ -66,6 +75,7 @@ pub(crate) fn go<R: Threads + Wait + Clock + Sync>(
 ) -> Option<String> {
     let came = run_case(rt, alloc, case, case.outside)?;
     let mut all = told(alloc, &came, case.outside.last)?;
+    add_connections(alloc, &mut all, case, &came)?;
     let again = run_again(rt, alloc, case, &came)?;
     all.push_str(again.as_str()).ok()?;
     clear(alloc, case)?;

@@ -1,6 +1,5 @@
 //! Lists and objects of values, lists of texts, texts by name, a text that grows and a moment.
-use crate::told::{add, add_is, add_number};
-use crate::values::written;
+use crate::told::{add, add_is, add_number, add_value};
 use kj_value::{
     JFields, JItems, JVal, Stamp, TextList, TextMap, Txt, depth, one_reading, one_text,
     reading_depth, same, sound, text_reads,
@@ -8,19 +7,17 @@ use kj_value::{
 use std::alloc::Global;
 
 /// The answer to a case.
-pub(crate) fn answer(alloc: Global, word: u8, text: &str) -> Option<String> {
-    let mut out = String::new(alloc);
+pub(crate) fn answer(alloc: Global, word: u8, text: &str, out: &mut String) -> Option<()> {
     match word {
-        b'i' => items(alloc, &mut out)?,
-        b'f' => fields(alloc, text, &mut out)?,
-        b'F' => fields_read(alloc, text, &mut out)?,
-        b'T' => texts(alloc, text, &mut out)?,
-        b'M' => map(alloc, text, &mut out)?,
-        b'x' => joined(alloc, &mut out)?,
-        b'm' => moment(&mut out)?,
-        _ => laws(&mut out)?,
+        b'i' => items(alloc, out),
+        b'f' => fields(alloc, text, out),
+        b'F' => fields_read(alloc, text, out),
+        b'T' => texts(alloc, text, out),
+        b'M' => map(alloc, text, out),
+        b'x' => joined(alloc, out),
+        b'm' => moment(out),
+        _ => laws(out),
     }
-    Some(out)
 }
 
 fn laws(out: &mut String) -> Option<()> {
@@ -65,10 +62,6 @@ fn fill_and_replace(alloc: Global, items: &mut JItems, out: &mut String) -> Opti
     fill(items)?;
     add_items(alloc, items, out)?;
     add_is(out, replaced(items))
-}
-
-fn add_value(alloc: Global, out: &mut String, v: &JVal) -> Option<()> {
-    add(out, written(alloc, v)?.as_str())
 }
 
 fn put(alloc: Global, fields: &mut JFields, name: &str, n: i64) -> Option<()> {

@@ -1,97 +1,134 @@
-//! Cases of JSON values, of files, clocks, streams and links, of HTTP's messages, and of the cache of forms.
+//! Cases of what no request shows: values and their containers, the outside in memory and of `std`, messages of HTTP, responses in chunks,
+//! links, keys and tokens, the cache of forms, objects that are measured, weights of creates, and responses to reviews.
 //!
-//! Each line of standard input is a case: its first byte tells what is done with the text behind the second, and the answer is
-//! printed on a line; one that begins with `#` is printed as it stands. The answers that are wanted stand in `stdout`. Where a
-//! case is bytes, `~` stands for one that no text has, `` ` `` for the first of two, and `|` with a letter for a control byte.
+//! A line of standard input that begins with `= ` names the part that the lines after it belong to, and one that begins with `#` is a title; both
+//! are printed as they stand. Each other line is a case: its first byte tells what is done with the text behind the second, and the answer
+//! is printed on a line. The answers that are wanted stand in `stdout`. Where a case is bytes, `~` stands for one that no text has, `` ` ``
+//! for the first of two, `|` with a letter for a control byte, and `(PIECE*COUNT)` for so many pieces.
 //!
-//! | line | what is answered |
-//! |---|---|
-//! | `l NUMBER` | nothing: values are read with so many levels from here on |
-//! | `r TEXT` | the text of the value that bytes are, or why they are none |
-//! | `t TEXT` | the text of the value that bytes are as a text |
-//! | `d TEXT`, `c TEXT`, `s TEXT` | how deep a value is; its copy; whether the first two items of a list are the same |
-//! | `i`, `f`, `F`, `T`, `M`, `x`, `m`, `L` | lists, fields that are set and read, texts, texts by name, a text that grows, a moment, laws |
-//! | `S`, `C` | a moment at so many seconds; what the system's clock says then |
-//! | `R`, `W`, `w` | readers and writers of `std`: a letter for each |
-//! | `a`, `A`, `b`, `B` | a source and a sink in memory, and those that never fail |
-//! | `p`, `P`, `D` | files in memory, those that never fail, and a file of the system |
-//! | `e`, `k` | a connection, and exchanges of a link |
-//! | `q`, `z` | the requests, or the response, that are read in pieces of each of some sizes, where a call fails or none |
-//! | `o`, `n`, `O` | messages that are written: to a sink with so much room, to a narrow one, and where each call fails in turn |
-//! | `2` | what is kept and found in a cache of two forms |
+//! | part | line | what is answered |
+//! |---|---|---|
+//! | any | `: TEXT` | nothing: what the lines behind it are given beside, which is the most levels of a value, or the objects that were sent |
+//! | `= values` | `r TEXT` | the text of the value that bytes are, or why they are none |
+//! | | `t TEXT` | the text of the value that bytes are as a text |
+//! | | `d TEXT`, `c TEXT`, `s TEXT` | how deep a value is; its copy; whether the first two items of a list are the same |
+//! | | `i`, `f`, `F`, `T`, `M`, `x`, `m`, `L` | lists, fields that are set and read, texts, texts by name, a text that grows, a moment, laws |
+//! | `= outside` | `S`, `C` | a moment at so many seconds; what the system's clock says then |
+//! | | `R`, `W`, `w` | readers and writers of `std`: a letter for each |
+//! | | `a`, `A`, `b`, `B` | a source and a sink in memory, and those that never fail |
+//! | | `p`, `P`, `D` | files in memory, those that never fail, and a file of the system |
+//! | | `e`, `k`, `K` | a connection; exchanges of a link; and of three that are made and taken back |
+//! | `= messages` | `q`, `z` | the requests, or the response, that are read in pieces of each of some sizes, where a call fails or none |
+//! | | `o`, `n`, `O` | messages that are written: to a sink with so much room, to a narrow one, and where each call fails in turn |
+//! | | `c`, `L` | what is handed on of a response that may be in chunks, `as it is` or with its length; laws |
+//! | `= keys` | `k KEY KEY`, `n NAME NAME` | a key, or a name, out of its place, and how it stands to another |
+//! | | `t TOKEN`, `T NUMBER`, `u BOOT BORN`, `m` | what a token says; a token; a uid; the refusal for want of memory |
+//! | | `2` | what is kept and found in a cache of two forms |
+//! | `= documents` | `n NUMBER DOCUMENT` | the text of an object with stamps, a number and a uid, which reads back |
+//! | | `m DOCUMENT`, `u DOCUMENT` | what an object measures; the same of one without its name, and its text |
+//! | | `e` | the text of no kept entries, and how many there are after one more |
+//! | `= fixture` | `w`, `f`, `s`, `v` | by the small definition that other tests use: a weight, the forms of a create, the definition with flags, a version |
+//! | `= weights` | `w VERSION BODY` | what a create by the shared definition weighs at whichever version it is stored, in chunks of 256 bytes |
+//! | `= reviews` | `r TEXT`, `e TEXT`, `f` | what is taken of a response; the same of an exchange with this answer, or one that fails, and its request |
 #![tactic(auto)]
 
+mod chunks;
 mod containers;
+mod fixture;
 mod forms;
+mod keys;
+mod links;
+mod messages;
+mod objects;
 mod outside;
+mod reviews;
+mod spelling;
 mod streams;
 mod told;
 mod values;
-mod wire;
+mod weights;
 
 use std::alloc::Global;
 use std::{io, rt};
 
-fn values_answer(alloc: Global, levels: u32, word: u8, text: &str) -> Option<String> {
-    match word {
-        b'r' => values::fault_or_text(alloc, levels, text),
-        b'd' => values::depth_of(alloc, text),
-        b'c' => values::copied(alloc, text),
-        b's' => values::compared(alloc, text),
-        _ => values::text_of_bytes(alloc, text),
-    }
-}
-
-fn outside_answer(alloc: Global, word: u8, text: &str, out: &mut String) -> Option<()> {
-    match word {
-        b'S' => outside::stamp(text, out),
-        b'C' => outside::real(text, out),
-        b'p' => outside::files(alloc, text, out),
-        b'P' => outside::sure_files(alloc, text, out),
-        b'e' => outside::ears(alloc, text, out),
-        b'k' => outside::link(alloc, out),
-        b'2' => forms::of_two(alloc, text, out),
-        b'q' | b'z' | b'n' | b'o' | b'O' => wire::answer(alloc, word, text, out),
-        _ => streams::answer(alloc, word, text, out),
-    }
+// What earlier lines say: of which part the lines behind them are, and what these are given beside.
+#[derive(Drop)]
+struct Earlier {
+    part: u8,
+    given: String,
 }
 
 fn answer<R: rt::Files>(
     system: &R,
     alloc: Global,
-    levels: u32,
+    earlier: &Earlier,
+    word: u8,
+    text: &str,
+    out: &mut String,
+) -> Option<()> {
+    match earlier.part {
+        b'v' => values::answer(alloc, earlier.given.as_str(), word, text, out),
+        b'o' => outside::answer(alloc, system, word, text, out),
+        b'm' => messages::answer(alloc, word, text, out),
+        b'k' => keys::answer(alloc, word, text, out),
+        b'd' => objects::answer(alloc, word, text, out),
+        b'f' => fixture::answer(alloc, word, text, out),
+        b'w' => weights::of_shared(alloc, text, out),
+        _ => reviews::answer(alloc, earlier.given.as_str(), word, text, out),
+    }
+}
+
+// The line that a case is answered with.
+fn answered<R: rt::Files>(
+    system: &R,
+    alloc: Global,
+    earlier: &Earlier,
     word: u8,
     text: &str,
 ) -> Option<String> {
-    match word {
-        b'r' | b'd' | b'c' | b's' | b't' => values_answer(alloc, levels, word, text),
-        b'i' | b'f' | b'F' | b'T' | b'M' | b'x' | b'm' | b'L' => {
-            containers::answer(alloc, word, text)
+    let mut out = String::new(alloc);
+    answer(system, alloc, earlier, word, text, &mut out)?;
+    Some(out)
+}
+
+// Takes in a line that says something of those behind it, or answers a case.
+fn tell(rt: &HostRuntime, alloc: Global, earlier: &mut Earlier, line: &str) -> io::Result<()> {
+    let text = line.get(2..).unwrap_or("");
+    match line.as_bytes().first() {
+        Some(b'#') => println!(rt; "{}", line),
+        Some(b'=') => {
+            earlier.part = part_of(text);
+            println!(rt; "{}", line)
         }
-        b'D' => outside::disk(alloc, system, text),
-        _ => {
-            let mut out = String::new(alloc);
-            outside_answer(alloc, word, text, &mut out)?;
-            Some(out)
+        Some(b':') => {
+            earlier.given = String::from_str(alloc, text)?;
+            Ok(())
         }
+        Some(word) => match answered(rt, alloc, earlier, *word, text) {
+            Some(out) => println!(rt; "{}", out.as_str().get(1..).unwrap_or("")),
+            None => println!(rt; "no such case"),
+        },
+        None => println!(rt; "no such case"),
+    }
+}
+
+// A part is known by the first byte of its name.
+fn part_of(name: &str) -> u8 {
+    match name.as_bytes().first() {
+        Some(byte) => *byte,
+        None => b'=',
     }
 }
 
 fn main(rt: HostRuntime) -> io::Result<()> {
     let alloc = rt.alloc();
-    let mut levels = 0u32;
+    let mut earlier = Earlier {
+        part: b'=',
+        given: String::new(alloc),
+    };
     for line in rt.lines(alloc) {
         let line = line?;
-        let text = line.as_str().get(2..).unwrap_or("");
-        match line.as_bytes().first() {
-            Some(b'#') => println!(rt; "{}", line.as_str())?,
-            Some(b'l') => levels = text.parse::<u32>().unwrap_or(0),
-            Some(word) => match answer(&rt, alloc, levels, *word, text) {
-                Some(told) => println!(rt; "{}", told.as_str())?,
-                None => println!(rt; "no such case")?,
-            },
-            None => println!(rt; "no such case")?,
-        }
+        tell(&rt, alloc, &mut earlier, line.as_str())?;
     }
     Ok(())
 }

@@ -1,7 +1,8 @@
 //! Clocks, files, connections and links: each once where it works and once where it fails.
 ghost use Rattle.std.specs.Prelude.{◌≡◌};
 
-use crate::streams::{one_read, one_write};
+use crate::links;
+use crate::streams::{self, one_read, one_write};
 use crate::told::{add, add_bytes, add_is, add_number};
 use edge_io::{
     Clock, DiskFiles, Ears, Files, FixedClock, Link, MOST_FILE_BYTES, MemConnection, MemEars,
@@ -14,8 +15,29 @@ use std::{io, rt, time};
 
 // ---- clocks
 
-/// The moment at a number of seconds, by a clock that stands there.
-pub(crate) fn stamp(text: &str, out: &mut String) -> Option<()> {
+/// The answer to a case.
+pub(crate) fn answer<R: rt::Files>(
+    alloc: Global,
+    system: &R,
+    word: u8,
+    text: &str,
+    out: &mut String,
+) -> Option<()> {
+    match word {
+        b'D' => disk(alloc, system, text, out),
+        b'S' => stamp(text, out),
+        b'C' => real(text, out),
+        b'p' => files(alloc, text, out),
+        b'P' => sure_files(alloc, text, out),
+        b'e' => ears(alloc, text, out),
+        b'k' => link(alloc, out),
+        b'K' => links::answer(alloc, text, out),
+        _ => streams::answer(alloc, word, text, out),
+    }
+}
+
+// The moment at a number of seconds, by a clock that stands there.
+fn stamp(text: &str, out: &mut String) -> Option<()> {
     let seconds = text.parse::<u64>().ok()?;
     if seconds >= 137_438_953_472 {
         return None;
@@ -40,8 +62,8 @@ impl time::Clock for Reads {
     }
 }
 
-/// What a clock says over one of the system that reads so many seconds, or that fails.
-pub(crate) fn real(text: &str, out: &mut String) -> Option<()> {
+// What a clock says over one of the system that reads so many seconds, or that fails.
+fn real(text: &str, out: &mut String) -> Option<()> {
     let reads = Reads(text.parse::<u64>().ok());
     let clock = RealClock::new(&reads);
     let stamp = clock.stamp();
@@ -98,8 +120,8 @@ fn opened(alloc: Global) -> Option<MemFiles> {
     Some(MemFiles::new(list, failing))
 }
 
-/// A look at each path of files in memory.
-pub(crate) fn files(alloc: Global, text: &str, out: &mut String) -> Option<()> {
+// A look at each path of files in memory.
+fn files(alloc: Global, text: &str, out: &mut String) -> Option<()> {
     let mut files = opened(alloc)?;
     let told = looked_at(alloc, &mut files, text, out);
     drop(files);
@@ -113,19 +135,19 @@ fn looked_at(alloc: Global, files: &mut MemFiles, text: &str, out: &mut String) 
     add_number(alloc, out, files.faults())
 }
 
-/// A look at each path of files that never fail.
-pub(crate) fn sure_files(alloc: Global, text: &str, out: &mut String) -> Option<()> {
+// A look at each path of files that never fail.
+fn sure_files(alloc: Global, text: &str, out: &mut String) -> Option<()> {
     let mut list = Vec::new(alloc);
     add_file(alloc, &mut list, "a", b"text".to_vec(alloc).ok()?)?;
     look_at_all(alloc, &mut SureFiles::new(list), text, out)
 }
 
-/// A file of the system that is read whole, or the fault.
-pub(crate) fn disk<R: rt::Files>(alloc: Global, system: &R, path: &str) -> Option<String> {
+// A file of the system that is read whole, or the fault.
+fn disk<R: rt::Files>(alloc: Global, system: &R, path: &str, out: &mut String) -> Option<()> {
     let mut files = DiskFiles::new(system);
     match files.read_file(alloc, path) {
-        Ok(text) => Some(text.into_string()),
-        Err(fault) => format!(in alloc; "{fault:?}").ok(),
+        Ok(text) => add(out, text.as_str()),
+        Err(fault) => add(out, format!(in alloc; "{fault:?}").ok()?.as_str()),
     }
 }
 
@@ -183,8 +205,8 @@ fn hear(alloc: Global, ears: &mut MemEars, out: &mut String) -> Option<()> {
     one_failure(ears, out)
 }
 
-/// A connection with this input, where the second call fails.
-pub(crate) fn ears(alloc: Global, text: &str, out: &mut String) -> Option<()> {
+// A connection with this input, where the second call fails.
+fn ears(alloc: Global, text: &str, out: &mut String) -> Option<()> {
     let mut ears = ears_of(alloc, text)?;
     let told = heard(alloc, &mut ears, out);
     drop(ears);
@@ -227,8 +249,8 @@ fn add_exchanges(link: &MemLink, out: &mut String) -> Option<()> {
     Some(())
 }
 
-/// Four exchanges, and what they were.
-pub(crate) fn link(alloc: Global, out: &mut String) -> Option<()> {
+// Four exchanges, and what they were.
+fn link(alloc: Global, out: &mut String) -> Option<()> {
     let mut link = link_of(alloc)?;
     let told = exchanged(alloc, &mut link, out);
     drop(link);

@@ -1,6 +1,5 @@
 //! What is told of a case: words with a space before each.
-use crate::values::written;
-use kj_value::{JVal, Txt};
+use kj_value::{JVal, MAX_JSON_LEVELS, Txt, depth, write};
 use std::alloc::Global;
 
 /// Adds a word.
@@ -24,8 +23,16 @@ pub(crate) fn add_is(out: &mut String, is_so: bool) -> Option<()> {
     add(out, if is_so { "yes" } else { "no" })
 }
 
+/// Adds the text of a value.
+pub(crate) fn add_value(alloc: Global, out: &mut String, v: &JVal) -> Option<()> {
+    if depth(v) > MAX_JSON_LEVELS {
+        return None;
+    }
+    add(out, write(alloc, v).ok()?.as_str())
+}
+
 /// Adds bytes that are a text, as a JSON text.
 pub(crate) fn add_text(alloc: Global, out: &mut String, bytes: &[u8]) -> Option<()> {
     let text = Txt::of_bytes(bytes.to_vec(alloc).ok()?)?;
-    add(out, written(alloc, &JVal::Text(text))?.as_str())
+    add_value(alloc, out, &JVal::Text(text))
 }

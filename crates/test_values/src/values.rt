@@ -1,109 +1,67 @@
 //! Values: read, written, copied and compared.
-use kj_value::{JVal, JsonFault, MAX_JSON_LEVELS, Txt, copy, depth, read, same, write};
+use crate::containers;
+use crate::spelling::bytes_of;
+use crate::told::{add, add_number, add_value};
+use kj_value::{JVal, MAX_JSON_LEVELS, Txt, copy, depth, read, same};
 use std::alloc::Global;
 
-// What a byte of a case means: `~` a byte that no text has, `` ` `` the first of two, and behind a `|` a control byte.
-fn meant(byte: u8, is_control: bool) -> u8 {
-    match byte {
-        b'~' => 0xff,
-        b'`' => 0xc3,
-        other => {
-            if is_control {
-                other.saturating_sub(64)
-            } else {
-                other
-            }
+/// The answer to a case, where values have at most so many levels.
+pub(crate) fn answer(
+    alloc: Global,
+    levels: &str,
+    word: u8,
+    text: &str,
+    out: &mut String,
+) -> Option<()> {
+    match word {
+        b'r' => add_read(alloc, levels.parse::<u32>().ok()?, text, out),
+        b't' => add_text(alloc, text, out),
+        b'd' | b'c' | b's' => {
+            let v = read(alloc, text.as_bytes(), MAX_JSON_LEVELS).ok()?;
+            of_value(alloc, word, &v, out)
+        }
+        _ => containers::answer(alloc, word, text, out),
+    }
+}
+
+fn of_value(alloc: Global, word: u8, v: &JVal, out: &mut String) -> Option<()> {
+    match word {
+        b'd' => add_number(alloc, out, u64::from(depth(v))),
+        b'c' => add_copy(alloc, v, out),
+        _ => {
+            let items = v.as_list()?;
+            add_same(out, items.get(0)?, items.get(1)?)
         }
     }
 }
 
-/// The bytes of a text, where `|J`, say, is the end of a line.
-pub(crate) fn bytes_of(alloc: Global, text: &str) -> Option<Vec<u8>> {
-    let mut bytes = Vec::new(alloc);
-    add_bytes_of(&mut bytes, text)?;
-    Some(bytes)
-}
-
-fn add_bytes_of(bytes: &mut Vec<u8>, text: &str) -> Option<()> {
-    let mut is_control = false;
-    for byte in text.as_bytes() {
-        if *byte == b'|' {
-            is_control = true;
-        } else {
-            bytes.push(meant(*byte, is_control)).ok()?;
-            is_control = false;
-        }
-    }
-    Some(())
-}
-
-fn value(alloc: Global, text: &str) -> Option<JVal> {
-    read(alloc, text.as_bytes(), MAX_JSON_LEVELS).ok()
-}
-
-/// The text of a value.
-pub(crate) fn written(alloc: Global, v: &JVal) -> Option<String> {
-    if depth(v) > MAX_JSON_LEVELS {
-        return None;
-    }
-    Some(write(alloc, v).ok()?.into_string())
-}
-
-fn word(fault: JsonFault) -> &'static str {
-    match fault {
-        JsonFault::NotJson => "NotJson",
-        JsonFault::NotWhole => "NotWhole",
-        JsonFault::TooDeep => "TooDeep",
-        JsonFault::NoMemory => "NoMemory",
-    }
-}
-
-/// The text of what is read with so many levels, or why it isn't.
-pub(crate) fn fault_or_text(alloc: Global, levels: u32, text: &str) -> Option<String> {
+// The text of what is read with so many levels, or why it isn't.
+fn add_read(alloc: Global, levels: u32, text: &str, out: &mut String) -> Option<()> {
     if levels > MAX_JSON_LEVELS {
         return None;
     }
     let bytes = bytes_of(alloc, text)?;
     match read(alloc, bytes.as_slice(), levels) {
-        Ok(v) => written(alloc, &v),
-        Err(fault) => String::from_str(alloc, word(fault)).ok(),
+        Ok(v) => add_value(alloc, out, &v),
+        Err(fault) => add(out, format!(in alloc; "{fault:?}").ok()?.as_str()),
     }
 }
 
-/// How deep a value is.
-pub(crate) fn depth_of(alloc: Global, text: &str) -> Option<String> {
-    let levels = depth(&value(alloc, text)?);
-    format!(in alloc; "{levels}").ok()
-}
-
-fn copy_of(alloc: Global, v: &JVal) -> Option<String> {
+// The text of a copy, and whether it is the same.
+fn add_copy(alloc: Global, v: &JVal, out: &mut String) -> Option<()> {
     let w = copy(alloc, v).ok()?;
-    if !same(v, &w) {
-        return String::from_str(alloc, "not the same").ok();
-    }
-    written(alloc, &w)
+    add_same(out, v, &w)?;
+    add_value(alloc, out, &w)
 }
 
-/// The text of a copy, which is the same.
-pub(crate) fn copied(alloc: Global, text: &str) -> Option<String> {
-    copy_of(alloc, &value(alloc, text)?)
+fn add_same(out: &mut String, v: &JVal, w: &JVal) -> Option<()> {
+    add(out, if same(v, w) { "same" } else { "not the same" })
 }
 
-fn are_same(items: &JVal) -> Option<bool> {
-    let items = items.as_list()?;
-    Some(same(items.get(0)?, items.get(1)?))
-}
-
-/// Whether the first two items of a list are the same.
-pub(crate) fn compared(alloc: Global, text: &str) -> Option<String> {
-    let is_same = are_same(&value(alloc, text)?)?;
-    String::from_str(alloc, if is_same { "same" } else { "not the same" }).ok()
-}
-
-/// The value that bytes are as a text.
-pub(crate) fn text_of_bytes(alloc: Global, text: &str) -> Option<String> {
+// The value that bytes are as a text.
+fn add_text(alloc: Global, text: &str, out: &mut String) -> Option<()> {
     match Txt::of_bytes(bytes_of(alloc, text)?) {
-        Some(text) => written(alloc, &JVal::Text(text)),
-        None => String::from_str(alloc, "no text").ok(),
+        Some(text) => add_value(alloc, out, &JVal::Text(text)),
+        None => add(out, "no text"),
     }
 }

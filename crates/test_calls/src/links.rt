@@ -1,0 +1,145 @@
+//! Connections in memory: what one sends, and what is written to it.
+ghost use Rattle.shared_api.specs.Passes.{IsOf};
+
+use crate::texts::cut;
+use api_calls::Versions;
+use edge_io::{FixedClock, MemSink, MemSource, Sink, Source};
+use http_front::{End, serve_link};
+use kj_value::Stamp;
+use shared_api::{Pass, SharedApi};
+use std::alloc::Global;
+use std::sync::Wait;
+
+// More than any connection is written.
+const ROOM: usize = 50_000;
+
+// The two ends of a connection, and whether it is told in short.
+#[derive(Drop)]
+struct Link {
+    source: MemSource,
+    sink: MemSink,
+    is_short: bool,
+}
+
+// The number of a call that fails, where one is named.
+fn number_of(word: &str) -> u64 {
+    word.parse::<u64>().unwrap_or(u64::MAX)
+}
+
+// A connection with this input, in pieces of a size.
+fn link_of(
+    alloc: Global,
+    bytes: Vec<u8>,
+    piece: usize,
+    reads: u64,
+    writes: u64,
+    is_short: bool,
+) -> Option<Link> {
+    if piece == 0 {
+        return None;
+    }
+    let unread = vec![in alloc; reads].ok()?;
+    let unwritten = vec![in alloc; writes].ok()?;
+    let Ok(sink) = MemSink::new(alloc, ROOM, unwritten) else {
+        return None;
+    };
+    let source = MemSource::new(bytes, piece, unread);
+    Some(Link {
+        source,
+        sink,
+        is_short,
+    })
+}
+
+// A connection with one request.
+fn request(alloc: Global, order: &str) -> Option<Link> {
+    let (method, rest) = cut(order);
+    let (target, body) = cut(rest);
+    let len = body.len();
+    let text = format!(in alloc;
+        "{method} {target} HTTP/1.1\r\nContent-Length: {len}\r\n\r\n{body}"
+    ).ok()?;
+    let bytes = text.as_str().as_bytes().to_vec(alloc).ok()?;
+    link_of(alloc, bytes, 4_096, u64::MAX, u64::MAX, true)
+}
+
+// A connection with the input of a script.
+fn linked(alloc: Global, order: &str, input: &str) -> Option<Link> {
+    let (_word, given) = cut(order);
+    let (piece, rest) = cut(given);
+    let (reads, writes) = cut(rest);
+    let piece = piece.parse::<usize>().ok()?;
+    let text = input.replace(alloc, "|", "\r\n").ok()?;
+    let bytes = text.as_str().as_bytes().to_vec(alloc).ok()?;
+    link_of(
+        alloc,
+        bytes,
+        piece,
+        number_of(reads),
+        number_of(writes),
+        false,
+    )
+}
+
+fn opened(alloc: Global, order: &str, input: &str) -> Option<Link> {
+    if order.starts_with('l') {
+        linked(alloc, order, input)
+    } else {
+        request(alloc, order)
+    }
+}
+
+// The code and the body of a response.
+fn short(alloc: Global, written: &str) -> Option<String> {
+    let code = written.get(9..12)?;
+    let place = written.find("\r\n\r\n")?;
+    let body = written.get(place.wrapping_add(4)..)?;
+    format!(in alloc; "{code} {body}").ok()
+}
+
+// How a connection ended, what is left of its input, and what was written to it.
+fn told(alloc: Global, link: &Link, end: End) -> Option<String> {
+    let written = str::from_utf8(link.sink.bytes()).ok()?;
+    if link.is_short {
+        return short(alloc, written);
+    }
+    let left = link.source.left().len();
+    let written = written.replace(alloc, "\r\n", "|").ok()?;
+    format!(in alloc; "{end:?}, {left} left: {}", written.as_str()).ok()
+}
+
+fn serve<V: Versions + Drop, S: Source, K: Sink, R: Wait>(
+    rt: &R,
+    alloc: Global,
+    api: &SharedApi<V>,
+    pass: &mut Pass<V>,
+    source: &mut S,
+    sink: &mut K,
+) -> End
+    requires of { IsOf V.meaning api.now pass.old }
+    ensures of { IsOf V.meaning api.now pass.new }
+{
+    let clock = FixedClock::new(Stamp {
+        text: *b"2024-01-02T03:04:05Z",
+    });
+    serve_link(rt, alloc, api, pass, source, sink, &clock)
+}
+
+/// What a connection is answered that an order opens, whose input is the script's if it isn't the order's own.
+pub(crate) fn asked<V: Versions + Drop, R: Wait>(
+    rt: &R,
+    alloc: Global,
+    api: &SharedApi<V>,
+    pass: &mut Pass<V>,
+    order: &str,
+    input: &str,
+) -> Option<String>
+    requires { IsOf V.meaning api.now pass.old }
+    ensures { IsOf V.meaning api.now pass.new }
+{
+    let mut link = opened(alloc, order, input)?;
+    let end = serve(rt, alloc, api, pass, &mut link.source, &mut link.sink);
+    let told = told(alloc, &link, end);
+    drop(link);
+    told
+}
