@@ -8,7 +8,8 @@ Each row has a promise, its calls and clauses, its edits and a test. Told is, on
 - a call or a clause whose name the crates in bold above its row, and those that it names, don't have (where no crate is in bold,
   any crate),
 - an edit that no crate has in must-fail/, and one in must-fail/ that no row names,
-- a test that is no function, no case behind `# ` on the `stdin` of a program of cases, no crate, and no file of proofs/.
+- a test that is no function, no case behind `# ` on the `stdin` of a program of cases, no crate, no file of proofs/, and no
+  function of a script that `.ci/run` runs over the proved program.
 
 It says nothing of what a row promises: that is held against the clause by who writes it.
 """
@@ -27,7 +28,8 @@ def read(path):
 
 
 class Tree:
-    """The words of each crate's sources and specs, its edits, its functions, the heads of all cases, and the files of proofs."""
+    """The words of each crate's sources and specs, its edits, its functions and those of scripts, the heads of all cases, and the files of
+    proofs."""
 
     def __init__(self):
         self.words = {os.path.basename(crate): set() for crate in glob("crates/*")}
@@ -36,6 +38,8 @@ class Tree:
             text = read(path)
             self.words[path.split("/")[1]].update(re.findall(r"\w+", text))
             self.functions.update(re.findall(r"\bfn (\w+)", text))
+        for script in re.findall(r"by_program (\S+\.py)", read(".ci/run")):
+            self.functions.update(re.findall(r"^def (\w+)", read(script), re.MULTILINE))
         self.every = set().union(*self.words.values())
         self.edits = {os.path.basename(path)[: -len(".edit")] for path in glob("crates/*/must-fail/*.edit")}
         cases = "\n".join(map(read, glob("crates/*/stdin")))
@@ -51,7 +55,7 @@ class Tree:
         return all(word in known for word in name.split("::"))
 
     def has_test(self, name):
-        """Whether there is a test, a case, a crate or a file of proofs of the name."""
+        """Whether there is a test, a case, a crate, a file of proofs or a function of a script of the name."""
         if name in self.words or name in self.functions or any(p.startswith(name.rstrip("*")) for p in self.proofs):
             return True
         return re.search(rf"(?<!\w){re.escape(name)}(?!\w)", self.heads) is not None

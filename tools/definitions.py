@@ -51,7 +51,7 @@ OWN_WORDS = {
     "crontab_example/specs/Documents": "The definition and the rules of the shared example: the documents that their texts read as.",
     "crd_meaning/specs/Meant": "The meaning of a loaded definition (`meaning_of`), where what bodies say of flags is left open.",
     "crd_versions/specs/Set": "What the versions of a loaded definition show to contracts.",
-    "review_batch/specs/Request": "The request of a review, and the document that spells it.",
+    "review_forms/specs/Request": "The request of a review, and the document that spells it.",
     "record_store/specs/Held": "Which rows of a store hold a piece of its region.",
     "record_store/specs/View": "What a store is seen as: records by rising key, the window, the last number, the floor.",
     "record_store/specs/Copies": "The copies of records on a page, at the last number or at an older one.",
