@@ -1,6 +1,6 @@
 -- What holds of an object whose document passed the table, and whose body is filled and valid.
 use Rattle.std.proofs.Common.{◌≡◌, ◌∙◌, ℕ, ◌+◌, ◌≤◌, List, true, Option, Some, None, refl, ap, ap₂, sym, subst, arith}
-use Rattle.std.specs.Prelude.{codes, is_none, option_map}
+use Rattle.std.specs.Prelude.{codes, is_none, option_map, Result, Ok, Err, IfErr}
 use Rattle.std.specs.Str.{bytes_eq}
 use Rattle.std.proofs.lemmas.Slice.Eq.{bytes_eq-Decides}
 use Rattle.kj_value.specs.Json.{Json, null, boolean, whole, text, list, object, members_of, items_of, depth}
@@ -24,6 +24,8 @@ use Rattle.struct_schema.specs.OwnDefaults.{HasOwnDefaults}
 use Rattle.struct_schema.specs.Valid.{valid}
 use Rattle.api_calls.specs.Cause.{CauseView}
 use Rattle.api_calls.specs.Meaning.{Request, Fault}
+use Rattle.api_calls.specs.Versions.{Refused}
+use Rattle.api_calls.specs.declared.versions.AdmitFault.{AdmitFault}
 use Rattle.api_calls.specs.declared.versions.TheConstants.{OBJECT_LEVELS}
 use Rattle.keep_laws.specs.FittedBody.{IsBody}
 use Rattle.keep_laws.specs.Spokes.{api_version}
@@ -31,10 +33,13 @@ use Rattle.keep_laws.specs.Notes.{IsObject}
 use Rattle.crd_meaning.specs.Definition.{Definition, version_at}
 use Rattle.crd_meaning.specs.Request.{first_there, rows, placed, expected_of, IsTaken}
 use Rattle.crd_meaning.specs.Admission.{IsFilling, Passes}
-use Rattle.crd_meaning.specs.Refusal.{cause_at, broken_at, RefusesRequest, is_early, is_broken}
+use Rattle.crd_meaning.specs.Refusal.{cause_at, broken_at, RefusesRequest}
+use Rattle.crd_meaning.specs.Refusal as refusal
 use Rattle.crd_loading.specs.Passed.{IsPassed}
+use Rattle.crd_admission.specs.Steps as steps
+use Rattle.crd_admission.proofs.Refusing.{refused_more}
 use Rattle.crd_admission.specs.Low.{HasLowDefaults}
-use Rattle.crd_admission.specs.Steps.{IsFirst, BreaksRule, IsToldOf, TellsCause}
+use Rattle.crd_admission.specs.Steps.{RefusesBody, IsFirst, BreaksRule, IsToldOf, TellsCause}
 use Rattle.struct_schema.proofs.Agrees.{agrees}
 use Rattle.crd_admission.proofs.Lists.{body_depth, owners_depth}
 use Rattle.crd_admission.proofs.Depths.{filled_within}
@@ -95,14 +100,23 @@ taken_of d r es x e reads nothing is number =
 
 -- ---- refusals
 
-pub early_refused : (d : Definition) (r : Request) (es : Pairs) (f : Fault) → Reads r.bytes OBJECT_LEVELS (object (members_of es)) → IsFirst (rows d r es) f → RefusesRequest d r f
+pub early_refused : (d : Definition) (r : Request) (es : Pairs) (f : Fault) → Reads r.bytes OBJECT_LEVELS (object (members_of es)) → IsFirst (rows d r es) f → RefusesBody d r f
 early_refused d r es f reads h =
-    is_early (record { value = object (members_of es); reads = reads; told = early_fields d r es ∙ h })
+    steps.is_early (record { value = object (members_of es); reads = reads; told = early_fields d r es ∙ h })
 
-pub broken_refused : (d : Definition) (r : Request) (x : ObjectView) (e : Option ℕ) (s : Shape) (f : Fault) → IsTaken d r x e → s ≡ (version_at d r.version).schema → BreaksRule s x f → RefusesRequest d r f
+pub broken_refused : (d : Definition) (r : Request) (x : ObjectView) (e : Option ℕ) (s : Shape) (f : Fault) → IsTaken d r x e → s ≡ (version_at d r.version).schema → BreaksRule s x f → RefusesBody d r f
 broken_refused d r x e s f t same h =
     let b : BreaksRule (version_at d r.version).schema x f = subst (λ (u : Shape). BreaksRule u x f) same h in
-    is_broken (record { object = x; number = e; taken = t; cause = b.cause; told = b.told; broken = b.broken })
+    steps.is_broken (record { object = x; number = e; taken = t; cause = b.cause; told = b.told; broken = b.broken })
+
+pub refused_request : (d : Definition) (r : Request) (f : Fault) → RefusesBody d r f → RefusesRequest d r f
+refused_request d r f (steps.no_value n) = refusal.no_value n
+refused_request d r f (steps.is_early e) = refusal.is_early e
+refused_request d r f (steps.is_broken b) = refusal.is_broken b
+
+pub all_refused : {A : Type 0} (d : Definition) (r : Request) (o : Result A AdmitFault) → IfErr o (Refused (RefusesBody d r) ⊥) → IfErr o (Refused (RefusesRequest d r) ⊥)
+all_refused d r (Ok a) h = tt
+all_refused d r (Err e) h = refused_more (RefusesBody d r) (RefusesRequest d r) e (refused_request d r) h
 
 -- ---- what passes
 

@@ -1,10 +1,11 @@
 -- The defaults of the schemas of an accepted definition are within the levels of an object.
-use Rattle.std.proofs.Common.{◌≡◌, ℕ, zero, suc, ◌+◌, ◌≤◌, List, Bool, true, false, ◌&&◌, cond, Option, Some, None, refl, subst, arith}
+use Rattle.std.proofs.Common.{◌≡◌, ℕ, zero, suc, ◌+◌, ◌≤◌, List, [], ◌∷◌, Bool, true, false, ◌&&◌, cond, Option, Some, None, refl, subst, arith}
 use Rattle.std.specs.Prelude.{not, nat_lt, slice_index_or}
 use Rattle.std.proofs.lemmas.Bool.Decides.{nat_tests}
 use Rattle.kj_value.specs.Json.{Json, null, boolean, whole, text, list, object, Items, no_items, item, Members, no_members, member, depth}
 use Rattle.struct_schema.specs.Names.{is_name, value_at}
 use Rattle.struct_schema.specs.Shape.{Shape, Shapes, MaybeShapes, MaybeShape, some_shape}
+use Rattle.struct_schema.specs.OwnDefaults.{HasOwnDefaults}
 use Rattle.struct_schema.specs.Valid.{valid}
 use Rattle.struct_schema.specs.Stays.{stays}
 use Rattle.schema_reading.specs.Words.{word, passed_type}
@@ -16,7 +17,7 @@ use Rattle.schema_reading.specs.declared.walk.TheConstants.{MAX_NESTING, MAX_DEF
 use Rattle.crd_reading.specs.View.{VersionView, DefinitionView}
 use Rattle.crd_reading.specs.Spelled.{schema_in, version_items, versions_read}
 use Rattle.crd_reading.specs.Accepted.{HaveSchemas}
-use Rattle.crd_reading.specs.Whole.{IsWholeDefinition}
+use Rattle.crd_reading.specs.Whole.{HaveOwnDefaults, IsWholeDefinition}
 use Rattle.crd_admission.specs.Low.{WithinAt, HasLowDefaults, LowInMap, LowInShapes, LowInMaybe}
 
 -- ---- tests joined by and
@@ -124,3 +125,9 @@ pub low_schema : (d : DefinitionView) (w : VersionView) (v : ℕ) → HasLowDefa
 low_schema d w v none known =
     let spelled = known.spelled in
     subst (λ (x : DefinitionView). HasLowDefaults 0 (slice_index_or x.versions v w).schema) spelled.2 (low_version (version_items spelled.0) w v none spelled.1.schemas)
+
+-- each default of a version's schema is its own filling
+pub own_schema : (vs : List VersionView) (w : VersionView) (v : ℕ) → HasOwnDefaults w.schema → HaveOwnDefaults vs → HasOwnDefaults (slice_index_or vs v w).schema
+own_schema [] w v none h = none
+own_schema (u ∷ vs) w zero none h = h.0
+own_schema (u ∷ vs) w (suc v) none h = own_schema vs w v none h.1

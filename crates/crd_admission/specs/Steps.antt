@@ -1,5 +1,5 @@
 -- For private clauses: what is known of a document on the way from a request to its object.
-use Rattle.std.specs.Prelude.{◌≡◌, ℕ, Bool, true, List, Option, Some, codes}
+use Rattle.std.specs.Prelude.{◌≡◌, ℕ, Bool, true, List, [], Option, Some, codes}
 use Rattle.std.specs.Str.{bytes_eq}
 use Rattle.kj_value.specs.Fields.{Pairs, field}
 use Rattle.kube_meta.specs.View.{ObjectView}
@@ -11,11 +11,28 @@ use Rattle.struct_schema.specs.declared.trouble.CheckFault.{CheckFault}
 use Rattle.struct_schema.specs.declared.trouble.CheckFault.TheVariants.{Broken, NoMemory}
 use Rattle.api_calls.specs.Cause.{CauseView}
 use Rattle.api_calls.specs.Meaning.{Request, Fault, invalid}
-use Rattle.keep_laws.specs.Spokes.{api_version}
+use Rattle.keep_laws.specs.Spokes.{Spokes, api_version}
+use Rattle.crd_reading.specs.View.{DefinitionView}
 use Rattle.crd_meaning.specs.Definition.{Definition, version_at}
 use Rattle.crd_meaning.specs.Request.{Judged, first_there, meta_fields, is_named_so}
 use Rattle.crd_meaning.specs.Admission.{IsFilling}
-use Rattle.crd_meaning.specs.Refusal.{broken_at}
+use Rattle.crd_meaning.specs.Refusal.{IsNoValue, IsEarly, IsBroken, broken_at}
+
+-- ---- a definition and its rules
+
+-- what a document says, with a hub and rules
+abbrev pub with_rules : DefinitionView → ℕ → Spokes → Definition
+with_rules view hub spokes = record { view = view; hub = hub; spokes = spokes }
+
+-- what doesn't look at the hub and the rules says the same of all
+abbrev pub plain : DefinitionView → Definition
+plain view = with_rules view 0 (record { group = []; hub = []; items = [] })
+
+-- what is refused of a request before its hub value is asked for
+pub data RefusesBody (d : Definition) (r : Request) (f : Fault) : Type 0 where
+  no_value : IsNoValue r f → RefusesBody d r f
+  is_early : IsEarly d r f → RefusesBody d r f
+  is_broken : IsBroken d r f → RefusesBody d r f
 
 -- ---- what the path asks for
 

@@ -8,7 +8,7 @@ ghost use Rattle.api_calls.specs.Meaning.{Request, bad_request};
 ghost use Rattle.api_calls.specs.Versions.{Refused, request_of};
 ghost use Rattle.crd_meaning.specs.Definition.{Definition};
 ghost use Rattle.crd_meaning.specs.Request.{early};
-ghost use Rattle.crd_meaning.specs.Refusal.{RefusesRequest};
+ghost use Rattle.crd_admission.specs.Steps.{RefusesBody};
 
 use api_calls::{AdmitFault, Incoming, OBJECT_LEVELS, Why};
 use kj_value::{JFields, JVal, JsonFault, read};
@@ -18,7 +18,7 @@ use std::alloc::Global;
 pub(crate) fn read_body(alloc: Global, input: &Incoming<'_>) -> Result<JFields, AdmitFault>
     ensures reads { IfOk result (λ fs. Reads input.now.bytes.now OBJECT_LEVELS (object (members_of fs))) }
     ensures levels { IfOk result (λ fs. depth (object (members_of fs)) ≤ OBJECT_LEVELS) }
-    ensures refused { (d : Definition) → IfErr result (Refused (RefusesRequest d (request_of input.now)) ⊥) }
+    ensures refused { (d : Definition) → IfErr result (Refused (RefusesBody d (request_of input.now)) ⊥) }
 {
     match read(alloc, input.bytes, OBJECT_LEVELS) {
         Ok(v) => match fields_of(v) {

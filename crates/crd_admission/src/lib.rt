@@ -24,6 +24,7 @@ mod passing;
 mod placing;
 mod taking;
 mod version_texts;
+mod versions;
 
 // What an object measures.
 mod measured_meta;
@@ -42,5 +43,5 @@ pub use hubs::{Weighed, hub_value};
 pub use measuring::measure_within;
 pub use metadata::metadata_field;
 pub use opening::{defaults_of, order_of};
-pub use passing::{Passed, pass};
+pub use passing::{Passed, pass, pass_body};
 pub use version_texts::is_version_text;

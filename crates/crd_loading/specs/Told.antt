@@ -13,7 +13,13 @@ abbrev pub RefusesIn : List ℕ → List ℕ → Which → Blame → Type 0
 RefusesIn crd rules Crd b = RefusesDefinition crd b
 RefusesIn crd rules Rules b = RefusesRules crd rules b
 
--- what is refused; want of memory may come anywhere
+-- what is refused of a definition alone; want of memory may come anywhere
+abbrev pub RefusesCrd : List ℕ → LoadFault → Type 0
+RefusesCrd crd NoMemory = Unit {0}
+RefusesCrd crd (Refused Crd path word) = RefusesDefinition crd (blame path.bytes word.bytes)
+RefusesCrd crd (Refused Rules path word) = ⊥
+
+-- what is refused of both
 abbrev pub RefusesLoading : List ℕ → List ℕ → LoadFault → Type 0
 RefusesLoading crd rules NoMemory = Unit {0}
 RefusesLoading crd rules (Refused file path word) = RefusesIn crd rules file (blame path.bytes word.bytes)

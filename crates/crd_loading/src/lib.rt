@@ -4,7 +4,8 @@
 //! The one contract: `load_versions` is Ok exactly where both texts are read and nothing of them is refused, with the definition, its
 //! hub and its other versions with their fitted rules as the texts mean them (`Loads`), in a `LoadedVersions`, whose type keeps all
 //! that the laws of a definition ask for; and else it names the first thing that is refused, as `RefusesLoading` says. The whole definition
-//! is tried before the rules are read. Want of memory may come anywhere. `load` is the step to the definition and its fitted rules.
+//! is tried before the rules are read. Want of memory may come anywhere. `load` is the step to the definition and its fitted rules, and
+//! `load_crd` the one to the definition alone.
 //!
 //! It knows nothing of objects or requests.
 #![tactic(auto)]
@@ -27,5 +28,5 @@ mod naming;
 
 pub use from_texts::load_versions;
 pub use loaded::Loaded;
-pub use loading::{LoadFault, Which, load};
+pub use loading::{LoadFault, Which, load, load_crd};
 pub use versions::LoadedVersions;

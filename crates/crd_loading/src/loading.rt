@@ -8,7 +8,7 @@ ghost use Rattle.crd_loading.specs.Blame.{of_rules};
 ghost use Rattle.crd_loading.specs.Fits.{rules_in, rules_blame};
 ghost use Rattle.crd_loading.specs.View.{loaded_of};
 ghost use Rattle.crd_loading.specs.Load.{IsUnread, Defines, LoadsRules, AreNoRules, Loads, RefusesDefinition};
-ghost use Rattle.crd_loading.specs.Told.{RefusesLoading, blame_of, blamed_in};
+ghost use Rattle.crd_loading.specs.Told.{RefusesCrd, RefusesLoading, blame_of, blamed_in};
 
 use crate::blamed::{Blamed, blame};
 use crate::bytes::read_bytes;
@@ -154,5 +154,21 @@ pub fn load(alloc: Global, crd: &[u8], rules: &[u8]) -> Result<Loaded, LoadFault
             word: blamed.word,
         }),
         Ok(loaded) => Ok(loaded),
+    }
+}
+
+/// The definition that a text is, without rules, or the first thing that is refused. It is read at 100 levels. `NoMemory` may come
+/// for any text.
+pub fn load_crd(alloc: Global, crd: &[u8]) -> Result<Definition, LoadFault>
+    ensures loaded { IfOk result (Defines crd.now) }
+    ensures refused { IfErr result (RefusesCrd crd.now) }
+{
+    match load_definition(alloc, crd)? {
+        Err(blamed) => Err(LoadFault::Refused {
+            file: Which::Crd,
+            path: blamed.path,
+            word: blamed.word,
+        }),
+        Ok(definition) => Ok(definition),
     }
 }

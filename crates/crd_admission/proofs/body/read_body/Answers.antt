@@ -1,6 +1,6 @@
 use Rattle.kj_value.specs.Seen.{json}
 use Rattle.api_calls.specs.Versions.{request_of}
-use Rattle.crd_meaning.specs.Refusal.{is_early}
+use Rattle.crd_admission.specs.Steps.{is_early}
 use Rattle.crd_admission.proofs.body.read_body.Goals as goal
 
 pub returns-in-None-clause-refused : goal.returns-in-None-clause-refused

@@ -1,65 +1,20 @@
-use Rattle.std.proofs.Common.{◌≡◌, ap, subst, true}
-use Rattle.std.proofs.lemmas.Result.{err_from_is_err_and}
-use Rattle.kj_value.specs.Json.{object, members_of}
-use Rattle.kube_meta.specs.View.{ObjectView, object_of}
-use Rattle.struct_schema.specs.Shape.{Shape}
-use Rattle.struct_schema.specs.ShapeOf.{shape_of}
-use Rattle.struct_schema.specs.Valid.{valid}
-use Rattle.api_calls.specs.Versions.{request_of}
-use Rattle.crd_reading.specs.View.{VersionView}
-use Rattle.crd_meaning.specs.Definition.{version_at}
-use Rattle.crd_meaning.specs.Request.{rows}
-use Rattle.crd_meaning.specs.Admission.{IsFilling}
-use Rattle.crd_meaning.specs.Refusal.{RefusesRequest}
-use Rattle.crd_admission.specs.Steps.{IsFirst, BreaksRule}
-use Rattle.crd_admission.proofs.Ready.{IsReady, taken_of, early_refused, broken_refused, passes, passed}
-use Rattle.crd_admission.proofs.Refusing.{refused_more}
+use Rattle.std.proofs.Common.{subst}
+use Rattle.std.specs.Prelude.{IfOk, IfErr}
+use Rattle.kube_meta.specs.View.{object_of}
+use Rattle.api_calls.specs.Versions.{Refused, request_of}
+use Rattle.crd_reading.specs.View.{DefinitionView}
+use Rattle.crd_meaning.specs.Admission.{Passes}
+use Rattle.crd_loading.specs.Passed.{IsPassed}
+use Rattle.crd_admission.specs.Steps.{with_rules, RefusesBody}
+use Rattle.crd_admission.proofs.Ready.{all_refused}
 use Rattle.crd_admission.proofs.passing.pass.Goals as goal
-
-pub returns-in_err-fields-clause-refused : goal.returns-in_err-fields-clause-refused
-returns-in_err-fields-clause-refused c =
-    let p = err_from_is_err_and c.from_residual.result c.from_residual.ensures.1 in
-    rw (p.1, p.2) (c.in_err-fields.ensures.refused c.args.set.now)
-
-pub returns-in_err-before-clause-refused : goal.returns-in_err-before-clause-refused
-returns-in_err-before-clause-refused c =
-    let d = c.args.set.now in
-    let r = request_of c.args.input.now in
-    let es = c.in_ok-fields.fields in
-    let p = err_from_is_err_and c.from_residual-in_err-before.result c.from_residual-in_err-before.ensures.1 in
-    rw (p.1, p.2) (refused_more (IsFirst (rows d r es)) (RefusesRequest d r) c.in_err-before.field-0.0 (λ f h. early_refused d r es f c.in_ok-fields.ensures.reads h) c.in_err-before.ensures.refused)
-
-pub returns-in_err-whole-clause-refused : goal.returns-in_err-whole-clause-refused
-returns-in_err-whole-clause-refused c =
-    let d = c.args.set.now in
-    let r = request_of c.args.input.now in
-    let s = shape_of c.version-version.result.now.schema in
-    let same : s ≡ (version_at d r.version).schema = ap (λ (v : VersionView). v.schema) c.version-version.ensures in
-    let x : ObjectView = object_of c.in_ok-before.before.object in
-    let e = c.in_ok-before.before.expected in
-    let t = taken_of d r c.in_ok-fields.fields x e c.in_ok-fields.ensures.reads c.in_ok-before.ensures.nothing c.in_ok-before.ensures.object c.in_ok-before.ensures.number in
-    let p = err_from_is_err_and c.from_residual-in_err-whole.result c.from_residual-in_err-whole.ensures.1 in
-    rw (p.1, p.2) (refused_more (BreaksRule s x) (RefusesRequest d r) c.in_err-whole.field-0.0 (λ f h. broken_refused d r x e s f t same h) c.in_err-whole.ensures.refused)
 
 pub returns : goal.returns
 returns c =
     let d = c.args.set.now in
     let r = request_of c.args.input.now in
-    let es = c.in_ok-fields.fields in
-    let x : ObjectView = object_of c.in_ok-before.before.object in
-    let y : ObjectView = object_of c.in_ok-whole.whole in
-    let e = c.in_ok-before.before.expected in
-    let same : shape_of c.version-version.result.now.schema ≡ (version_at d r.version).schema = ap (λ (v : VersionView). v.schema) c.version-version.ensures in
-    let ready : IsReady d r es x y = record {
-      nothing = c.in_ok-before.ensures.nothing;
-      levels = c.in_ok-fields.ensures.levels;
-      before = c.in_ok-before.ensures.object;
-      rest = c.in_ok-whole.ensures.rest;
-      filling = subst (λ (s : Shape). IsFilling s x.body y.body) same c.in_ok-whole.ensures.filling;
-      valid = subst (λ (s : Shape). valid s (object (members_of y.body)) ≡ true) same c.in_ok-whole.ensures.valid;
-      rules = c.in_ok-before.ensures.rules;
-    } in record {
-      passes = passes d r es x y ready e (taken_of d r es x e c.in_ok-fields.ensures.reads ready.nothing ready.before c.in_ok-before.ensures.number);
-      passed = passed d r es x y ready c.defaults_of.ensures.own c.defaults_of.ensures.low c.filled_again.ensures c.order_of.ensures.object c.order_of.ensures.labels c.order_of.ensures.owners;
-      refused = tt;
+    let same = c.definition.ensures.value in record {
+      passes = subst (λ (v : DefinitionView). IfOk c.pass_body.result (λ p. Passes (with_rules v d.hub d.spokes) r (object_of p.object) p.expected)) same (c.pass_body.ensures.passes d.hub d.spokes);
+      passed = subst (λ (v : DefinitionView). IfOk c.pass_body.result (λ p. IsPassed (with_rules v d.hub d.spokes) r.version (object_of p.object))) same (c.pass_body.ensures.passed d.hub d.spokes);
+      refused = all_refused d r c.pass_body.result (subst (λ (v : DefinitionView). IfErr c.pass_body.result (Refused (RefusesBody (with_rules v d.hub d.spokes) r) ⊥)) same (c.pass_body.ensures.refused d.hub d.spokes));
     }

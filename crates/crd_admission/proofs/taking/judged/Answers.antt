@@ -5,7 +5,7 @@ use Rattle.kj_value.specs.Fields.{Pairs}
 use Rattle.kube_meta.specs.View.{ObjectView, object_of}
 use Rattle.api_calls.specs.Versions.{request_of}
 use Rattle.crd_meaning.specs.Request.{first_there, metadata_rows, number_rows, rows}
-use Rattle.crd_admission.specs.Steps.{IsFirst}
+use Rattle.crd_admission.specs.Steps.{plain, IsFirst}
 use Rattle.crd_admission.proofs.Numerals.{some_mapped}
 use Rattle.crd_admission.proofs.Refusing.{refused_more}
 use Rattle.crd_admission.proofs.Rows.{at_metadata, past_metadata}
@@ -13,7 +13,7 @@ use Rattle.crd_admission.proofs.taking.judged.Goals as goal
 
 pub returns-in_err-o-clause-refused : goal.returns-in_err-o-clause-refused
 returns-in_err-o-clause-refused c =
-    let d = c.args.set.now in
+    let d = plain c.args.definition.now in
     let r = request_of c.args.input.now in
     let es : Pairs = c.args.fields in
     let p = err_from_is_err_and c.from_residual.result c.from_residual.ensures.1 in
@@ -21,7 +21,7 @@ returns-in_err-o-clause-refused c =
 
 pub returns-in-Err-judge_number-clause-refused : goal.returns-in-Err-judge_number-clause-refused
 returns-in-Err-judge_number-clause-refused c =
-    let d = c.args.set.now in
+    let d = plain c.args.definition.now in
     let r = request_of c.args.input.now in
     let es : Pairs = c.args.fields in
     let x : ObjectView = object_of c.in_ok-o.o in
