@@ -9,8 +9,8 @@ use Rattle.api_calls.specs.Objects.{Stored, find, moved, marked, marked_at, born
 use Rattle.api_calls.specs.State.{State, target_of, moved_storage, effect, number_after, number_from, next_number, opening, state_from, state, revision}
 use Rattle.api_calls.specs.Legal.{Each, IsNew, Follows, guard, legal_from, legal}
 use Rattle.api_calls.specs.Laws.{IsCounted, AreCounted}
-use Rattle.api_calls.specs.GrowthLaws.{next_number-revision}
-use Rattle.api_calls.specs.ObjectLaws.{each-find}
+use Rattle.api_calls.specs.laws.GrowthLaws.{next_number-revision}
+use Rattle.api_calls.specs.laws.ObjectLaws.{each-find}
 use Rattle.api_calls.proofs.Lists.{each, each-put, each-without, each-updated}
 
 -- what is counted up to the revision before an entry of number n, is up to the one after it

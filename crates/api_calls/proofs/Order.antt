@@ -3,7 +3,7 @@ use Rattle.std.proofs.Common.{◌≡◌, true, ap, ◌∙◌}
 use Rattle.std.specs.Ordering.{ordering_reverse, is_gt}
 use Rattle.std.specs.declared.cmp.Ordering.TheVariants.{Less, Equal, Greater}
 use Rattle.kube_meta.specs.Key.{KeyView, key_cmp}
-use Rattle.kube_meta.specs.KeyOrder.{key_cmp_total, key_cmp_one, key_cmp_itself}
+use Rattle.kube_meta.specs.laws.KeyOrder.{key_cmp_total, key_cmp_one, key_cmp_itself}
 
 pub itself : (k : KeyView) → key_cmp k k ≡ Equal
 itself k = key_cmp_itself k

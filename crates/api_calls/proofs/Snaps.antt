@@ -17,7 +17,7 @@ use Rattle.api_calls.proofs.Order.{itself, behind}
 use Rattle.api_calls.proofs.Numbers.{in_each, find-in, Old, old-step, old-from, IsNumbered, numbered-step, numbered-opening, later}
 use Rattle.api_calls.proofs.Sound.{sound-from, sound-opening}
 use Rattle.kube_meta.specs.Window.{RisesFrom, IsFloor, above}
-use Rattle.kube_meta.specs.WindowLaws.{is-floor, above-floor}
+use Rattle.kube_meta.specs.laws.WindowLaws.{is-floor, above-floor}
 use Rattle.api_calls.specs.Snap.{upto, snap, Past, past, entry_past, item_past, superseded_from, superseded, by_number, past_weight, floor, window, Supersedes}
 
 less : (a b : ℕ) → nat_lt a b ≡ true → a < b

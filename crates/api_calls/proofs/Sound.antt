@@ -17,7 +17,7 @@ use Rattle.api_calls.specs.State.{State, has, joined, target_or, target_of, move
 use Rattle.api_calls.specs.Legal.{Each, IsHeld, MayTouch, MayClaim, MayEnd, MaySucceed, MayStart, guard, legal_from, legal}
 use Rattle.api_calls.specs.Laws.{IsSoundState, AtMostOneRuns, KeepsPlan}
 use Rattle.api_calls.proofs.Lists.{each, each_two, each-put, each-without, each-updated, rising-put, rising-without, rising-updated, each-first}
-use Rattle.kube_meta.specs.PlanLaws.{covered-changed, covered-claimed}
+use Rattle.kube_meta.specs.laws.PlanLaws.{covered-changed, covered-claimed}
 
 pub number : (m n : ℕ) → nat_eq m n ≡ true → m ≡ n
 number m n h = grind (arith, nat_tests)

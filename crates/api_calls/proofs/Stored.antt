@@ -8,7 +8,7 @@ use Rattle.kube_meta.specs.View.{ObjectView}
 use Rattle.kube_meta.specs.Document.{document}
 use Rattle.api_calls.specs.Meaning.{Meaning, Weighs, unnumbered, stored_text, measure, chunks, stamped, widest}
 use Rattle.api_calls.specs.Versions.{StandsAt, IsStored, IsOneToOne, IgnoresStamps, Stand}
-use Rattle.api_calls.specs.SpelledLaws.{unnumbered-itself}
+use Rattle.api_calls.specs.laws.SpelledLaws.{unnumbered-itself}
 use Rattle.api_calls.proofs.OneDocument.{document_one}
 
 -- ---- one text, one object

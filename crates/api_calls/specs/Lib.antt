@@ -4,7 +4,6 @@ pub mod Reply
 pub mod Uid
 pub mod Cause
 pub mod Item
-pub mod ItemCode
 pub mod Meaning
 pub mod Objects
 pub mod State
@@ -13,19 +12,14 @@ pub mod Legal
 pub mod Named
 pub mod Snap
 pub mod Laws
-pub mod ObjectLaws
-pub mod GrowthLaws
 pub mod Versions
 pub mod Spelled
-pub mod SpelledLaws
 pub mod Values
 pub mod Ends
 pub mod Writes
 pub mod Settings
 pub mod Work
 pub mod Pages
-pub mod SettingGuards
-pub mod WorkGuards
 pub mod Token
 pub mod Priority
 pub mod Documents
@@ -34,3 +28,5 @@ pub mod Readings
 pub mod Replies
 pub mod Calls
 pub mod ReplyLaws
+pub mod laws
+pub mod inner

@@ -12,7 +12,7 @@ impl Model for LogItem {
 
     ghost Value = { Logged };
 
-    ghost use Rattle.api_calls.specs.ItemCode.{logged_code};
+    ghost use Rattle.api_calls.specs.laws.ItemCode.{logged_code};
 
     ghost coded = { logged_code };
 

@@ -17,7 +17,7 @@ use Rattle.api_calls.specs.State.{served, next_number, revision, state}
 use Rattle.api_calls.specs.Room.{lacking}
 use Rattle.api_calls.specs.Legal.{IsNew, MayCreate}
 use Rattle.api_calls.specs.Snap.{past}
-use Rattle.api_calls.specs.GrowthLaws.{next_number-revision}
+use Rattle.api_calls.specs.laws.GrowthLaws.{next_number-revision}
 use Rattle.api_calls.specs.Ends.{WriteEnd, done, unserved, present as exists, storage_moved, full, Decision, says, enters, EndsAsDecided, bound}
 use Rattle.api_calls.specs.Writes.{create_commit, with_room, if_storage}
 use Rattle.api_core.specs.declared.seen.Prepared.{Prepared}
@@ -25,9 +25,9 @@ use Rattle.api_core.specs.View.{CoreView}
 use Rattle.api_core.specs.Keeps.{KeepsObject, IsText}
 use Rattle.api_core.specs.Stands.{Stands}
 use Rattle.api_core.specs.Prepared.{PreparesValue, record_for}
-use Rattle.api_core.specs.PairLaws.{pairs-room, looked-some, looked-none}
+use Rattle.api_core.specs.laws.PairLaws.{pairs-room, looked-some, looked-none}
 use Rattle.api_core.proofs.Growing.{Puts, written, written-stands}
-use Rattle.api_core.specs.DecideLaws.{unless-done, unless-full, unless-present, unless-gone, unless-moved, said, entered, unequal, decides-served, ends-unserved, absent, present, storage-same}
+use Rattle.api_core.specs.laws.DecideLaws.{unless-done, unless-full, unless-present, unless-gone, unless-moved, said, entered, unequal, decides-served, ends-unserved, absent, present, storage-same}
 
 -- ---- what the store answers where absence is asked for
 

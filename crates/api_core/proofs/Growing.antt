@@ -16,11 +16,11 @@ use Rattle.api_calls.specs.Objects.{Stored, find, put, without}
 use Rattle.api_calls.specs.State.{State, entry_effect, effect, next_number, revision, state}
 use Rattle.api_calls.specs.Legal.{legal, guard, entry_guard}
 use Rattle.api_calls.specs.Snap.{past, entry_past, item_past, floor, window}
-use Rattle.api_calls.specs.GrowthLaws.{next_number-more, next_number-revision, state-more, legal-more}
+use Rattle.api_calls.specs.laws.GrowthLaws.{next_number-more, next_number-revision, state-more, legal-more}
 use Rattle.api_core.specs.View.{CoreView}
 use Rattle.api_core.specs.Keeps.{KeepsObject, KeepsPast, IsFound}
 use Rattle.api_core.specs.Stands.{IsPresent, IsPast, HasLimits, Stands}
-use Rattle.api_core.specs.PairLaws.{pairs-find, pairs-put, pairs-without}
+use Rattle.api_core.specs.laws.PairLaws.{pairs-find, pairs-put, pairs-without}
 use Rattle.api_core.proofs.Superseding.{window-same, window-more}
 
 -- ---- numbers

@@ -18,7 +18,7 @@ use Rattle.api_core.specs.View.{CoreView}
 use Rattle.api_core.specs.Stands.{Stands}
 use Rattle.api_core.specs.Prepared.{KnownAt, IsFree, IsEnding}
 use Rattle.api_core.proofs.Growing.{dropped, dropped-stands}
-use Rattle.api_core.specs.DecideLaws.{entered, served_at, AtNumber, ends-unserved, ends-gone, ends-newer, at-number, decides-next}
+use Rattle.api_core.specs.laws.DecideLaws.{entered, served_at, AtNumber, ends-unserved, ends-gone, ends-newer, at-number, decides-next}
 
 module _ (m : Meaning) (c : CoreView) (log : List Item) (stands : Stands m c log) where
   -- the object at a number is removed by an entry

@@ -17,7 +17,7 @@ use Rattle.api_calls.specs.Objects.{Stored, find, marked, marked_at, born_or}
 use Rattle.api_calls.specs.State.{served, next_number, revision, state}
 use Rattle.api_calls.specs.Room.{lacking_chunks}
 use Rattle.api_calls.specs.Legal.{IsValue, MayReplace, MayMark}
-use Rattle.api_calls.specs.GrowthLaws.{next_number-revision}
+use Rattle.api_calls.specs.laws.GrowthLaws.{next_number-revision}
 use Rattle.api_calls.specs.Ends.{WriteEnd, done, kept, unserved, gone, newer, storage_moved, full, Decision, says, enters, EndsAsDecided, bound}
 use Rattle.api_calls.specs.Writes.{replace_commit, mark_commit, with_room, if_storage, at_number}
 use Rattle.api_core.specs.declared.seen.Prepared.{Prepared}
@@ -25,9 +25,9 @@ use Rattle.api_core.specs.View.{CoreView}
 use Rattle.api_core.specs.Keeps.{KeepsObject, IsText}
 use Rattle.api_core.specs.Stands.{Stands}
 use Rattle.api_core.specs.Prepared.{PreparesValue, KnownAt, Replacing, Marking, FitsAt, record_for}
-use Rattle.api_core.specs.PairLaws.{find-key, updated-put, pairs-chunks, looked-some}
+use Rattle.api_core.specs.laws.PairLaws.{find-key, updated-put, pairs-chunks, looked-some}
 use Rattle.api_core.proofs.Growing.{Puts, written, written-stands}
-use Rattle.api_core.specs.DecideLaws.{unless-done, unless-full, said, entered, unequal, served_at, AtNumber, ends-unserved, ends-gone, ends-newer, at-number, decides-next, storage-same}
+use Rattle.api_core.specs.laws.DecideLaws.{unless-done, unless-full, said, entered, unequal, served_at, AtNumber, ends-unserved, ends-gone, ends-newer, at-number, decides-next, storage-same}
 
 -- ---- what the store answers where a record stands at the number that is asked for
 

@@ -15,7 +15,7 @@ use Rattle.api_calls.specs.State.{State, has, joined, moved_storage, entry_effec
 use Rattle.api_calls.specs.Ends as ends
 use Rattle.api_calls.specs.Settings.{same_flags, set_decision, start_decision}
 use Rattle.api_core.specs.Ends.{start_end}
-use Rattle.api_core.specs.WorkRows.{migrations_of}
+use Rattle.api_core.specs.laws.WorkRows.{migrations_of}
 
 number : (m n : ℕ) → nat_eq m n ≡ true → m ≡ n
 number m n h = grind (arith, nat_tests)

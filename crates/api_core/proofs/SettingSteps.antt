@@ -16,15 +16,15 @@ use Rattle.api_calls.specs.Laws.{IsSoundState}
 use Rattle.api_calls.specs.Ends as ends
 use Rattle.api_calls.specs.Ends.{EndsAsDecided, bound, says, Decision}
 use Rattle.api_calls.specs.Settings.{same_flags, set_decision, first_unknown, first_held, trim_decision, start_decision}
-use Rattle.api_calls.specs.SettingGuards.{set-guard, trim-guard, start-guard}
+use Rattle.api_calls.specs.laws.SettingGuards.{set-guard, trim-guard, start-guard}
 use Rattle.record_store.specs.Standing.{item_at, first_held as first_standing}
 use Rattle.record_store.specs.View.{item_key}
 use Rattle.api_core.specs.View.{CoreView}
 use Rattle.api_core.specs.Stands.{Stands}
 use Rattle.api_core.specs.Ends.{start_end}
-use Rattle.api_core.specs.WorkRows.{migrations_of}
+use Rattle.api_core.specs.laws.WorkRows.{migrations_of}
 use Rattle.api_core.proofs.Sets.{after_storage, set-same, set-done, set-effect, Stays, Decided}
-use Rattle.api_core.specs.TrimLaws.{unkept, until, held_from, first_held-parts, pairs-first_held, trim-unknown, trim-held, trim-same, trim-done, all-unkept}
+use Rattle.api_core.specs.inner.TrimLaws.{unkept, until, held_from, first_held-parts, pairs-first_held, trim-unknown, trim-held, trim-same, trim-done, all-unkept}
 use Rattle.api_core.specs.Steps.{migrations-stand, stands-still, stands-same, number-stand}
 
 module _ (m : Meaning) (c : CoreView) (log : List Item) (st : Stands m c log) where

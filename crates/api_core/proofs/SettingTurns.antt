@@ -24,7 +24,7 @@ use Rattle.api_calls.specs.Settings.{same_flags, set_decision, first_unknown, tr
 use Rattle.api_core.proofs.Sets.{Decided, start-decided}
 use Rattle.api_core.specs.Steps.{migrations-stand}
 use Rattle.api_core.proofs.StoredLists.{room-joined, are_versions-joined, are_versions-filter}
-use Rattle.api_core.specs.TrimLaws.{unkept, until, held_from}
+use Rattle.api_core.specs.inner.TrimLaws.{unkept, until, held_from}
 use Rattle.api_core.proofs.SettingSteps.{set-entered, trim-held_end, trim-unchanged, trim-entered, start-entered}
 use Rattle.api_core.specs.CoreOf.{CoreOf, StandsFor, IsCore}
 

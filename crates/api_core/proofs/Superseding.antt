@@ -1,7 +1,7 @@
 -- The window and the floor of a list that goes on by one item.
 use Rattle.std.proofs.Common.{◌≡◌, ℕ, List, [], ◌∷◌, ◌++◌, Some, ap, sym, subst, refl, ◌∙◌}
 use Rattle.kube_meta.specs.Window.{newest, floor_from}
-use Rattle.kube_meta.specs.WindowLaws.{newest-more, floor-more}
+use Rattle.kube_meta.specs.laws.WindowLaws.{newest-more, floor-more}
 use Rattle.kube_meta.specs.WindowPairs.{AllPair, newest-pair, floor_from-pair}
 use Rattle.kube_meta.specs.declared.limits.Limits.{Limits}
 use Rattle.record_store.specs.View.{Item as RecordItem, Old, StoreView, old_by, old_weight}
@@ -11,7 +11,7 @@ use Rattle.api_calls.specs.Item.{Item}
 use Rattle.api_calls.specs.Objects.{Stored}
 use Rattle.api_calls.specs.State.{next_number, state}
 use Rattle.api_calls.specs.Snap.{Past, past, item_past, superseded, by_number, past_weight, floor, window}
-use Rattle.api_calls.specs.GrowthLaws.{superseded-more}
+use Rattle.api_calls.specs.laws.GrowthLaws.{superseded-more}
 use Rattle.api_core.specs.Keeps.{KeepsObject, KeepsPast}
 
 append-none : (ps : List Past) → ps ++ [] ≡ ps

@@ -16,7 +16,7 @@ use Rattle.migrate_core.specs.declared.records.Row.{Row}
 use Rattle.migrate_core.specs.View.{MigrationsView}
 use Rattle.migrate_core.specs.Rows as rows
 use Rattle.migrate_core.specs.Moves as moves
-use Rattle.migrate_core.specs.MoveLaws.{elsewhere-in_span}
+use Rattle.migrate_core.specs.laws.MoveLaws.{elsewhere-in_span}
 use Rattle.api_calls.specs.Meaning.{Meaning}
 use Rattle.api_calls.specs.Versions.{IsStored}
 use Rattle.api_calls.specs.Item.{Item, entry, Touch}
@@ -24,15 +24,15 @@ use Rattle.api_calls.specs.Objects.{Stored, find, moved, elsewhere}
 use Rattle.api_calls.specs.State.{State, target_of, next_number, revision, state}
 use Rattle.api_calls.specs.Ends.{touched, missed}
 use Rattle.api_calls.specs.Work.{Work, Turn, work_of, is_ready, touch_decision}
-use Rattle.api_calls.specs.WorkGuards.{touch-guard}
+use Rattle.api_calls.specs.inner.WorkGuards.{touch-guard}
 use Rattle.api_core.specs.declared.seen.Prepared.{Prepared}
 use Rattle.api_core.specs.View.{CoreView}
 use Rattle.api_core.specs.Keeps.{KeepsObject, IsFound}
 use Rattle.api_core.specs.Stands.{Stands}
 use Rattle.api_core.specs.Prepared.{PreparesValue, KnownAt, FitsAt, record_for}
-use Rattle.api_core.specs.PairLaws.{find-key, updated-put, pairs-find}
+use Rattle.api_core.specs.laws.PairLaws.{find-key, updated-put, pairs-find}
 use Rattle.api_core.proofs.Growing.{Puts, written, written-stands}
-use Rattle.api_core.specs.WorkRows.{row_of, elsewhere-rows}
+use Rattle.api_core.specs.laws.WorkRows.{row_of, elsewhere-rows}
 use Rattle.api_core.proofs.Touches.{touch-missed, touch-done, work_of-target}
 use Rattle.api_core.specs.Steps.{item_row, migrations-stand, rows-stand, number-stand}
 use Rattle.api_core.specs.Ready.{is_ready_item, IsFirst, IsNext}

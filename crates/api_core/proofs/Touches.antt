@@ -8,7 +8,7 @@ use Rattle.api_calls.specs.Objects.{find}
 use Rattle.api_calls.specs.State.{State, target_or, target_of}
 use Rattle.api_calls.specs.Ends.{idle, touched, missed, says, enters}
 use Rattle.api_calls.specs.Work.{Work, work_in, work_under, work_of, is_ready, ready_turn, touch_decision}
-use Rattle.api_core.specs.WorkRows.{work_of-claim}
+use Rattle.api_core.specs.laws.WorkRows.{work_of-claim}
 
 -- ---- decisions
 

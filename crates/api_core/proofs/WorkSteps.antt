@@ -11,10 +11,10 @@ use Rattle.api_calls.specs.State.{State, next_number, revision, state}
 use Rattle.api_calls.specs.Legal.{guard}
 use Rattle.api_calls.specs.Ends.{TurnEnd, idle, claimed, prepare, range_done, finished, EndsAsDecided, bound, says, enters}
 use Rattle.api_calls.specs.Work.{Work, Turn, work_of, turn_decision, give_back_of, give_back_decision}
-use Rattle.api_calls.specs.WorkGuards.{MayFinish, turn-guard, give_back-guard}
+use Rattle.api_calls.specs.inner.WorkGuards.{MayFinish, turn-guard, give_back-guard}
 use Rattle.api_core.specs.View.{CoreView}
 use Rattle.api_core.specs.Stands.{Stands}
-use Rattle.api_core.specs.WorkRows.{migrations_of}
+use Rattle.api_core.specs.laws.WorkRows.{migrations_of}
 use Rattle.api_core.proofs.Works.{Advanced, advance-prepare, advance-done, advance-lost, Taken, Marked, Rests}
 use Rattle.api_core.specs.Steps.{stands-still, stands-same, number-stand}
 use Rattle.api_core.specs.Turned.{WorkerTurned}

@@ -14,7 +14,7 @@ use Rattle.migrate_core.specs.declared.ends.Advance.{Advance}
 use Rattle.migrate_core.specs.declared.ends.Advance.TheVariants as advance
 use Rattle.migrate_core.specs.View.{MigrationsView}
 use Rattle.migrate_core.specs.Moves as moves
-use Rattle.migrate_core.specs.MoveLaws.{after_advance-prepared}
+use Rattle.migrate_core.specs.laws.MoveLaws.{after_advance-prepared}
 use Rattle.api_calls.specs.Meaning.{Meaning}
 use Rattle.api_calls.specs.Item.{Item}
 use Rattle.api_calls.specs.State.{revision, state}
@@ -22,8 +22,8 @@ use Rattle.api_calls.specs.Legal.{legal, MaySucceed}
 use Rattle.api_calls.specs.Ends as ends
 use Rattle.api_calls.specs.Ends.{EndsAsDecided, bound}
 use Rattle.api_calls.specs.Work.{turn_decision, touch_decision, give_back_decision, work_of}
-use Rattle.api_calls.specs.WorkGuards.{MayFinish}
-use Rattle.api_core.specs.WorkRows.{rows_of, migrations_of}
+use Rattle.api_calls.specs.inner.WorkGuards.{MayFinish}
+use Rattle.api_core.specs.laws.WorkRows.{rows_of, migrations_of}
 use Rattle.api_core.proofs.Works.{Advanced, advanced, claim-taken, mark-done, mark-none}
 use Rattle.api_core.specs.Steps.{item_row, migrations-stand, rows-stand}
 use Rattle.api_core.specs.declared.seen.Prepared.{Prepared}

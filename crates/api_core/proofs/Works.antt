@@ -15,7 +15,7 @@ use Rattle.api_calls.specs.Objects.{Stored, elsewhere}
 use Rattle.api_calls.specs.State.{State, entry_effect, note_effect}
 use Rattle.api_calls.specs.Ends.{idle, claimed as claim_taken, prepare, range_done, finished, says, enters}
 use Rattle.api_calls.specs.Work.{Work, work_of, idle_turn, turn_decision, give_back_decision}
-use Rattle.api_core.specs.WorkRows.{row_of, rows_of, migrations_of, keys-rows, elsewhere-rows, work_of-claim}
+use Rattle.api_core.specs.laws.WorkRows.{row_of, rows_of, migrations_of, keys-rows, elsewhere-rows, work_of-claim}
 
 -- ---- a claim goes on
 

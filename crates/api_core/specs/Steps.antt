@@ -13,11 +13,11 @@ use Rattle.api_calls.specs.Objects.{Stored}
 use Rattle.api_calls.specs.State.{State, effect, number_after, next_number, state}
 use Rattle.api_calls.specs.Legal.{guard}
 use Rattle.api_calls.specs.Snap.{Past, by_number, past_weight, item_past, superseded}
-use Rattle.api_calls.specs.GrowthLaws.{next_number-more, next_number-revision, state-more, legal-more, superseded-more}
+use Rattle.api_calls.specs.laws.GrowthLaws.{next_number-more, next_number-revision, state-more, legal-more, superseded-more}
 use Rattle.api_core.specs.View.{CoreView}
 use Rattle.api_core.specs.Keeps.{KeepsObject, KeepsPast}
 use Rattle.api_core.specs.Stands.{IsPresent, Stands}
-use Rattle.api_core.specs.WorkRows.{row_of, rows_of, migrations_of}
+use Rattle.api_core.specs.laws.WorkRows.{row_of, rows_of, migrations_of}
 
 -- ---- the parts
 

@@ -11,7 +11,7 @@ ghost use Rattle.api_calls.specs.Settings.{same_flags, set_decision, start_decis
 ghost use Rattle.api_calls.specs.Versions.{AreFlags, versions_of};
 ghost use Rattle.api_core.specs.Changes.{after_set, after_start, after_trim};
 ghost use Rattle.api_core.specs.Ends.{set_end, start_end, trim_end};
-ghost use Rattle.api_core.specs.TrimLaws.{held_from, until};
+ghost use Rattle.api_core.specs.inner.TrimLaws.{held_from, until};
 ghost use Rattle.api_core.specs.Turned.{revision_after_set, revision_after_start, revision_after_trim};
 ghost use Rattle.api_core.specs.CoreOf.{SameBase, StandsFor};
 

@@ -3,7 +3,7 @@ ghost use Rattle.std.specs.Prelude.{◌≡◌, ◌+◌, ◌<◌, ◌≤◌, ◌�
 ghost use Rattle.api_calls.specs.Settings.{first_unknown};
 ghost use Rattle.api_calls.specs.State.{has, joined};
 ghost use Rattle.api_calls.specs.Versions.{versions_of};
-ghost use Rattle.api_core.specs.TrimLaws.{unkept, until};
+ghost use Rattle.api_core.specs.inner.TrimLaws.{unkept, until};
 
 use api_calls::StoredList;
 

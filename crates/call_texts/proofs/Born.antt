@@ -10,8 +10,8 @@ use Rattle.api_calls.specs.Item.{Item, entry, note, Create, Replace, Mark, Relea
 use Rattle.api_calls.specs.Objects.{Stored, find, put, without, updated, moved, marked_at, born_or}
 use Rattle.api_calls.specs.State.{State, effect, moved_storage, number_after, number_from, next_number, opening, revision, state_from, state, target_of}
 use Rattle.api_calls.specs.Legal.{Each}
-use Rattle.api_calls.specs.ObjectLaws.{each-find}
-use Rattle.api_calls.specs.GrowthLaws.{next_number-revision}
+use Rattle.api_calls.specs.laws.ObjectLaws.{each-find}
+use Rattle.api_calls.specs.laws.GrowthLaws.{next_number-revision}
 
 -- an object that was created before a number
 abbrev pub BornBelow : ℕ → Stored → Type 0

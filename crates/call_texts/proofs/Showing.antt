@@ -12,7 +12,7 @@ use Rattle.api_calls.specs.State.{revision, served, state}
 use Rattle.api_calls.specs.Replies.{GetReply, IsShown, ShowsObject, code_ok}
 use Rattle.api_core.specs.declared.seen.Seen.{Seen}
 use Rattle.api_core.specs.declared.seen.Peeked.{Peeked}
-use Rattle.api_core.specs.DecideLaws.{found-some}
+use Rattle.api_core.specs.laws.DecideLaws.{found-some}
 use Rattle.api_core.specs.Keeps.{KeepsObject}
 use Rattle.api_core.specs.Prepared.{Sees, seen_item}
 use Rattle.call_texts.proofs.Born.{born-within}

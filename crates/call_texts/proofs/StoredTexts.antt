@@ -7,7 +7,7 @@ use Rattle.kube_meta.specs.View.{ObjectView}
 use Rattle.api_calls.specs.Documents.{reply_text}
 use Rattle.api_calls.specs.Meaning.{Meaning}
 use Rattle.api_calls.specs.Replies.{IsShown}
-use Rattle.api_calls.specs.SpelledLaws.{stored-text}
+use Rattle.api_calls.specs.laws.SpelledLaws.{stored-text}
 use Rattle.api_calls.specs.Versions.{IsStored, Stand}
 use Rattle.api_core.specs.declared.seen.Seen.{Seen}
 use Rattle.document_text.specs.Numbered.{IsBare}

@@ -7,7 +7,7 @@ use Rattle.httparse.specs.Spans.{IsChunkLineAt}
 use Rattle.httparse.proofs.ChunkLemmas.{chunk_line_unique}
 use Rattle.httparse.proofs.RunLemmas.{drop_split, length-slice_range}
 use Rattle.chunked_bodies.specs.Chunks.{Chunk, print_chunk, IsChunk, Body, IsBody, HasNoBody}
-use Rattle.chunked_bodies.specs.Walk.{Joins, GoesOn, HasTrailers, HasNoTrailers, HasChunk}
+use Rattle.chunked_bodies.specs.inner.Walk.{Joins, GoesOn, HasTrailers, HasNoTrailers, HasChunk}
 
 -- ---- how the bytes of a body are grouped
 

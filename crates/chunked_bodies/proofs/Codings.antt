@@ -5,7 +5,7 @@ use Rattle.std.proofs.lemmas.List.{get_or-map, length-map}
 use Rattle.httparse.specs.declared.spans.HeaderSpan.{HeaderSpan}
 use Rattle.httparse.specs.Spans.{header_bytes, span_bytes}
 use Rattle.chunked_bodies.specs.Response.{Pair, at, frames, is_chunked, IsChunkedAt}
-use Rattle.chunked_bodies.specs.Walk.{Found, IsNowhere}
+use Rattle.chunked_bodies.specs.inner.Walk.{Found, IsNowhere}
 use Rattle.chunked_bodies.proofs.Unique.{chunked_frames, not_both}
 
 -- a field that ends the body in another way

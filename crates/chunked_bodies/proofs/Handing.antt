@@ -4,7 +4,7 @@ use Rattle.httparse.specs.Grammar.{ResponseHead, print_response}
 use Rattle.httparse.proofs.GrammarLemmas.{response_unique}
 use Rattle.chunked_bodies.specs.Chunks.{ReadsBody, HasNoBody}
 use Rattle.chunked_bodies.specs.Response.{head_with_length, HasNoChunked, HandsOn, joined, other}
-use Rattle.chunked_bodies.specs.Walk.{Joins, IsHeadAt, HasNoChunkedHead, Rewrites}
+use Rattle.chunked_bodies.specs.inner.Walk.{Joins, IsHeadAt, HasNoChunkedHead, Rewrites}
 use Rattle.chunked_bodies.specs.declared.head.ChunkedHead.{ChunkedHead}
 use Rattle.chunked_bodies.proofs.Bodies.{rest_all}
 

@@ -14,7 +14,7 @@ use Rattle.httparse.proofs.GrammarLemmas.{cons-append, print_response-append, re
 use Rattle.chunked_bodies.specs.declared.TheConstants.{MOST_FIELDS}
 use Rattle.chunked_bodies.specs.declared.head.ChunkedHead.{ChunkedHead}
 use Rattle.chunked_bodies.specs.Response.{Pair, IsChunkedAt, IsChunkedHead, length_line, head_with_length}
-use Rattle.chunked_bodies.specs.Walk.{IsInLine, IsNowhere, IsHeadAt, status_line, before_field}
+use Rattle.chunked_bodies.specs.inner.Walk.{IsInLine, IsNowhere, IsHeadAt, status_line, before_field}
 use lib.Seq.{take-append_seam, drop-append_seam}
 
 -- ---- the first line feed

@@ -1,3 +1,3 @@
 pub mod Chunks
 pub mod Response
-pub mod Walk
+pub mod inner

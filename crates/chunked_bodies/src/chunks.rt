@@ -3,7 +3,7 @@ ghost use Rattle.std.specs.Prelude.{◌≤◌, ◌<◌, ◌+◌, length, MatchOp
 ghost use Rattle.httparse.specs.Grammar.{ChunkLine};
 ghost use Rattle.httparse.specs.Spans.{IsChunkLineAt};
 ghost use Rattle.chunked_bodies.specs.Chunks.{HasNoBody};
-ghost use Rattle.chunked_bodies.specs.Walk.{Joins, Comes, HasTrailers, HasNoTrailers};
+ghost use Rattle.chunked_bodies.specs.inner.Walk.{Joins, Comes, HasTrailers, HasNoTrailers};
 
 use crate::MOST_FIELDS;
 use httparse::spans::{EMPTY_HEADER_SPAN, parse_headers};

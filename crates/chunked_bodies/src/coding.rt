@@ -3,7 +3,7 @@ ghost use Rattle.std.specs.Prelude.{◌≡◌, length, map, All, MatchOption};
 ghost use Rattle.std.specs.Str.{str_eq_ignore_ascii_case};
 ghost use Rattle.httparse.specs.Spans.{header_bytes, IsHeaderWithin};
 ghost use Rattle.chunked_bodies.specs.Response.{frames as frames_of, is_chunked as is_chunked_of, IsChunkedAt};
-ghost use Rattle.chunked_bodies.specs.Walk.{IsNowhere};
+ghost use Rattle.chunked_bodies.specs.inner.Walk.{IsNowhere};
 
 use httparse::spans::HeaderSpan;
 

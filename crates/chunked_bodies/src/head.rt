@@ -2,7 +2,7 @@
 ghost use Rattle.std.specs.Prelude.{◌≡◌, ◌≤◌, ◌<◌, length, slice_index, MatchOption};
 ghost use Rattle.httparse.specs.Grammar.{ResponseHead};
 ghost use Rattle.httparse.specs.Spans.{IsResponseWithin, IsResponseOf};
-ghost use Rattle.chunked_bodies.specs.Walk.{IsHeadAt, HasNoChunkedHead};
+ghost use Rattle.chunked_bodies.specs.inner.Walk.{IsHeadAt, HasNoChunkedHead};
 
 use crate::MOST_FIELDS;
 use crate::coding::coding_of;

@@ -2,7 +2,7 @@
 ghost use Rattle.std.specs.Prelude.{◌≡◌, ◌≤◌, ◌+◌, ◌∷◌, ◌++◌, [], List, ℕ, length, drop};
 ghost use Rattle.httparse.specs.Ascii.{line_feed};
 ghost use Rattle.httparse.specs.Grammar.{ResponseHead, ReadsResponse};
-ghost use Rattle.chunked_bodies.specs.Walk.{IsInLine, before_field};
+ghost use Rattle.chunked_bodies.specs.inner.Walk.{IsInLine, before_field};
 
 /// Where the line that begins there ends, behind its line feed.
 pub(crate) fn line_end(bytes: &[u8], from: usize) -> usize

@@ -2,7 +2,7 @@
 ghost use Rattle.std.specs.Prelude.{◌≡◌, ◌≤◌, ◌++◌, length, slice_range, MatchOption, IfOk, OnOk};
 ghost use Rattle.httparse.specs.Grammar.{ResponseHead, print_field, print_response};
 ghost use Rattle.chunked_bodies.specs.Response.{HasNoChunked, HandsOn, length_line, head_with_length};
-ghost use Rattle.chunked_bodies.specs.Walk.{IsHeadAt, Rewrites};
+ghost use Rattle.chunked_bodies.specs.inner.Walk.{IsHeadAt, Rewrites};
 
 use crate::chunks::joined;
 use crate::head::{ChunkedHead, chunked_head};

@@ -9,15 +9,15 @@ use Rattle.api_calls.specs.Meaning.{Meaning}
 use Rattle.api_calls.specs.Item.{Item}
 use Rattle.api_calls.specs.Objects.{Stored, find}
 use Rattle.api_calls.specs.State.{revision, state}
-use Rattle.api_calls.specs.WorkGuards.{turn-prepares}
+use Rattle.api_calls.specs.inner.WorkGuards.{turn-prepares}
 use Rattle.api_core.specs.declared.seen.Prepared.{Prepared}
 use Rattle.api_core.specs.View.{CoreView}
 use Rattle.api_core.specs.Keeps.{IsFound}
 use Rattle.api_core.specs.Stands.{Stands}
 use Rattle.api_core.specs.Prepared.{FitsAt}
-use Rattle.api_core.specs.PairLaws.{pairs-find}
+use Rattle.api_core.specs.laws.PairLaws.{pairs-find}
 use Rattle.api_core.specs.Ready.{IsNext}
-use Rattle.api_core.specs.CoreLaws.{next-later}
+use Rattle.api_core.specs.laws.CoreLaws.{next-later}
 use Rattle.core_laws.specs.Known.{Matches, WasAsked}
 
 found-fits : (m : Meaning) (k : KeyView) (expected : ℕ) (p : Prepared) (x : Option RecordItem) (e : Option Stored) → IsFound m x e → Matches k expected p e → FitsAt k expected p x

@@ -6,7 +6,7 @@ use Rattle.api_calls.specs.Item.{Item, entry, note}
 use Rattle.api_calls.specs.State.{entries}
 use Rattle.api_core.specs.View.{CoreView}
 use Rattle.api_core.specs.Stands.{Stands}
-use Rattle.api_core.specs.ClaimLaws.{last-few}
+use Rattle.api_core.specs.laws.ClaimLaws.{last-few}
 
 entries-few : (log : List Item) → entries log ≤ length log
 entries-few [] = omega arith

@@ -4,7 +4,7 @@ use Rattle.std.specs.Prelude.{flat_map}
 use Rattle.kj_value.specs.Json.{Json, list, object, items_of, members_of}
 use Rattle.kj_value.specs.Fields.{Pairs}
 use Rattle.kj_value.specs.Text.{escaped_byte, quoted, text_of, more_items, members_text, more_members}
-use Rattle.crd_admission.specs.Count.{field_bytes, total}
+use Rattle.crd_admission.specs.inner.Count.{field_bytes, total}
 
 pub length-quoted : (s : List ℕ) → length (quoted s) ≡ 2 + length (flat_map escaped_byte s)
 length-quoted s = omega (arith, length-append (flat_map escaped_byte s) (34 ∷ []))

@@ -6,7 +6,7 @@ use Rattle.kj_value.specs.Sound.{IsSoundJson, AreSoundItems, AreRising}
 use Rattle.struct_schema.specs.Shape.{Shape, shape, own, Shapes, no_shapes, shape_at, MaybeShapes, no_map, some_map, MaybeShape, no_shape, some_shape}
 use Rattle.struct_schema.specs.Names.{is_name, value_at}
 use Rattle.struct_schema.specs.Filled.{is_object, is_array, is_forbidden, PresentFilled, PropertyFilled, EachItem, AtEachItem, AtEachName, Filled, NameFilled, NamedFilled, RestFilled, ItemFilled}
-use Rattle.struct_schema.specs.NameLaws.{one_name, own_name, gone}
+use Rattle.struct_schema.specs.laws.NameLaws.{one_name, own_name, gone}
 use Rattle.api_calls.specs.declared.versions.TheConstants.{OBJECT_LEVELS}
 use Rattle.crd_admission.specs.Low.{IsWithin, WithinAt, HasLowDefaults, LowInMap, LowInShapes, LowInMaybe}
 use Rattle.crd_admission.proofs.Lookup.{AtSound, at_sound}

@@ -10,7 +10,7 @@ use Rattle.kj_value.specs.Text.{text_of}
 use Rattle.kube_meta.specs.View.{MetaView, ObjectView}
 use Rattle.kube_meta.specs.Document.{optional, some_text, some_texts, some_list, some_generation, metadata, document}
 use Rattle.api_calls.specs.Meaning.{longest_stamp, measure}
-use Rattle.crd_admission.specs.Count.{field_bytes, total, other_bytes, meta_bytes, document_bytes}
+use Rattle.crd_admission.specs.inner.Count.{field_bytes, total, other_bytes, meta_bytes, document_bytes}
 use Rattle.crd_admission.proofs.Bytes.{length-object_some}
 use Rattle.crd_admission.proofs.FieldBytes.{total-append, in_order, in_order-with, total-none, total-same, skip, same_test, total-with}
 

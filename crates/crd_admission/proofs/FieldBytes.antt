@@ -10,7 +10,7 @@ use Rattle.std.proofs.lemmas.Map.Text.{is_eq-slice_cmp}
 use Rattle.kj_value.specs.Json.{Json, members_of}
 use Rattle.kj_value.specs.Sound.{AreRising}
 use Rattle.kj_value.specs.Fields.{Pairs, with_field, IsBelowFirst, AreInOrder}
-use Rattle.crd_admission.specs.Count.{total}
+use Rattle.crd_admission.specs.inner.Count.{total}
 
 pub total-none : (f : List ℕ × Json → ℕ) (ps : Pairs) → length ps ≡ 0 → total f ps ≡ 0
 total-none f [] h = refl

@@ -4,7 +4,7 @@ use Rattle.std.specs.Prelude.{is_some, slice_index_or, codes}
 use Rattle.kj_value.specs.Json.{Json, null, boolean, whole, text, list, object, Items, no_items, item, Members, no_members, member}
 use Rattle.kube_meta.specs.Names.{is_namespace}
 use Rattle.struct_schema.specs.Names.{is_name, value_at}
-use Rattle.struct_schema.specs.NameLaws.{one_name}
+use Rattle.struct_schema.specs.laws.NameLaws.{one_name}
 use Rattle.schema_reading.specs.Allowed.{is_object_value}
 use Rattle.crd_reading.specs.Words.{spelled}
 use Rattle.crd_reading.specs.Table.{rows, has_names, has_items, place_in}

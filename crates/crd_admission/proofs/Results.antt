@@ -18,7 +18,7 @@ use Rattle.crd_meaning.specs.Request.{breaks}
 use Rattle.crd_meaning.specs.Admission.{own_name, IsHubOf, IsLight}
 use Rattle.crd_meaning.specs.Refusal.{annotation_prefix, object_path}
 use Rattle.crd_admission.specs.NoHub.{HasNoHub, unread, heavy, IsTold}
-use Rattle.crd_admission.specs.Weighing.{IsWeightOf}
+use Rattle.crd_admission.specs.inner.Weighing.{IsWeightOf}
 
 pub if_ok : {A E : Type 0} (P Q : A → Type 0) (r : Result A E) → ((x : A) → P x → Q x) → IfOk r P → IfOk r Q
 if_ok P Q (Ok x) f h = f x h

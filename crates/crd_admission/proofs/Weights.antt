@@ -9,7 +9,7 @@ use Rattle.crd_meaning.specs.Definition.{Definition, count_of}
 use Rattle.crd_meaning.specs.Objects.{IsWholeValue, IsFormAt}
 use Rattle.crd_meaning.specs.Admission.{IsLight}
 use Rattle.crd_meaning.specs.Meant.{meant}
-use Rattle.crd_admission.specs.Weighing.{AreWeighed}
+use Rattle.crd_admission.specs.inner.Weighing.{AreWeighed}
 
 at_or_below : (u v : ℕ) → u < v + 1 → (u < v) ⊎ (u ≡ v)
 at_or_below u v p = grind arith

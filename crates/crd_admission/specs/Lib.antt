@@ -1,5 +1,4 @@
 pub mod Low
 pub mod Steps
-pub mod Count
 pub mod NoHub
-pub mod Weighing
+pub mod inner

@@ -4,7 +4,7 @@ ghost use Rattle.kj_value.specs.Json.{text};
 ghost use Rattle.kj_value.specs.Text.{quoted};
 ghost use Rattle.kube_meta.specs.View.{meta_of};
 ghost use Rattle.kube_meta.specs.Document.{some_text, some_texts, some_list};
-ghost use Rattle.crd_admission.specs.Count.{Leaves, field_bytes, optional_bytes, meta_bytes};
+ghost use Rattle.crd_admission.specs.inner.Count.{Leaves, field_bytes, optional_bytes, meta_bytes};
 
 use crate::values::{list, spend, text};
 use kj_value::{JItems, TextField, TextList, TextMap, Txt};

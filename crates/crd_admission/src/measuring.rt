@@ -4,7 +4,7 @@ ghost use Rattle.kj_value.specs.Pair.{pair_of};
 ghost use Rattle.kube_meta.specs.View.{meta_of, object_of};
 ghost use Rattle.api_calls.specs.Meaning.{measure};
 ghost use Rattle.kube_meta.specs.Shapes.{shaped};
-ghost use Rattle.crd_admission.specs.Count.{Leaves, document_bytes, is_own, other_bytes, total};
+ghost use Rattle.crd_admission.specs.inner.Count.{Leaves, document_bytes, is_own, other_bytes, total};
 
 use crate::measured_meta::{metadata, named, text_at};
 use crate::values::{field, spend};

@@ -5,7 +5,7 @@ ghost use Rattle.kj_value.specs.Json.{boolean, list, object, items_of, members_o
 ghost use Rattle.kj_value.specs.Seen.{json};
 ghost use Rattle.kj_value.specs.Pair.{pair_of};
 ghost use Rattle.kj_value.specs.Text.{escaped_byte, quoted, text_of};
-ghost use Rattle.crd_admission.specs.Count.{Leaves, field_bytes};
+ghost use Rattle.crd_admission.specs.inner.Count.{Leaves, field_bytes};
 
 use itoa::Buffer;
 use kj_value::{Field, JFields, JItems, JVal};

@@ -6,7 +6,7 @@ ghost use Rattle.keep_laws.specs.WholeHub.{IsWholeHub};
 ghost use Rattle.crd_meaning.specs.declared.limits.TheConstants.{MAX_MEASURE};
 ghost use Rattle.crd_meaning.specs.Definition.{Definition, IsLoaded, count_of};
 ghost use Rattle.crd_meaning.specs.Objects.{IsFormAt, IsWholeValue};
-ghost use Rattle.crd_admission.specs.Weighing.{IsKept, IsMeasure, IsWeightOf, form_of};
+ghost use Rattle.crd_admission.specs.inner.Weighing.{IsKept, IsMeasure, IsWeightOf, form_of};
 
 use crate::measuring::{measure_shape, measure_within};
 use crd_loading::LoadedVersions;

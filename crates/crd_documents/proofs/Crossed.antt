@@ -27,7 +27,7 @@ use Rattle.crd_meaning.proofs.Made.{spoke_form}
 use Rattle.crd_meaning.proofs.Seats.{first_spoke}
 use Rattle.crd_meaning.specs.Converted.{IsOneWith}
 use Rattle.crd_admission.specs.NoHub.{IsUnreadAt, IsTold}
-use Rattle.crd_documents.specs.Steps.{IsOfVersion, HasHub}
+use Rattle.crd_documents.specs.inner.Steps.{IsOfVersion, HasHub}
 use Rattle.keep_laws.proofs.Trips.{back_settles}
 use Rattle.crd_documents.proofs.Standing.{spoke_body}
 

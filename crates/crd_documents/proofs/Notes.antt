@@ -7,7 +7,7 @@ use Rattle.std.proofs.lemmas.Cmp.{nat_list_cmp_total}
 use Rattle.kj_value.specs.Json.{text, object, members_of}
 use Rattle.kj_value.specs.Fields.{Pairs, with_field, AreInOrder}
 use Rattle.kube_meta.specs.Document.{text_fields}
-use Rattle.kube_meta.specs.Following.{IsAfter, Follows}
+use Rattle.kube_meta.specs.inner.Following.{IsAfter, Follows}
 use Rattle.kube_meta.specs.View.{Texts}
 use Rattle.kube_meta.proofs.InOrder.{with_field-behind, follows-with}
 use Rattle.crd_meaning.specs.Converted.{with_notes}

@@ -22,7 +22,7 @@ use Rattle.crd_meaning.specs.Unconverted.{IsUnconverted, is_early, is_broken, ba
 use Rattle.crd_admission.specs.NoHub.{IsUnreadAt}
 use Rattle.crd_admission.specs.Low.{IsWithin, HasLowDefaults}
 use Rattle.crd_admission.specs.Steps.{BreaksRule}
-use Rattle.crd_documents.specs.Steps.{IsOfVersion}
+use Rattle.crd_documents.specs.inner.Steps.{IsOfVersion}
 use Rattle.crd_documents.proofs.Depths.{body_within}
 
 none_of : (o : Option CheckFault) → is_none o ≡ true → o ≡ None

@@ -14,7 +14,7 @@ use Rattle.crd_meaning.specs.Definition.{Definition}
 use Rattle.crd_meaning.specs.Request.{Judged, first_there, breaks, metadata_fault, metadata_field, given_name, meta_fields}
 use Rattle.crd_meaning.specs.Document.{version_path, kind_path, is_version, judged_metadata, metadata_rows, kind_row, rows, early}
 use Rattle.crd_admission.specs.Steps.{IsFirst, has_kind}
-use Rattle.crd_documents.specs.Steps.{IsBadMetadata}
+use Rattle.crd_documents.specs.inner.Steps.{IsBadMetadata}
 
 -- ---- one row
 

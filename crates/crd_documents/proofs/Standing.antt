@@ -12,7 +12,7 @@ use Rattle.keep_laws.proofs.SpokesFitted.{hub_body_each}
 use Rattle.crd_meaning.specs.Definition.{Definition, Seat, at_hub, at_spoke, seat, version_at, IsSpokeOf, IsSeated, IsLoaded}
 use Rattle.crd_meaning.proofs.Seats.{hub_is, first_spoke}
 use Rattle.crd_meaning.specs.Converted.{schema_at}
-use Rattle.crd_documents.specs.Steps.{IsOfVersion}
+use Rattle.crd_documents.specs.inner.Steps.{IsOfVersion}
 
 one_spoke : (s t : Spoke) → Some s ≡ Some t → s ≡ t
 one_spoke s t e = cc

@@ -14,7 +14,7 @@ use Rattle.crd_meaning.specs.Request.{meta_fields}
 use Rattle.crd_meaning.specs.Document.{judged_metadata, numberless, IsGiven}
 use Rattle.crd_meaning.specs.Converted.{metadata_in}
 use Rattle.crd_admission.specs.Steps.{has_kind}
-use Rattle.crd_documents.specs.Steps.{IsNamed, numberless_meta}
+use Rattle.crd_documents.specs.inner.Steps.{IsNamed, numberless_meta}
 use Rattle.crd_documents.proofs.Rows.{nothing_early}
 
 -- the object of these metadata and of what is left of a document

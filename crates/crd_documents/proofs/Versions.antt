@@ -10,7 +10,7 @@ use Rattle.crd_reading.specs.View.{VersionView}
 use Rattle.keep_laws.specs.Spokes.{api_version}
 use Rattle.crd_meaning.specs.Definition.{Definition, no_version, count_of, version_at}
 use Rattle.crd_meaning.specs.Document.{is_version}
-use Rattle.crd_documents.specs.Steps.{IsNamedBy, IsNamed}
+use Rattle.crd_documents.specs.inner.Steps.{IsNamedBy, IsNamed}
 
 -- ---- among the versions
 

@@ -12,7 +12,7 @@ ghost use Rattle.crd_meaning.specs.Objects.{IsFormAt};
 ghost use Rattle.crd_meaning.specs.Admission.{own_name};
 ghost use Rattle.crd_meaning.specs.Converted.{IsOneWith, IsUnreadDocument};
 ghost use Rattle.crd_admission.specs.NoHub.{IsUnreadAt};
-ghost use Rattle.crd_documents.specs.Steps.{IsOfVersion, HasHub};
+ghost use Rattle.crd_documents.specs.inner.Steps.{IsOfVersion, HasHub};
 
 use api_calls::AdmitFault;
 use crd_admission::badly_kept;

@@ -8,7 +8,7 @@ ghost use Rattle.api_calls.specs.Versions.{Refused};
 ghost use Rattle.crd_meaning.specs.Request.{breaks, given_name};
 ghost use Rattle.crd_meaning.specs.Document.{is_version, rows};
 ghost use Rattle.crd_admission.specs.Steps.{IsFirst, has_kind};
-ghost use Rattle.crd_documents.specs.Steps.{IsNamed};
+ghost use Rattle.crd_documents.specs.inner.Steps.{IsNamed};
 
 use crate::metadata::name_in;
 use crate::naming::version_named;

@@ -7,7 +7,7 @@ ghost use Rattle.object_reading.specs.Fields.{given, object_at};
 ghost use Rattle.object_reading.specs.Parts.{text_or_empty};
 ghost use Rattle.object_reading.specs.Refusal.{bad_meta, first_holding, Tells};
 ghost use Rattle.crd_meaning.specs.Document.{judged_fields, judged_metadata};
-ghost use Rattle.crd_documents.specs.Steps.{numberless_meta};
+ghost use Rattle.crd_documents.specs.inner.Steps.{numberless_meta};
 
 use kj_value::{JFields, JVal, NoMemory, Txt};
 use kube_meta::Meta;

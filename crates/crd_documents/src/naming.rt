@@ -2,7 +2,7 @@
 ghost use Rattle.std.specs.Prelude.{◌≡◌, ◌<◌, false, true, MatchOption};
 ghost use Rattle.crd_meaning.specs.Definition.{count_of, version_at};
 ghost use Rattle.crd_meaning.specs.Document.{is_version};
-ghost use Rattle.crd_documents.specs.Steps.{IsNamedBy};
+ghost use Rattle.crd_documents.specs.inner.Steps.{IsNamedBy};
 
 use crd_admission::is_version_text;
 use crd_loading::LoadedVersions;

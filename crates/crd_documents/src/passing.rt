@@ -8,7 +8,7 @@ ghost use Rattle.api_calls.specs.Versions.{Refused};
 ghost use Rattle.api_calls.specs.declared.versions.TheConstants.{OBJECT_LEVELS};
 ghost use Rattle.crd_meaning.specs.Converted.{IsPassed, metadata_in};
 ghost use Rattle.crd_meaning.specs.Unconverted.{IsUnconverted};
-ghost use Rattle.crd_documents.specs.Steps.{IsOfVersion};
+ghost use Rattle.crd_documents.specs.inner.Steps.{IsOfVersion};
 
 use crate::reading::{Reading, taken};
 use api_calls::AdmitFault;

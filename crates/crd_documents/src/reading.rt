@@ -11,7 +11,7 @@ ghost use Rattle.api_calls.specs.Versions.{Refused};
 ghost use Rattle.crd_meaning.specs.Request.{meta_fields};
 ghost use Rattle.crd_meaning.specs.Converted.{metadata_in};
 ghost use Rattle.crd_meaning.specs.Document.{early, IsGiven, judged_metadata};
-ghost use Rattle.crd_documents.specs.Steps.{numberless_meta, IsBadMetadata};
+ghost use Rattle.crd_documents.specs.inner.Steps.{numberless_meta, IsBadMetadata};
 
 use crate::faults::broken;
 use crate::judging::judge;

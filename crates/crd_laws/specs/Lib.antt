@@ -1,6 +1,6 @@
 pub mod Loaded
-pub mod OneText
 pub mod Known
 pub mod Opening
 pub mod Faults
 pub mod Laws
+pub mod laws

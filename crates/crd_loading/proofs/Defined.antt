@@ -22,7 +22,7 @@ use Rattle.crd_reading.specs.ValidDefaults.{HaveValidDefaults}
 use Rattle.crd_loading.specs.Fits.{IsRuled, spokes_from, spokes_of, levels_in}
 use Rattle.crd_loading.specs.View.{LoadedView, FitVersions, IsTogether}
 use Rattle.crd_loading.specs.Set.{named_fits, spokes_in}
-use Rattle.crd_loading.specs.Following.{version_names}
+use Rattle.crd_loading.specs.inner.Following.{version_names}
 use Rattle.crd_meaning.specs.Definition.{no_version}
 use Rattle.crd_loading.proofs.Names.{all_names}
 use Rattle.crd_loading.proofs.OwnAllowed.{HasGoodDefaults, fit_allows}

@@ -3,7 +3,7 @@ use Rattle.std.proofs.Common.{◌≡◌, ℕ, List, [], ◌∷◌, ◌++◌, ref
 use Rattle.kj_value.specs.Json.{Json, Members, member, members_of}
 use Rattle.kj_value.specs.Sound.{AreRising}
 use Rattle.kj_value.specs.Fields.{Pairs, with_field}
-use Rattle.kj_value.specs.Last.{names, with_field_last}
+use Rattle.kj_value.specs.laws.Last.{names, with_field_last}
 use Rattle.crd_loading.specs.Known.{each_field, mapped}
 
 pub each_mapped : (g : List ℕ → Json → Json) (es : Pairs) → members_of (mapped g es) ≡ each_field g (members_of es)

@@ -22,7 +22,7 @@ use Rattle.crd_reading.specs.Told.{NamesDefinitionFault as NamesRefusal}
 use Rattle.crd_reading.specs.declared.reading.DefinitionFault.TheVariants.{Refused}
 use Rattle.crd_loading.specs.Blame.{blame, of_definition, of_fit}
 use Rattle.crd_loading.specs.Fits.{IsRuled, Placed, version_from, spokes_of, fits_of}
-use Rattle.crd_loading.specs.AllFitted.{AllFitted}
+use Rattle.crd_loading.specs.inner.AllFitted.{AllFitted}
 use Rattle.crd_loading.specs.View.{FitVersions, FitHub}
 
 pub ruled : (s h : Shape) (rs : Rules) (f : Fit) → f ≡ fit_of 0 s h rs → AreSoundRules rs → inner_depth rs ≤ MAX_OBJECTS → IsFitted f → IsRuled f

@@ -7,7 +7,7 @@ use Rattle.hub_cells.specs.Level.{Name, IsFresh, AreDistinct}
 use Rattle.crd_reading.specs.View.{VersionView}
 use Rattle.crd_reading.specs.Offered.{has_version, names_differ}
 use Rattle.crd_loading.specs.Fits.{spokes_of}
-use Rattle.crd_loading.specs.Following.{version_names}
+use Rattle.crd_loading.specs.inner.Following.{version_names}
 use Rattle.crd_loading.proofs.Without.{without, names_without, spokes_are}
 
 -- ---- from the test

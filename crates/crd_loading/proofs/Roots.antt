@@ -5,7 +5,7 @@ use Rattle.kj_value.specs.Json.{Json, null, boolean, whole, text, list, object, 
 use Rattle.struct_schema.specs.Shape.{Shape, Shapes, some_shape, MaybeShapes, properties, no_shape}
 use Rattle.struct_schema.specs.Names.{is_name, shape_named, property}
 use Rattle.struct_schema.specs.OwnDefaults.{HasOwnDefaults}
-use Rattle.struct_schema.specs.NameLaws.{one_name}
+use Rattle.struct_schema.specs.laws.NameLaws.{one_name}
 use Rattle.prune_default.specs.SoundDefaults.{HasSoundDefaults}
 use Rattle.schema_reading.specs.Words.{meta_type}
 use Rattle.schema_reading.specs.ShapeRead.{shape_read, map_read, named_read, shapes_read, property_read}

@@ -5,7 +5,7 @@ use Rattle.std.proofs.lemmas.Bool.Decides.{Decides-eqb}
 use Rattle.hub_cells.specs.Level.{Name}
 use Rattle.crd_reading.specs.View.{VersionView}
 use Rattle.crd_loading.specs.Fits.{spokes_from, spokes_of}
-use Rattle.crd_loading.specs.Following.{version_names}
+use Rattle.crd_loading.specs.inner.Following.{version_names}
 
 abbrev pub without : {A : Type 0} → ℕ → List A → List A
 without m [] = []

@@ -2,12 +2,9 @@ pub mod Words
 pub mod Blame
 pub mod Known
 pub mod Fits
-pub mod AllFitted
 pub mod View
-pub mod ViewCode
 pub mod Load
 pub mod Told
-pub mod SetCode
 pub mod Passed
 pub mod Set
-pub mod Following
+pub mod inner

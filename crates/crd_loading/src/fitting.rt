@@ -3,7 +3,7 @@ ghost use Rattle.std.specs.Prelude.{◌≡◌, ◌++◌, ◌∷◌, [], cond, tr
 ghost use Rattle.struct_schema.specs.ShapeOf.{shape_of};
 ghost use Rattle.hub_rules.specs.Refusal.{Fault, fit_fault};
 ghost use Rattle.hub_rules.specs.Rule.{rules_of};
-ghost use Rattle.hub_rules.specs.Spots.{why};
+ghost use Rattle.hub_rules.specs.inner.Spots.{why};
 ghost use Rattle.hub_fit.specs.Chosen.{fit_of};
 ghost use Rattle.hub_fit.specs.Refuses.{RefusesFit};
 ghost use Rattle.rule_reading.specs.Told.{set_of};
@@ -15,7 +15,7 @@ ghost use Rattle.hub_fills.specs.LateNames.{first_late};
 ghost use Rattle.crd_loading.specs.Fits.{IsRuled, version_from, spokes_of, rules_or_none, rules_for, fits_blame, fits_of, levels_in, late_blame, fit_blame};
 ghost use Rattle.crd_loading.specs.View.{FitVersions, FitHub, placed_by};
 ghost use Rattle.crd_loading.specs.Told.{blame_of, blamed_in};
-ghost use Rattle.crd_loading.specs.AllFitted.{AllFitted};
+ghost use Rattle.crd_loading.specs.inner.AllFitted.{AllFitted};
 
 use crate::blamed::{Blamed, blame};
 use crate::words::fit_word;

@@ -18,7 +18,7 @@ pub struct Loaded {
 
 impl Model for Loaded {
     ghost use Rattle.crd_loading.specs.View.{LoadedView, IsTogether};
-    ghost use Rattle.crd_loading.specs.ViewCode.{loaded_code};
+    ghost use Rattle.crd_loading.specs.inner.ViewCode.{loaded_code};
 
     ghost Value = { LoadedView };
 

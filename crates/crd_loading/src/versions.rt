@@ -27,7 +27,7 @@ impl Drop for LoadedVersions {
 
 impl Model for LoadedVersions {
     ghost use Rattle.crd_meaning.specs.Definition as meaning;
-    ghost use Rattle.crd_loading.specs.SetCode.{set_code};
+    ghost use Rattle.crd_loading.specs.inner.SetCode.{set_code};
 
     ghost Value = { meaning.Definition };
 

@@ -1,6 +1,6 @@
 //! The names of a document of rules, and the words of what is refused.
 ghost use Rattle.std.specs.Prelude.{◌≡◌, option_map};
-ghost use Rattle.hub_rules.specs.Spots.{why};
+ghost use Rattle.hub_rules.specs.inner.Spots.{why};
 ghost use Rattle.crd_reading.specs.Words.{shape_word};
 ghost use Rattle.crd_loading.specs.Words.{hub_name, spokes_name, read_word, fit_word};
 

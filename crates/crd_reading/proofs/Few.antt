@@ -6,7 +6,7 @@ use Rattle.struct_schema.specs.Names.{is_name, value_at}
 use Rattle.struct_schema.specs.Keywords.{item_count}
 use Rattle.struct_schema.specs.ShapeOf.{shape_of}
 use Rattle.struct_schema.specs.OwnDefaults.{HasOwnDefaults}
-use Rattle.struct_schema.specs.NameLaws.{one_name}
+use Rattle.struct_schema.specs.laws.NameLaws.{one_name}
 use Rattle.crd_reading.specs.Words.{spelled}
 use Rattle.crd_reading.specs.Table.{must, rows, place_in}
 use Rattle.crd_reading.specs.Allowed.{are_few, is_allowed}

@@ -2,7 +2,6 @@ pub mod Words
 pub mod Table
 pub mod Allowed
 pub mod View
-pub mod ViewCode
 pub mod Seen
 pub mod Spelled
 pub mod Offered
@@ -13,3 +12,4 @@ pub mod Walk
 pub mod First
 pub mod Told
 pub mod ValidDefaults
+pub mod laws

@@ -45,7 +45,7 @@ impl Model for Definition {
     ghost use Rattle.std.specs.Prelude.{map};
     ghost use Rattle.kj_value.specs.Seen.{json};
     ghost use Rattle.crd_reading.specs.View.{DefinitionView};
-    ghost use Rattle.crd_reading.specs.ViewCode.{definition_code};
+    ghost use Rattle.crd_reading.specs.laws.ViewCode.{definition_code};
     ghost use Rattle.crd_reading.specs.Seen.{version_of};
     ghost use Rattle.crd_reading.specs.Whole.{IsWholeDefinition};
 

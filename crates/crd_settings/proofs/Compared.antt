@@ -6,13 +6,13 @@ use Rattle.std.proofs.lemmas.Slice.Eq.{bytes_eq-Decides}
 use Rattle.std.proofs.lemmas.Map.Text.{is_eq-slice_cmp}
 use Rattle.kj_value.specs.Json.{Json, null, boolean, whole, text, list, object, Items, no_items, item, Members, no_members, member, items_of, members_of}
 use Rattle.kj_value.specs.Same.{json_same, items_same, members_same}
-use Rattle.kj_value.specs.SameLaws.{json_same-Decides}
+use Rattle.kj_value.specs.laws.SameLaws.{json_same-Decides}
 use Rattle.kj_value.specs.Seen.{json}
 use Rattle.kj_value.specs.Pair.{pair_of}
 use Rattle.kj_value.specs.declared.value.JVal.{JVal}
 use Rattle.kj_value.specs.declared.value.Field.{Field}
 use Rattle.struct_schema.specs.Names.{is_name, value_at}
-use Rattle.struct_schema.specs.LookupLaws.{one_test}
+use Rattle.struct_schema.specs.laws.LookupLaws.{one_test}
 use Rattle.api_calls.specs.Versions.{AreFlags}
 use Rattle.api_calls.specs.declared.flags.Flags.{Flags}
 use Rattle.crd_reading.specs.View.{DefinitionView}

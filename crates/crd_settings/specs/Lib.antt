@@ -4,6 +4,6 @@ pub mod Setting
 pub mod Keeping
 pub mod Shown
 pub mod Pieces
-pub mod Depth
 pub mod SettledLaws
 pub mod Decided
+pub mod laws

@@ -6,7 +6,7 @@ use Rattle.kj_value.specs.declared.reading.TheConstants.{MAX_JSON_LEVELS}
 use Rattle.crd_reading.specs.View.{DefinitionView}
 use Rattle.crd_reading.specs.Spelled.{definition_read}
 use Rattle.crd_loading.specs.Load.{Defines}
-use Rattle.crd_settings.specs.Depth.{spec_depth}
+use Rattle.crd_settings.specs.laws.Depth.{spec_depth}
 
 within : (a b : ℕ) → a ≤ b → b ≤ MAX_JSON_LEVELS → a ≤ MAX_JSON_LEVELS
 within a b h l = omega (arith, h, l)

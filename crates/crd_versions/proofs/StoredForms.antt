@@ -8,7 +8,7 @@ use Rattle.kube_meta.specs.View.{ObjectView, object_of}
 use Rattle.kube_meta.specs.Document.{document}
 use Rattle.kube_meta.specs.declared.object.Object.{Object}
 use Rattle.api_calls.specs.Spelled.{IsTextOf}
-use Rattle.api_calls.specs.SpelledLaws.{stored-text}
+use Rattle.api_calls.specs.laws.SpelledLaws.{stored-text}
 use Rattle.api_calls.specs.Versions.{Stand, IsStored}
 use Rattle.api_calls.specs.declared.versions.TheConstants.{OBJECT_LEVELS}
 use Rattle.keep_laws.specs.Spokes.{Spoke, Spokes}
@@ -17,7 +17,7 @@ use Rattle.keep_laws.specs.WholeHub.{IsSettledAt}
 use Rattle.crd_meaning.specs.Definition.{Definition, Seat, at_hub, at_spoke, seat, count_of}
 use Rattle.crd_meaning.specs.Objects.{IsWholeValue, PairsAt, IsFormAt}
 use Rattle.crd_meaning.specs.Meant.{meant}
-use Rattle.crd_versions.specs.Forms.{IsFormOf}
+use Rattle.crd_versions.specs.inner.Forms.{IsFormOf}
 
 pub if_ok : (P Q : Object → Type 0) (r : Result Object NoMemory) → ((x : Object) → P x → Q x) → IfOk r P → IfOk r Q
 if_ok P Q (Ok x) f h = f x h

@@ -1,3 +1,3 @@
-pub mod Forms
 pub mod Stored
 pub mod Set
+pub mod inner

@@ -1,7 +1,7 @@
 //! From an object of a spoke, which was made of a hub value, to that value.
 ghost use Rattle.std.specs.Prelude.{◌≡◌, IfOk};
 ghost use Rattle.kube_meta.specs.View.{ObjectView, object_of};
-ghost use Rattle.crd_versions.specs.Forms.{IsFormOf};
+ghost use Rattle.crd_versions.specs.inner.Forms.{IsFormOf};
 
 use keep_laws::object_laws::{one_each, over_and_back};
 use kj_value::NoMemory;

@@ -9,7 +9,7 @@ ghost use Rattle.crd_reading.specs.Accepted.{AreOffered};
 ghost use Rattle.crd_meaning.specs.Definition.{IsLoaded, count_of};
 ghost use Rattle.crd_meaning.specs.Converted.{IsConverted};
 ghost use Rattle.crd_meaning.specs.Unconverted.{IsUnconverted};
-ghost use Rattle.crd_laws.specs.OneText.{OneList-prop};
+ghost use Rattle.crd_laws.specs.laws.OneText.{OneList-prop};
 ghost use Rattle.crd_settings.specs.Pieces.{AreItsPieces, AreItsPieces-prop};
 
 use crate::admission::admitted;

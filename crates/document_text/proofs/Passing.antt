@@ -8,7 +8,7 @@ use Rattle.kj_value.specs.Characters.{quote, backslash, comma, colon}
 use Rattle.kj_value.specs.Json.{Json, null, boolean, whole, text, list, object, Items, no_items, item, Members, no_members, member}
 use Rattle.kj_value.specs.Sound.{IsSoundJson, AreSoundItems, AreRising}
 use Rattle.kj_value.specs.Text.{escaped_byte, escaped_control, quoted, text_of, items_text, more_items, members_text, more_members}
-use Rattle.document_text.specs.Ending.{ending, in_text, is_opening, is_closing}
+use Rattle.document_text.specs.inner.Ending.{ending, in_text, is_opening, is_closing}
 
 -- ---- texts
 

@@ -5,7 +5,7 @@ use Rattle.kj_value.specs.Characters.{quote, comma, colon}
 use Rattle.kj_value.specs.Json.{Json, object, members_of}
 use Rattle.kj_value.specs.Fields.{Pairs}
 use Rattle.kj_value.specs.Text.{escaped_byte, quoted, text_of, members_text, more_members}
-use Rattle.document_text.specs.Ending.{ending}
+use Rattle.document_text.specs.inner.Ending.{ending}
 use Rattle.document_text.specs.Numbered.{IsParted, AreOthers, metadata_name, inside_metadata}
 use Rattle.document_text.proofs.Passing.{pick, pass_field}
 

@@ -14,9 +14,9 @@ use Rattle.kj_value.specs.Sound.{IsSoundJson, AreRising}
 use Rattle.kj_value.specs.Text.{escaped_byte, text_of, members_text}
 use Rattle.kube_meta.specs.View.{ObjectView}
 use Rattle.kube_meta.specs.Document.{document}
-use Rattle.document_text.specs.Ending.{ending}
+use Rattle.document_text.specs.inner.Ending.{ending}
 use Rattle.document_text.specs.FieldLaws.{before, after, around_meta, others, fields_bare, document-bare, document-with, doc-text, doc_front, object-around, lead, more}
-use Rattle.document_text.specs.Cut.{IsCut, has_any, front_of, back_of}
+use Rattle.document_text.specs.inner.Cut.{IsCut, has_any, front_of, back_of}
 use Rattle.document_text.specs.Numbered.{between, number_name, IsBare, IsParted, AreOthers, metadata_name, inside_metadata, with_numbers}
 use Rattle.document_text.proofs.Passing.{pass_members}
 use Rattle.document_text.proofs.Places.{fields_text}

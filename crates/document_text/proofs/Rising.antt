@@ -11,7 +11,7 @@ use Rattle.kj_value.specs.Fields.{Pairs, with_field, IsBelowFirst, AreInOrder}
 use Rattle.kj_value.specs.Sound.{IsSoundJson, AreSoundItems, AreRising, ComesFirst}
 use Rattle.kube_meta.specs.View.{Texts, MetaView, ObjectView}
 use Rattle.kube_meta.specs.Document.{optional, some_text, some_texts, some_list, some_generation, text_fields, metadata, document}
-use Rattle.kube_meta.specs.Following.{IsAfter, Follows}
+use Rattle.kube_meta.specs.inner.Following.{IsAfter, Follows}
 use Rattle.kube_meta.proofs.InOrder.{with_field-behind, follows-with, follows_later}
 
 -- ---- values

@@ -1,7 +1,7 @@
 -- A text read byte by byte.
 use Rattle.std.proofs.Common.{◌≡◌, ◌≢◌, ◌==◌, ◌∙◌, ℕ, zero, suc, ◌+◌, ◌-◌, ◌<◌, Bool, true, false, List, ◌∷◌, refl, ap, sym, arith, add-one, drop-cons, drop, get_or, length, if◌then◌else◌}
 use Rattle.std.proofs.lemmas.Bool.Decides.{nat_tests}
-use Rattle.document_text.specs.Ending.{ending, in_text, escaped, is_opening, is_closing, is_end, is_top, above}
+use Rattle.document_text.specs.inner.Ending.{ending, in_text, escaped, is_opening, is_closing, is_end, is_top, above}
 
 -- the text read from inside of an escape, from inside of a text, or from outside of both
 abbrev pub reading : Bool → ℕ → Bool → Bool → List ℕ → List ℕ

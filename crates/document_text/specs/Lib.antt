@@ -1,6 +1,5 @@
-pub mod Ending
 pub mod Numbered
 pub mod FieldLaws
-pub mod Cut
 pub mod Shown
 pub mod Sent
+pub mod inner

@@ -1,6 +1,6 @@
 //! Where a value of a compact text ends.
 ghost use Rattle.std.specs.Prelude.{◌≡◌};
-ghost use Rattle.document_text.specs.Ending.{ending, is_end, is_closing, is_opening};
+ghost use Rattle.document_text.specs.inner.Ending.{ending, is_end, is_closing, is_opening};
 
 fn is_opening(x: u8) -> bool
     ensures { result ≡ is_opening x }

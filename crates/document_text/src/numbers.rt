@@ -4,7 +4,7 @@ ghost use Rattle.kj_value.specs.Characters.{comma};
 ghost use Rattle.kj_value.specs.Text.{escaped_byte, text_of};
 ghost use Rattle.kube_meta.specs.View.{ObjectView};
 ghost use Rattle.kube_meta.specs.Document.{document};
-ghost use Rattle.document_text.specs.Cut.{IsCut};
+ghost use Rattle.document_text.specs.inner.Cut.{IsCut};
 ghost use Rattle.document_text.specs.Numbered.{AreParts, IsBare, with_numbers};
 
 use crate::ends::ending;

@@ -11,7 +11,7 @@ use Rattle.kube_meta.specs.Plan.{passed}
 use Rattle.kube_meta.specs.View.{ObjectView}
 use Rattle.kube_meta.specs.declared.limits.Limits.{Limits}
 use Rattle.api_calls.specs.Documents.{reply_text, numbered, object_list}
-use Rattle.api_calls.specs.ObjectLaws.{each-find}
+use Rattle.api_calls.specs.laws.ObjectLaws.{each-find}
 use Rattle.api_calls.specs.Ends.{WriteEnd, done, kept, same, unserved, present, gone, newer, forbidden, storage_moved, full, Decision, says}
 use Rattle.api_calls.specs.Item.{Item}
 use Rattle.api_calls.specs.Legal.{Each, key_of}

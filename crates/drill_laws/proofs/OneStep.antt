@@ -7,7 +7,7 @@ use Rattle.kj_value.specs.declared.reading.TheConstants.{MAX_JSON_LEVELS}
 use Rattle.kube_meta.specs.Key.{KeyView}
 use Rattle.api_calls.specs.Calls.{Server, Call, create, replace, get, delete, set_versions, start, list, Told, answered, Answers}
 use Rattle.api_calls.specs.Ends.{grown}
-use Rattle.api_calls.specs.GrowthLaws.{legal-front}
+use Rattle.api_calls.specs.laws.GrowthLaws.{legal-front}
 use Rattle.api_calls.specs.Item.{Item}
 use Rattle.api_calls.specs.Legal.{legal}
 use Rattle.api_calls.specs.Refusal.{RefusalView}

@@ -8,7 +8,7 @@ use Rattle.kube_meta.specs.View.{ObjectView}
 use Rattle.kube_meta.specs.declared.limits.Limits.{Limits}
 use Rattle.kube_meta.specs.declared.limits.Room.{Room}
 use Rattle.api_calls.specs.Ends.{WriteEnd, StartEnd, idle, claimed, finished, Decision, says, enters, grown}
-use Rattle.api_calls.specs.GrowthLaws.{state-more}
+use Rattle.api_calls.specs.laws.GrowthLaws.{state-more}
 use Rattle.api_calls.specs.Item.{Create, Replace, Mark, Release, Touch, Delete, SetVersions, Trim, StartMigration, MarkSucceeded, Claim, RangeDone, GiveBack, Item, entry, note}
 use Rattle.api_calls.specs.Legal.{Each, key_of, guard, legal_from, legal}
 use Rattle.api_calls.specs.Meaning.{Meaning, Request}

@@ -17,7 +17,7 @@ use Rattle.drill_steps.specs.declared.counts.Counts.{Counts}
 use Rattle.drill_steps.specs.declared.worker.Progress.{Progress}
 use Rattle.drill_steps.specs.Calling.{Lists}
 use Rattle.drill_steps.specs.Counting.{no_counts}
-use Rattle.drill_steps.specs.Drilled.{point_of}
+use Rattle.drill_steps.specs.inner.Drilled.{point_of}
 use Rattle.drill_steps.specs.Drilling.{Tells, drilled, summary}
 use Rattle.drill_steps.specs.Steps.{Point, opening, TakesSteps, Rests}
 

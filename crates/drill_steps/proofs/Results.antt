@@ -10,7 +10,7 @@ use Rattle.api_calls.specs.Work.{work_decision}
 use Rattle.drill_steps.specs.declared.counts.Counts.{Counts}
 use Rattle.drill_steps.specs.declared.worker.Progress.{Progress}
 use Rattle.drill_steps.specs.Counting.{with_turn}
-use Rattle.drill_steps.specs.Drilled.{point_of}
+use Rattle.drill_steps.specs.inner.Drilled.{point_of}
 use Rattle.drill_steps.specs.Steps.{Point, turned}
 use Rattle.drill_steps.proofs.Alone.{IsDecided}
 

@@ -3,4 +3,4 @@ pub mod Settings
 pub mod Calling
 pub mod Steps
 pub mod Drilling
-pub mod Drilled
+pub mod inner

@@ -4,7 +4,7 @@ ghost use Rattle.api_calls.specs.Item.{items};
 ghost use Rattle.turn_cell.specs.Views.{IsAlone};
 ghost use Rattle.shared_api.specs.Base.{server_of};
 ghost use Rattle.shared_api.specs.Passes.{IsOf};
-ghost use Rattle.drill_steps.specs.Drilled.{point_of};
+ghost use Rattle.drill_steps.specs.inner.Drilled.{point_of};
 ghost use Rattle.drill_steps.specs.Drilling.{Tells, drilled};
 ghost use Rattle.drill_steps.specs.Steps.{Does, TakesStep, TakesSteps};
 

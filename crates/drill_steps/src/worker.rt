@@ -6,7 +6,7 @@ ghost use Rattle.shared_api.specs.Base.{server_of};
 ghost use Rattle.shared_api.specs.Passes.{IsOf};
 ghost use Rattle.shared_api.specs.Steps.{IsStep};
 ghost use Rattle.shared_api.specs.declared.step.TurnStep.TheVariants.{Idle};
-ghost use Rattle.drill_steps.specs.Drilled.{point_of};
+ghost use Rattle.drill_steps.specs.inner.Drilled.{point_of};
 ghost use Rattle.drill_steps.specs.Steps.{Rests, turn_at, turned};
 
 use crate::counts::Counts;

@@ -10,6 +10,6 @@ pub mod NumberLaws
 pub mod Returned
 pub mod Stamps
 pub mod Sends
-pub mod Sending
 pub mod Exchanges
 pub mod MemoryLink
+pub mod laws

@@ -7,13 +7,13 @@ use Rattle.kj_value.specs.declared.value.JVal.{JVal}
 use Rattle.edge_io.specs.Exchanges.{Exchange}
 use Rattle.place.specs.Place.{Names}
 use Rattle.wire_client.specs.Far.{Server, Told, Made}
-use Rattle.wire_client.specs.FarLaws.{made_more}
+use Rattle.wire_client.specs.laws.FarLaws.{made_more}
 use Rattle.far_migrate.specs.Counts.{Kind, written, unchanged, gone, contested, Counts, counted, Fault, memory}
 use Rattle.far_migrate.specs.Puts as puts
 use Rattle.far_migrate.specs.Puts.{key_of, most_puts, PutBack, PutsBack, Handled, all, failed, kind, fault}
 use Rattle.far_migrate.specs.Pages as pages
 use Rattle.far_migrate.specs.Pages.{Run, Step, Stop, Runs}
-use Rattle.far_migrate.specs.Runs.{run_of, Turns}
+use Rattle.far_migrate.specs.inner.Runs.{run_of, Turns}
 use Rattle.far_migrate.specs.declared.run.Run.{Run as CodeRun}
 use Rattle.far_migrate.specs.declared.paging.Turned.TheVariants as turned
 

@@ -7,7 +7,7 @@ use Rattle.kube_meta.specs.Key.{KeyView}
 use Rattle.edge_io.specs.Exchanges.{Exchange}
 use Rattle.place.specs.Place.{Names}
 use Rattle.wire_client.specs.Far.{Server, Told, Made}
-use Rattle.wire_client.specs.FarLaws.{made_more}
+use Rattle.wire_client.specs.laws.FarLaws.{made_more}
 use Rattle.wire_client.specs.Calls.{Call, gets, puts}
 use Rattle.wire_client.specs.Answers.{Reply, given, broken, long, gone as gone_reply, code, shape}
 use Rattle.wire_client.specs.Ends.{Came, Lacked, Ended, exchange_of}
@@ -17,7 +17,7 @@ use Rattle.far_migrate.specs.Counts.{gone, contested, fault_of}
 use Rattle.far_migrate.specs.Answered.{Did, conflict}
 use Rattle.far_migrate.specs.Puts as back
 use Rattle.far_migrate.specs.Puts.{PutBack, Outcome, kind, fault, number_of}
-use Rattle.far_migrate.specs.Ends.{PutReply, GetReply, PutEnds, GetEnds, IsOne, TriedPut, TriedGet, kind_of}
+use Rattle.far_migrate.specs.inner.Ends.{PutReply, GetReply, PutEnds, GetEnds, IsOne, TriedPut, TriedGet, kind_of}
 use Rattle.far_migrate.specs.declared.tally.FarFault.{FarFault}
 use Rattle.far_migrate.specs.declared.tally.FarFault.TheVariants as faults
 use Rattle.far_migrate.specs.declared.ending.Refused.{Refused}

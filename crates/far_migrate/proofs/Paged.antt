@@ -10,7 +10,7 @@ use Rattle.wire_client.specs.declared.end.WireEnd.{WireEnd}
 use Rattle.wire_client.specs.declared.end.WireEnd.TheVariants as wire
 use Rattle.far_migrate.specs.Answered.{expired}
 use Rattle.far_migrate.specs.Counts.{fault_of}
-use Rattle.far_migrate.specs.Ends.{ListReply, ListEnds, IsOne}
+use Rattle.far_migrate.specs.inner.Ends.{ListReply, ListEnds, IsOne}
 use Rattle.far_migrate.specs.Puts.{failed}
 use Rattle.far_migrate.specs.Pages as pages
 use Rattle.far_migrate.specs.Pages.{Stop}

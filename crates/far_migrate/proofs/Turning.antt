@@ -8,7 +8,7 @@ use Rattle.kube_meta.specs.Key.{KeyView}
 use Rattle.edge_io.specs.Exchanges.{Exchange}
 use Rattle.place.specs.Place.{Names}
 use Rattle.wire_client.specs.Far.{Server, Told, Made}
-use Rattle.wire_client.specs.FarLaws.{made_more}
+use Rattle.wire_client.specs.laws.FarLaws.{made_more}
 use Rattle.wire_client.specs.Calls.{lists}
 use Rattle.wire_client.specs.Answers.{given, long, code}
 use Rattle.wire_client.specs.Ends.{Came, exchange_of, IsPage}
@@ -18,8 +18,8 @@ use Rattle.far_migrate.specs.Counts.{Counts, with_page, counts_of, fault_of}
 use Rattle.far_migrate.specs.Puts.{PutsBack, Handled, all, failed}
 use Rattle.far_migrate.specs.Pages as pages
 use Rattle.far_migrate.specs.Pages.{Step, Stop, goes_on, goes_on_with, objects_of, token_of, is_empty, last_key, with_objects, after_page, at_first, most_objects, most_restarts}
-use Rattle.far_migrate.specs.Ends.{IsOne}
-use Rattle.far_migrate.specs.Runs.{run_of, left_in, TakesPage, Turns}
+use Rattle.far_migrate.specs.inner.Ends.{IsOne}
+use Rattle.far_migrate.specs.inner.Runs.{run_of, left_in, TakesPage, Turns}
 use Rattle.far_migrate.specs.declared.run.Run.{Run}
 use Rattle.far_migrate.specs.declared.paging.Turned.{Turned}
 use Rattle.far_migrate.specs.declared.paging.Turned.TheVariants as turned

@@ -4,5 +4,4 @@ pub mod Puts
 pub mod Pages
 pub mod Migrates
 pub mod Told
-pub mod Ends
-pub mod Runs
+pub mod inner

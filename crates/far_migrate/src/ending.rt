@@ -1,5 +1,5 @@
 //! What the end of a call comes to.
-ghost use Rattle.far_migrate.specs.Ends.{PutEnds, GetEnds, ListEnds};
+ghost use Rattle.far_migrate.specs.inner.Ends.{PutEnds, GetEnds, ListEnds};
 
 use crate::tally::FarFault;
 use wire_client::WireEnd;

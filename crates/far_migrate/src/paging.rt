@@ -10,10 +10,10 @@ ghost use Rattle.wire_client.specs.Far.{Made};
 ghost use Rattle.wire_client.specs.Keys.{IsKeyed, AreKeyed, texts_key};
 ghost use Rattle.wire_client.specs.declared.buffer.TheConstants.{ANSWER_LEVELS};
 ghost use Rattle.far_migrate.specs.Counts.{OnLink, counts_of, counted};
-ghost use Rattle.far_migrate.specs.Ends.{became, handled, kind_of};
+ghost use Rattle.far_migrate.specs.inner.Ends.{became, handled, kind_of};
 ghost use Rattle.far_migrate.specs.Pages.{goes_on_with, is_empty, last_key, most_objects};
 ghost use Rattle.far_migrate.specs.Puts.{key_of, most_puts, PutBack, PutsBack};
-ghost use Rattle.far_migrate.specs.Runs.{run_of, IsRunning, Owes, Turns, TakesPage};
+ghost use Rattle.far_migrate.specs.inner.Runs.{run_of, IsRunning, Owes, Turns, TakesPage};
 
 use crate::ending::{OTHER, Unlisted, list_end};
 use crate::ordering::rise_behind;

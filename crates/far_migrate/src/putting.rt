@@ -8,7 +8,7 @@ ghost use Rattle.place.specs.Place.{place_of};
 ghost use Rattle.wire_client.specs.Far.{Made};
 ghost use Rattle.wire_client.specs.declared.buffer.TheConstants.{ANSWER_LEVELS};
 ghost use Rattle.far_migrate.specs.Counts.{OnLink};
-ghost use Rattle.far_migrate.specs.Ends.{TriedPut, TriedGet, IsLow, became};
+ghost use Rattle.far_migrate.specs.inner.Ends.{TriedPut, TriedGet, IsLow, became};
 ghost use Rattle.far_migrate.specs.Puts.{number_of, PutBack};
 
 use crate::ending::{Refused, Ungot, get_end, put_end};

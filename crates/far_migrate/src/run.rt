@@ -2,7 +2,7 @@
 ghost use Rattle.std.specs.Prelude.{◌≡◌, ◌<◌, ◌+◌, ◌-◌, ◌/◌, option_map};
 ghost use Rattle.wire_client.specs.Keys.{texts_key};
 ghost use Rattle.far_migrate.specs.Pages.{at_first};
-ghost use Rattle.far_migrate.specs.Runs.{run_of, Halved, Restarts, IsRunning};
+ghost use Rattle.far_migrate.specs.inner.Runs.{run_of, Halved, Restarts, IsRunning};
 
 use crate::ending::OTHER;
 use crate::tally::{FarFault, Tally};

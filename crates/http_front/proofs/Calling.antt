@@ -7,7 +7,7 @@ use Rattle.std.proofs.lemmas.Bool.{cases_lt}
 use Rattle.std.proofs.lemmas.Bool.Decides.{nat_tests}
 use Rattle.http_wire.specs.Head.{Request}
 use Rattle.http_wire.specs.Response.{HasPhrase}
-use Rattle.http_wire.specs.PhraseLaws.{phrase-200, phrase-201}
+use Rattle.http_wire.specs.laws.PhraseLaws.{phrase-200, phrase-201}
 use Rattle.api_calls.specs.Calls.{Server, Call, Told, answered, Comes, decided as as_decided, wants_memory as as_wanted, not_converted, moved, lost, Decides}
 use Rattle.api_calls.specs.Item.{Item, Logged, items, items_of}
 use Rattle.api_calls.specs.Meaning.{Meaning}
@@ -27,7 +27,7 @@ use Rattle.http_routes.specs.Routes as route
 use Rattle.http_routes.specs.Views as views
 use Rattle.api_core.specs.Pages as core
 use Rattle.api_calls.specs.declared.token.Token.{Token}
-use Rattle.turn_cell.specs.Laws.{items_of-append, prefix_self}
+use Rattle.turn_cell.specs.laws.Laws.{items_of-append, prefix_self}
 use Rattle.turn_cell.specs.Numbers.{In}
 use Rattle.turn_cell.specs.Turns.{Turned, addition}
 use Rattle.turn_cell.specs.Views.{IsAlone, numbers_of, numbers_or, number_or, set_stage}

@@ -1,6 +1,6 @@
 -- Each refusal's code has a phrase.
 use Rattle.http_wire.specs.Response.{HasPhrase}
-use Rattle.http_wire.specs.PhraseLaws.{phrase-400, phrase-404, phrase-409, phrase-410, phrase-422, phrase-502, phrase-503, phrase-507}
+use Rattle.http_wire.specs.laws.PhraseLaws.{phrase-400, phrase-404, phrase-409, phrase-410, phrase-422, phrase-502, phrase-503, phrase-507}
 use Rattle.api_calls.specs.Refusal.{RefusalView, not_found, no_resource, already_exists, conflict, invalid, bad_request, expired, full, migration_running, still_stored, converter, no_memory}
 use Rattle.api_calls.specs.Status.{code_of_refusal}
 

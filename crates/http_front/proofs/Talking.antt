@@ -4,11 +4,11 @@ use Rattle.std.specs.Prelude.{MatchBool}
 use Rattle.std.proofs.lemmas.List.{append-nil}
 use Rattle.std.specs.Io.KnownBytes.{append_known, prepend_known}
 use Rattle.edge_io.specs.Sends.{AddsSome}
-use Rattle.edge_io.specs.Sending.{added_both, known_nil}
+use Rattle.edge_io.specs.laws.Sending.{added_both, known_nil}
 use Rattle.api_calls.specs.Reply.{ReplyView}
 use Rattle.http_wire.specs.Head.{Request, Reads}
 use Rattle.http_wire.specs.Stream.{End, Asks, Follows, closed, closing, spent, torn, refused}
-use Rattle.http_wire.specs.Asking.{asks_more, asks_last, asks_end, asks_spent}
+use Rattle.http_wire.specs.laws.Asking.{asks_more, asks_last, asks_end, asks_spent}
 use Rattle.http_wire.specs.declared.WireFault.{WireFault}
 use Rattle.http_front.specs.Faults.{fault_words, last_words}
 use Rattle.http_front.specs.Talk.{Exchange, asked, response_of, bytes_of, Steps, Conversation, Begins}

@@ -2,9 +2,8 @@ pub mod Fields
 pub mod Head
 pub mod Lines
 pub mod Stream
-pub mod Asking
 pub mod Inboxes
 pub mod Response
 pub mod Requesting
 pub mod Received
-pub mod PhraseLaws
+pub mod laws

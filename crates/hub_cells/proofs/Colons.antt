@@ -1,7 +1,7 @@
 -- Where the last colon stands.
 use Rattle.std.proofs.Common.{◌≡◌, ◌≢◌, ℕ, suc, ◌+◌, ◌<◌, List, [], ◌∷◌, ◌++◌, length, get_or, take, drop, false, ◌==◌, Some, None, take-append-drop, drop-cons, get_or-drop, length-drop, refl, ap, ap₂, sym, ◌∙◌, arith}
 use Rattle.hub_cells.specs.Colon.{has_colon, at_colon}
-use Rattle.hub_cells.specs.OneToOne.{at_last, no_colon}
+use Rattle.hub_cells.specs.laws.OneToOne.{at_last, no_colon}
 
 not_58 : (x : ℕ) → x ≢ 58 → (x == 58) ≡ false
 not_58 x h = grind arith

@@ -8,9 +8,7 @@ pub mod Fit
 pub mod Pairs
 pub mod Sought
 pub mod Seen
-pub mod FitCode
 pub mod LevelDepth
 pub mod SeenFit
-pub mod FitFalls
-pub mod Inside
-pub mod OneToOne
+pub mod laws
+pub mod inner

@@ -38,7 +38,7 @@ pub struct Inner {
 
 impl Model for Fitted {
     ghost use Rattle.hub_cells.specs.Fit.{Fit, IsFitted};
-    ghost use Rattle.hub_cells.specs.FitCode.{fit_code};
+    ghost use Rattle.hub_cells.specs.laws.FitCode.{fit_code};
 
     ghost Value = { Fit };
 
@@ -53,7 +53,7 @@ impl Model for Fitted {
 
     ghost size = { λ f. level_depth f.level };
 
-    ghost use Rattle.hub_cells.specs.FitFalls.{most-inner};
+    ghost use Rattle.hub_cells.specs.inner.FitFalls.{most-inner};
 
     ghost size_decreases = { λ a h. most-inner a.inner.items };
 }

@@ -34,7 +34,7 @@ impl Model for PairItems {
     ghost use Rattle.std.specs.Prelude.{List, map};
     ghost use Rattle.std.specs.Coded.{coded_list, coded×};
     ghost use Rattle.kj_value.specs.Json.{Json};
-    ghost use Rattle.kj_value.specs.JsonCode.{json_code};
+    ghost use Rattle.kj_value.specs.laws.JsonCode.{json_code};
 
     ghost Value = { List (Json × Json) };
 

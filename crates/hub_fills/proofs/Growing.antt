@@ -9,7 +9,7 @@ use Rattle.hub_fills.specs.Fills.{Fills, Within, nothing_within, within, fills_o
 use Rattle.hub_fills.specs.Lookups.{level_in}
 use Rattle.hub_fills.specs.SeenFills.{within_of}
 use Rattle.hub_fills.specs.LateNames.{late_in, late_within}
-use Rattle.hub_fills.specs.UnderLaws.{levels_under, levels_last}
+use Rattle.hub_fills.specs.inner.UnderLaws.{levels_under, levels_last}
 use Rattle.hub_fills.specs.declared.fills.Deeper.{Deeper}
 use Rattle.hub_fills.proofs.LateFolds.{best, within_more}
 

@@ -5,7 +5,7 @@ use Rattle.kj_value.specs.Texts.{bytes_of}
 use Rattle.kj_value.specs.declared.txt.Txt.{Txt}
 use Rattle.hub_cells.specs.Level.{Name, Level, Inners, inners_in}
 use Rattle.hub_fills.specs.Lookups.{level_at, level_under}
-use Rattle.hub_fills.specs.UnderLaws.{none_under}
+use Rattle.hub_fills.specs.inner.UnderLaws.{none_under}
 
 pub under_none : (path : List Txt) (i : ℕ) (x : Txt) (k : Name) (l : Level) (is : Inners) → i < length path → x ≡ get_or path i x → k ≡ x.bytes → is ≡ inners_in l → None ≡ level_at k is → None ≡ level_under (map bytes_of (drop i path)) (Some l)
 under_none path i x k l is p q e f none =

@@ -3,14 +3,10 @@ pub mod Fills
 pub mod Late
 pub mod Right
 pub mod Sound
-pub mod NameLaws
-pub mod RightLaws
 pub mod Depth
-pub mod FillsCode
 pub mod SeenFills
-pub mod FillsFalls
 pub mod Inside
 pub mod LateNames
-pub mod LateLaws
-pub mod UnderLaws
 pub mod EachFit
+pub mod inner
+pub mod laws

@@ -13,7 +13,7 @@ ghost use Rattle.hub_fills.specs.Fills.{one_value, match_of, spoke_default, defa
 ghost use Rattle.hub_fills.specs.Lookups.{level_under};
 ghost use Rattle.hub_fills.specs.Right.{DefaultsAllowed, AllowDefaults};
 ghost use Rattle.hub_fills.specs.SeenFills.{within_of};
-ghost use Rattle.hub_fills.specs.UnderLaws.{levels_under};
+ghost use Rattle.hub_fills.specs.inner.UnderLaws.{levels_under};
 ghost use Rattle.hub_fills.specs.EachFit.{EachAllows};
 
 use crate::fills::{Deeper, Fills};

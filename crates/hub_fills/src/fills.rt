@@ -27,7 +27,7 @@ pub struct Deeper {
 
 impl Model for Fills {
     ghost use Rattle.hub_fills.specs.Fills as trees;
-    ghost use Rattle.hub_fills.specs.FillsCode.{fills_code};
+    ghost use Rattle.hub_fills.specs.inner.FillsCode.{fills_code};
 
     ghost Value = { trees.Fills };
 
@@ -44,7 +44,7 @@ impl Model for Fills {
 
     ghost size = { fills_depth };
 
-    ghost use Rattle.hub_fills.specs.FillsFalls.{most-deeper};
+    ghost use Rattle.hub_fills.specs.inner.FillsFalls.{most-deeper};
 
     ghost size_decreases = { λ a h. most-deeper a.inner.items };
 }

@@ -8,7 +8,7 @@ ghost use Rattle.hub_cells.specs.SeenFit.{inners_of};
 ghost use Rattle.hub_fills.specs.Lookups.{level_under};
 ghost use Rattle.hub_fills.specs.Late.{is_plain, pairs_plainly, all_pair, is_late};
 ghost use Rattle.hub_fills.specs.LateNames.{joined, late_cells, late_in, late_within, late_among, first_late};
-ghost use Rattle.hub_fills.specs.UnderLaws.{levels_under};
+ghost use Rattle.hub_fills.specs.inner.UnderLaws.{levels_under};
 
 use crate::choosing::longer;
 use crate::lookups::{cell_at, level_under};

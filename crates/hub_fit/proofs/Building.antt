@@ -11,7 +11,7 @@ use Rattle.hub_cells.specs.Level.{Cell, Level, level}
 use Rattle.hub_cells.specs.Fit.{IsFitted}
 use Rattle.hub_fit.specs.Chosen as chosen
 use Rattle.hub_fit.specs.Chosen.{cells_of, fit_of, level_of}
-use Rattle.hub_fit.specs.InnerFits.{joined}
+use Rattle.hub_fit.specs.inner.InnerFits.{joined}
 use Rattle.hub_fit.proofs.CellFits.{and_left, and_right}
 use Rattle.hub_fit.proofs.Holds.{none_left, none_right, passed, passed_on}
 

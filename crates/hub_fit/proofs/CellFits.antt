@@ -12,7 +12,7 @@ use Rattle.struct_schema.specs.Shape.{Shape, own}
 use Rattle.struct_schema.specs.Valid.{valid}
 use Rattle.struct_schema.specs.Stays.{stays}
 use Rattle.struct_schema.specs.Below.{below}
-use Rattle.struct_schema.specs.BelowLaws.{same_valid, same_stays}
+use Rattle.struct_schema.specs.laws.BelowLaws.{same_valid, same_stays}
 use Rattle.hub_cells.specs.declared.allowed.TheConstants.{STORED_LEVELS}
 use Rattle.hub_cells.specs.Side.{Side, spoke, hub, other}
 use Rattle.hub_cells.specs.Colon.{at_colon, has_colon}

@@ -6,7 +6,7 @@ use Rattle.std.proofs.lemmas.Bool.{false≢true}
 use Rattle.struct_schema.specs.Shape.{Shape, properties, Shapes, no_shapes, shape_at, MaybeShapes, no_map, some_map, some_shape}
 use Rattle.struct_schema.specs.Names.{is_name, shape_named, property}
 use Rattle.struct_schema.specs.Fault.{or_else}
-use Rattle.struct_schema.specs.NameLaws.{one_name}
+use Rattle.struct_schema.specs.laws.NameLaws.{one_name}
 use Rattle.hub_cells.specs.Side.{Side, spoke, hub}
 use Rattle.hub_cells.specs.Level.{Name, AreDistinct}
 use Rattle.hub_cells.specs.Fit.{has_name}

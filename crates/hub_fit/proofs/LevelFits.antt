@@ -12,11 +12,11 @@ use Rattle.struct_schema.specs.Filled.{is_object}
 use Rattle.struct_schema.specs.Fault.{lesser}
 use Rattle.struct_schema.specs.declared.kind.NodeKind.{NodeKind}
 use Rattle.struct_schema.specs.declared.kind.NodeKind.TheVariants.{Object, Array, Text, Whole, Truth, IntOrText, Any}
-use Rattle.struct_schema.specs.SameLaws.{shape_same-Decides}
+use Rattle.struct_schema.specs.laws.SameLaws.{shape_same-Decides}
 use Rattle.struct_schema.specs.Below.{below}
-use Rattle.struct_schema.specs.NameLaws.{own_name}
+use Rattle.struct_schema.specs.laws.NameLaws.{own_name}
 use Rattle.kj_value.specs.Same.{json_same}
-use Rattle.kj_value.specs.SameLaws.{json_same-Decides}
+use Rattle.kj_value.specs.laws.SameLaws.{json_same-Decides}
 use Rattle.hub_cells.specs.Side.{Side, spoke, hub}
 use Rattle.hub_cells.specs.Cell as cells
 use Rattle.hub_cells.specs.Cross.{partner}
@@ -27,7 +27,7 @@ use Rattle.hub_rules.specs.Sound.{AreSoundRules}
 use Rattle.hub_rules.specs.Refusal.{node, is_there, node_at, or_any, default_at, is_free, absent, is_closed, has_properties, is_whole, is_whole_node, alike_below, alike_required, lacks_default, defaults_pair, is_pair, is_null, plain_text, all_valid, valid_blank, once, scale_fits, level_spot}
 use Rattle.hub_fit.specs.Chosen.{place_at, places_at, cell_at, with_cell, free_cells, free_in, cells_before, cells_of, with_inner, inners_of, level_of, fit_of}
 use Rattle.hub_fit.proofs.CellFits.{and_left, and_right, and_both, same_fits, spoke_only_fits, hub_only_fits, split_cell, split_fits, table_fits}
-use Rattle.hub_fit.specs.InnerFits.{InnerFits, AllInnerFit}
+use Rattle.hub_fit.specs.inner.InnerFits.{InnerFits, AllInnerFit}
 use Rattle.hub_fit.proofs.ScaleFits.{IsNumbers, scale_fits_cell}
 use Rattle.std.specs.Ordering.{nat_cmp, is_lt}
 use Rattle.std.specs.Cmp.Lexicographic.{slice_cmp}
@@ -36,7 +36,7 @@ use Rattle.std.proofs.lemmas.Slice.Eq.{bytes_eq-Decides}
 use Rattle.hub_cells.specs.Level.{cells_names, level_names}
 use Rattle.hub_fit.proofs.Names.{Apart}
 use Rattle.hub_fit.proofs.LevelNames.{all_names, has_all, distinct_all, free_names, free_names_are, has_free, distinct_names}
-use Rattle.hub_fit.specs.Differ.{AllDiffer}
+use Rattle.hub_fit.specs.inner.Differ.{AllDiffer}
 use Rattle.hub_fit.proofs.Holds.{RuleHolds, AllHold, NamesHold, Single, rules_hold, names_hold, passed, passed_on}
 
 not_true : (b : Bool) → not b ≡ true → b ≡ false

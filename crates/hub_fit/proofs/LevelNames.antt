@@ -11,7 +11,7 @@ use Rattle.hub_cells.specs.Level.{Name, Cell, Inners, names, named, cells_names,
 use Rattle.hub_cells.specs.Fit.{has_name}
 use Rattle.hub_rules.specs.Rule.{Rule, same, within, spoke_only, hub_only, split, table, scale, Rules, no_rules, rule, rule_names, names_on}
 use Rattle.hub_rules.specs.Refusal.{is_there}
-use Rattle.hub_fit.specs.Differ.{NamesDiffer, AllDiffer}
+use Rattle.hub_fit.specs.inner.Differ.{NamesDiffer, AllDiffer}
 use Rattle.hub_fit.specs.Chosen.{cell_at, with_cell, free_cells, free_in, cells_before, with_inner, inners_of}
 use Rattle.hub_fit.proofs.Names.{Apart, has_append, has_middle, or_assoc, or_none, or_second, fresh, distinct_append, distinct_middle}
 use Rattle.hub_fit.proofs.Holds.{Single}

@@ -5,8 +5,8 @@ use Rattle.std.proofs.lemmas.Bool.{false≢true}
 use Rattle.kj_value.specs.Fields.{AreInOrder}
 use Rattle.struct_schema.specs.Shape.{Shape, shapes_of, MaybeShape, no_shape, some_shape}
 use Rattle.struct_schema.specs.Names.{shape_named}
-use Rattle.struct_schema.specs.NameLaws.{own_name, below_shape}
-use Rattle.hub_fit.specs.Differ.{NamesDiffer}
+use Rattle.struct_schema.specs.laws.NameLaws.{own_name, below_shape}
+use Rattle.hub_fit.specs.inner.Differ.{NamesDiffer}
 
 pub differ : (es : List (List ℕ × Shape)) → AreInOrder es → NamesDiffer (shapes_of es)
 differ [] h = tt

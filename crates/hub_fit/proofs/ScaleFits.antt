@@ -18,7 +18,7 @@ use Rattle.hub_cells.specs.Side.{Side, spoke, hub}
 use Rattle.hub_cells.specs.Cell.{Tuple, scale, one}
 use Rattle.hub_cells.specs.Cross.{quotient, matched}
 use Rattle.hub_cells.specs.Level.{Place, Cell, is_word, allowed_at, all_allowed, allows, MatchAllowed, have_default, MatchThere, CellFits}
-use Rattle.hub_cells.specs.OneToOne.{quotient_times}
+use Rattle.hub_cells.specs.laws.OneToOne.{quotient_times}
 use Rattle.hub_rules.specs.Refusal.{is_whole, greater, lesser_of, or_bound, format_least, format_greatest, least, greatest, is_between, products_fit, quotients_fit, scale_fits}
 use Rattle.hub_fit.proofs.CellFits.{and_left, and_right, and_both, AbsentMatch, AnswerFits, AnswerThere, first_allowed, rest_allowed, room, shallow, alone, absent_over}
 use Rattle.hub_fit.proofs.Scales.{not_less, less_not, products_rise, quotients_rise}

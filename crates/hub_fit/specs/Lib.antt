@@ -1,5 +1,4 @@
 pub mod Chosen
-pub mod InnerFits
 pub mod Refuses
-pub mod Differ
 pub mod Conditions
+pub mod inner

@@ -8,8 +8,8 @@ ghost use Rattle.hub_rules.specs.Seen.{rule};
 ghost use Rattle.hub_rules.specs.Refusal.{is_closed, fault, inner_fault, within_fault, refused, schema_differs, schema_passes, fit_fault};
 ghost use Rattle.hub_fit.specs.Chosen.{fit_of, with_inner, inners_of as inners_chosen};
 ghost use Rattle.hub_cells.specs.Level.{Inners};
-ghost use Rattle.hub_fit.specs.InnerFits.{InnerFits, AllInnerFit, joined};
-ghost use Rattle.hub_fit.specs.Differ.{AllDiffer};
+ghost use Rattle.hub_fit.specs.inner.InnerFits.{InnerFits, AllInnerFit, joined};
+ghost use Rattle.hub_fit.specs.inner.Differ.{AllDiffer};
 ghost use Rattle.struct_schema.specs.Shape.{properties};
 ghost use Rattle.hub_fit.specs.Refuses.{RefusesFit};
 

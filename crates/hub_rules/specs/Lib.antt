@@ -1,10 +1,7 @@
 pub mod Rule
 pub mod Sound
-pub mod RuleCode
 pub mod Seen
-pub mod RuleFalls
-pub mod Inside
 pub mod Refusal
-pub mod Spots
-pub mod SeenSpot
 pub mod Told
+pub mod laws
+pub mod inner

@@ -3,7 +3,7 @@ use Rattle.std.specs.Prelude.{◌≡◌, ◌++◌, ℕ, List, [], ◌∷◌, Opt
 use Rattle.hub_cells.specs.Level.{Name}
 use Rattle.hub_cells.specs.Seen.{side}
 use Rattle.hub_rules.specs.Refusal.{Fault, name_twice, name_missing, schema_differs, unpaired_default, required_lost, range_lost}
-use Rattle.hub_rules.specs.Spots.{why}
+use Rattle.hub_rules.specs.inner.Spots.{why}
 use Rattle.hub_rules.specs.declared.refusal.FitFault.{FitFault}
 use Rattle.hub_rules.specs.declared.refusal.FitFault.TheVariants.{NameTwice, NameMissing, SchemaDiffers, UnpairedDefault, RequiredLost, RangeLost, NoMemory}
 use Rattle.hub_rules.specs.declared.refusal.Stop.{Stop}

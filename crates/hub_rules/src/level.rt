@@ -5,8 +5,8 @@ ghost use Rattle.struct_schema.specs.Fault.{or_else};
 ghost use Rattle.hub_rules.specs.Rule.{rules_of};
 ghost use Rattle.hub_rules.specs.Sound.{AreSoundRules};
 ghost use Rattle.hub_rules.specs.Seen.{rule};
-ghost use Rattle.hub_rules.specs.Spots.{why};
-ghost use Rattle.hub_rules.specs.SeenSpot.{spot};
+ghost use Rattle.hub_rules.specs.inner.Spots.{why};
+ghost use Rattle.hub_rules.specs.inner.SeenSpot.{spot};
 ghost use Rattle.hub_rules.specs.Refusal.{head_spot, refused, schema_spot, required_spot, level_spot, unpaired_default, range_lost};
 
 use crate::names::{differing_spot, lost_each, missing, spot_of, twice};

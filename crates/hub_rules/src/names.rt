@@ -8,8 +8,8 @@ ghost use Rattle.hub_cells.specs.Seen.{side};
 ghost use Rattle.hub_cells.specs.Fit.{has_name};
 ghost use Rattle.hub_rules.specs.Rule.{rules_of, rule_names, names_on};
 ghost use Rattle.hub_rules.specs.Seen.{rule};
-ghost use Rattle.hub_rules.specs.SeenSpot.{spot};
-ghost use Rattle.hub_rules.specs.Spots.{why};
+ghost use Rattle.hub_rules.specs.inner.SeenSpot.{spot};
+ghost use Rattle.hub_rules.specs.inner.Spots.{why};
 ghost use Rattle.hub_rules.specs.Refusal.{is_free, at_name, again, spot_at, name_twice, name_missing, twice_in, twice, absent, absent_in, absent_from, unpaired, differing, lost, missing, first_failing, node_at, alike_below, alike_required, schema_differs, required_lost};
 
 use crate::nodes::{AnyNode, alike_below, alike_required, is_there, node_at};

@@ -24,7 +24,7 @@ impl Model for AnyNode {
     ghost use Rattle.std.specs.Prelude.{◌≡◌};
     ghost use Rattle.struct_schema.specs.Shape.{Shape, no_shape};
     ghost use Rattle.struct_schema.specs.ShapeOf.{shape_of};
-    ghost use Rattle.struct_schema.specs.ShapeCode.{shape_code};
+    ghost use Rattle.struct_schema.specs.laws.ShapeCode.{shape_code};
     ghost use Rattle.hub_rules.specs.Refusal.{or_any};
 
     ghost Value = { Shape };

@@ -8,7 +8,7 @@ ghost use Rattle.hub_cells.specs.Fit.{is_required};
 ghost use Rattle.hub_cells.specs.Pairs.{values_of};
 ghost use Rattle.hub_rules.specs.Sound.{IsSoundRule};
 ghost use Rattle.hub_rules.specs.Seen.{rule};
-ghost use Rattle.hub_rules.specs.Spots.{why};
+ghost use Rattle.hub_rules.specs.inner.Spots.{why};
 ghost use Rattle.hub_rules.specs.Refusal.{node_at, default_at, schema_passes, default_passes, required_passes, range_passes, rule_passes, is_value, is_pair, defaults_pair, plain_text, all_valid, valid_blank, once, is_null, scale_fits};
 ghost use Rattle.struct_schema.specs.ShapeSame.{shape_same};
 

@@ -6,8 +6,8 @@ ghost use Rattle.hub_cells.specs.Seen.{side};
 ghost use Rattle.hub_rules.specs.Rule.{rules_of};
 ghost use Rattle.hub_rules.specs.Sound.{IsSoundRule, AreSoundRules};
 ghost use Rattle.hub_rules.specs.Seen.{rule};
-ghost use Rattle.hub_rules.specs.Spots.{why};
-ghost use Rattle.hub_rules.specs.SeenSpot.{spot};
+ghost use Rattle.hub_rules.specs.inner.Spots.{why};
+ghost use Rattle.hub_rules.specs.inner.SeenSpot.{spot};
 ghost use Rattle.hub_rules.specs.Told.{StopsFit, NamesFitFault, path_text};
 ghost use Rattle.hub_rules.specs.Refusal.{Fault, told, under, at_root, fault, inner_fault, within_fault, root_fault, fit_fault};
 

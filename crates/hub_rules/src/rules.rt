@@ -69,7 +69,7 @@ impl Model for Rules {
     ghost use Rattle.std.specs.Prelude.{List, map, ◌≤◌};
     ghost use Rattle.std.specs.Coded.{coded_list};
     ghost use Rattle.hub_rules.specs.Rule.{Rule, rules_of, inner_depth};
-    ghost use Rattle.hub_rules.specs.RuleCode.{rule_code};
+    ghost use Rattle.hub_rules.specs.laws.RuleCode.{rule_code};
 
     ghost Value = { List Rule };
 
@@ -86,7 +86,7 @@ impl Model for Rules {
 
     ghost size = { λ rs. inner_depth (rules_of rs) };
 
-    ghost use Rattle.hub_rules.specs.RuleFalls.{most-rules};
+    ghost use Rattle.hub_rules.specs.inner.RuleFalls.{most-rules};
 
     ghost size_decreases = { λ a h. most-rules a.lines.items };
 }

@@ -10,7 +10,7 @@ use Rattle.hub_cells.specs.Seen.{cell}
 use Rattle.hub_cells.specs.declared.cell.Cell.{Cell}
 use Rattle.keep_laws.specs.Body.{read_cells, entry_of}
 use Rattle.keep_laws.specs.Settle.{CellsAllowed}
-use Rattle.keep_bodies.specs.Over.{tuple_here}
+use Rattle.keep_bodies.specs.inner.Over.{tuple_here}
 use Rattle.keep_bodies.proofs.Lookups.{rest_from}
 
 pub cells_from : (cs : List Cell) (i : ℕ) (c : Cell) → i < length cs → c ≡ get_or cs i c → map cell (drop i cs) ≡ cell c ∷ map cell (drop (i + 1) cs)

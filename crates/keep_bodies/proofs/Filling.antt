@@ -12,7 +12,7 @@ use Rattle.hub_cells.specs.Level.{Name, Place, Cell, names, tuple_of, CellFits, 
 use Rattle.hub_cells.specs.Fit.{has_name}
 use Rattle.hub_fills.specs.Fills.{Fills, fills, Within, nothing_within, within}
 use Rattle.hub_fills.specs.Right.{IsRight, AreRight, RightFills, RightWithin}
-use Rattle.hub_fills.specs.RightLaws.{one_place}
+use Rattle.hub_fills.specs.laws.RightLaws.{one_place}
 use Rattle.keep_laws.specs.Entry.{all_named}
 use Rattle.keep_laws.specs.Marked.{Marks, Marked, MarkedInners, IfThere, there}
 use Rattle.keep_laws.specs.Body.{pairs_of, object_in, read_cells, read, read_inners, body}
@@ -23,7 +23,7 @@ use Rattle.keep_laws.proofs.Fields.{bytes_same, field_same, field_other, Disjoin
 use Rattle.keep_laws.proofs.FittedWritten.{rising_put}
 use Rattle.keep_laws.proofs.Marks.{completed_same}
 use Rattle.keep_laws.proofs.Tests.{lies, both_true, and_true}
-use Rattle.keep_bodies.specs.Filling.{with_absent, fill_place, fill_cells, put_object, fill_level, fill_inners, is_absent, cells_lack, object_lacks, lacks, inners_lack}
+use Rattle.keep_bodies.specs.inner.Filling.{with_absent, fill_place, fill_cells, put_object, fill_level, fill_inners, is_absent, cells_lack, object_lacks, lacks, inners_lack}
 
 -- ---- names that aren't touched
 

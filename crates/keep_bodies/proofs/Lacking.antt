@@ -18,7 +18,7 @@ use Rattle.hub_fills.specs.Depth.{has_value, has_fill, has_within}
 use Rattle.hub_fills.specs.SeenFills.{within_of}
 use Rattle.hub_fills.specs.declared.fills.Deeper.{Deeper}
 use Rattle.keep_laws.specs.Body.{as_object, object_in}
-use Rattle.keep_bodies.specs.Filling.{fill_cells, put_object, fill_inners, is_absent, cells_lack, object_lacks, lacks, inners_lack}
+use Rattle.keep_bodies.specs.inner.Filling.{fill_cells, put_object, fill_inners, is_absent, cells_lack, object_lacks, lacks, inners_lack}
 use Rattle.keep_laws.proofs.Tests.{lies}
 
 abbrev pub seen_values : List (Option JVal) → List (Option Json)

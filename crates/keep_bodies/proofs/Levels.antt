@@ -17,7 +17,7 @@ use Rattle.keep_bodies.specs.Held.{held}
 use Rattle.keep_laws.proofs.Fields.{allowed_length}
 use Rattle.keep_laws.proofs.LawA.{other_other, goods}
 use Rattle.keep_laws.proofs.Dead.{settled_good}
-use Rattle.keep_bodies.specs.Over.{marks_over, inner_marks, inner_fields, inner_kept, cell_fields, cell_kept, mark_over}
+use Rattle.keep_bodies.specs.inner.Over.{marks_over, inner_marks, inner_fields, inner_kept, cell_fields, cell_kept, mark_over}
 
 put_more : (ns ms : List Name) (os qs : Tuple) (ps : Pairs) → length os ≡ length ns → put (ns ++ ms) (os ++ qs) ps ≡ put ms qs (put ns os ps)
 put_more [] ms [] qs ps e = refl

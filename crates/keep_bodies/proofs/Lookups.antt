@@ -15,9 +15,9 @@ use Rattle.kept_entries.specs.declared.entry.Entry.{Entry}
 use Rattle.kept_entries.specs.Entry.{first_name, is_before, are_in_order}
 use Rattle.keep_laws.specs.Entry.{is_part, kept_here, kept_of}
 use Rattle.keep_laws.proofs.Canonical.{AllAfter, EntriesRise, rise_from}
-use Rattle.keep_bodies.specs.Left.{left_entry}
-use Rattle.keep_bodies.specs.Spots.{spot_at, spot, spot_cmp, comes_first, leading}
-use Rattle.keep_bodies.specs.Lookup.{find, part_of, AreTwo, IsFound}
+use Rattle.keep_bodies.specs.inner.Left.{left_entry}
+use Rattle.keep_bodies.specs.inner.Spots.{spot_at, spot, spot_cmp, comes_first, leading}
+use Rattle.keep_bodies.specs.inner.Lookup.{find, part_of, AreTwo, IsFound}
 use Rattle.keep_bodies.proofs.Standing.{true_false, spot_total, lt_less, lt_not_eq, gt_not_eq, le_lt, here_strict, falls, AllNot, none_after}
 
 lies : false ≡ true → ⊥

@@ -11,7 +11,7 @@ use Rattle.keep_laws.specs.Entry.{put, inside, under}
 use Rattle.keep_laws.specs.Marked.{Marked, IfThere, OrAbsent, there}
 use Rattle.keep_laws.specs.Body.{object_in, as_field, read, read_inners, body, with_inside, all_entries}
 use Rattle.keep_laws.specs.Settle.{IsAllowed, InnersAllowed}
-use Rattle.keep_bodies.specs.Over.{marks_over, inner_marks}
+use Rattle.keep_bodies.specs.inner.Over.{marks_over, inner_marks}
 use Rattle.keep_bodies.proofs.Lookups.{rest_from}
 
 -- ---- one object

@@ -17,8 +17,8 @@ use Rattle.keep_laws.specs.Words.{Has}
 use Rattle.keep_laws.proofs.Apart.{under_before}
 use Rattle.keep_laws.proofs.Canonical.{AllAfter, EntriesRise, has_after, rise_from, in_order_from}
 use Rattle.keep_laws.proofs.Holds.{has_under}
-use Rattle.keep_bodies.specs.Left.{left_entry}
-use Rattle.keep_bodies.specs.Spots.{Spot, spot_at, spot, spot_cmp, comes_first, leading, AllDeeper}
+use Rattle.keep_bodies.specs.inner.Left.{left_entry}
+use Rattle.keep_bodies.specs.inner.Spots.{Spot, spot_at, spot, spot_cmp, comes_first, leading, AllDeeper}
 
 pub true_false : (b : Bool) → b ≡ true → b ≡ false → ⊥
 true_false b p q = grind arith

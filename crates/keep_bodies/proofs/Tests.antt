@@ -3,7 +3,7 @@ use Rattle.std.proofs.Common.{◌≡◌, List, [], ◌∷◌, ◌++◌, Bool, tr
 use Rattle.kj_value.specs.Json.{Json}
 use Rattle.kj_value.specs.Fields.{Pairs, field}
 use Rattle.kj_value.specs.Same.{json_same}
-use Rattle.kj_value.specs.SameLaws.{json_same-Decides}
+use Rattle.kj_value.specs.laws.SameLaws.{json_same-Decides}
 use Rattle.hub_cells.specs.Side.{Side, spoke, hub, other}
 use Rattle.hub_cells.specs.Cell.{Kind, same, Tuple}
 use Rattle.hub_cells.specs.Cross.{matched, shown}
@@ -14,7 +14,7 @@ use Rattle.keep_laws.specs.Entry.{put, kept_of}
 use Rattle.keep_laws.specs.Marked.{Mark, crossed_as, crossed_mark}
 use Rattle.keep_laws.specs.Body.{entry_of}
 use Rattle.keep_laws.specs.Settle.{is_unmatched, tuple_same, alive, living}
-use Rattle.keep_bodies.specs.Over.{tuple_here, mark_over}
+use Rattle.keep_bodies.specs.inner.Over.{tuple_here, mark_over}
 
 lies : false ≡ true → ⊥
 lies e = cc

@@ -12,7 +12,7 @@ ghost use Rattle.hub_fills.specs.Depth.{values_in, within_in};
 ghost use Rattle.keep_laws.specs.Body.{object_in};
 ghost use Rattle.keep_laws.specs.Known.{IsKnown};
 ghost use Rattle.keep_laws.specs.Complete.{completed};
-ghost use Rattle.keep_bodies.specs.Filling.{fill_place, fill_cells, put_object, fill_level, fill_inners, is_absent, cells_lack, object_lacks, lacks, inners_lack};
+ghost use Rattle.keep_bodies.specs.inner.Filling.{fill_place, fill_cells, put_object, fill_level, fill_inners, is_absent, cells_lack, object_lacks, lacks, inners_lack};
 
 use crate::tuples::object_at;
 use hub_cells::{Cell, Fitted, Inner, Name, Names};

@@ -10,9 +10,9 @@ ghost use Rattle.keep_laws.specs.Entry.{put, kept_of};
 ghost use Rattle.keep_laws.specs.Marked.{crossed_mark};
 ghost use Rattle.keep_laws.specs.Body.{entry_of, read_cells};
 ghost use Rattle.keep_laws.specs.Settle.{alive, living, CellsAllowed};
-ghost use Rattle.keep_bodies.specs.Left.{entries_left};
-ghost use Rattle.keep_bodies.specs.Turned.{turned};
-ghost use Rattle.keep_bodies.specs.Over.{tuple_here, mark_over, cell_fields, cell_kept};
+ghost use Rattle.keep_bodies.specs.inner.Left.{entries_left};
+ghost use Rattle.keep_bodies.specs.inner.Turned.{turned};
+ghost use Rattle.keep_bodies.specs.inner.Over.{tuple_here, mark_over, cell_fields, cell_kept};
 
 use crate::entries::{keep, kept_of};
 use crate::left::Left;

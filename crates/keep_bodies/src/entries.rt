@@ -8,11 +8,11 @@ ghost use Rattle.hub_cells.specs.Seen.{tuple};
 ghost use Rattle.kept_entries.specs.Entry.{are_in_order};
 ghost use Rattle.keep_laws.specs.Entry.{all_named, is_part, kept_of};
 ghost use Rattle.keep_laws.specs.Body.{entry_of};
-ghost use Rattle.keep_bodies.specs.Left.{left_entry, entries_left};
-ghost use Rattle.keep_bodies.specs.Spots.{spot, spot_cmp};
-ghost use Rattle.keep_bodies.specs.Lookup.{find, part_of, AreTwo, IsFound};
-ghost use Rattle.keep_bodies.specs.Names.{name_list};
-ghost use Rattle.keep_bodies.specs.Turned.{turned};
+ghost use Rattle.keep_bodies.specs.inner.Left.{left_entry, entries_left};
+ghost use Rattle.keep_bodies.specs.inner.Spots.{spot, spot_cmp};
+ghost use Rattle.keep_bodies.specs.inner.Lookup.{find, part_of, AreTwo, IsFound};
+ghost use Rattle.keep_bodies.specs.inner.Names.{name_list};
+ghost use Rattle.keep_bodies.specs.inner.Turned.{turned};
 
 use crate::left::Left;
 use crate::spots::{compare_spot, count_first};

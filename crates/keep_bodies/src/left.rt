@@ -2,8 +2,8 @@
 ghost use Rattle.std.specs.Prelude.{◌≡◌, ◌+◌, true, map};
 ghost use Rattle.kept_entries.specs.Entry.{are_in_order};
 ghost use Rattle.keep_laws.specs.Entry.{inside};
-ghost use Rattle.keep_bodies.specs.Left.{left_entry, entries_left};
-ghost use Rattle.keep_bodies.specs.Spots.{AllDeeper};
+ghost use Rattle.keep_bodies.specs.inner.Left.{left_entry, entries_left};
+ghost use Rattle.keep_bodies.specs.inner.Spots.{AllDeeper};
 
 use crate::spots::count_first;
 use kept_entries::Entry;

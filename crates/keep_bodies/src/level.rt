@@ -11,9 +11,9 @@ ghost use Rattle.keep_laws.specs.Entry.{put, inside, under};
 ghost use Rattle.keep_laws.specs.Marked.{IfThere, OrAbsent, there};
 ghost use Rattle.keep_laws.specs.Body.{object_in, as_field, body, all_entries, with_inside, read, read_inners};
 ghost use Rattle.keep_laws.specs.Settle.{IsAllowed, InnersAllowed};
-ghost use Rattle.keep_bodies.specs.Left.{entries_left};
-ghost use Rattle.keep_bodies.specs.Turned.{turned};
-ghost use Rattle.keep_bodies.specs.Over.{marks_over, inner_marks, inner_fields, inner_kept};
+ghost use Rattle.keep_bodies.specs.inner.Left.{entries_left};
+ghost use Rattle.keep_bodies.specs.inner.Turned.{turned};
+ghost use Rattle.keep_bodies.specs.inner.Over.{marks_over, inner_marks, inner_fields, inner_kept};
 
 use crate::crossing::cross_cells;
 use crate::left::{Left, inside};

@@ -1,8 +1,8 @@
 //! Where entries in order stand.
 ghost use Rattle.std.specs.Prelude.{◌≡◌, ◌≤◌, true, length};
 ghost use Rattle.kept_entries.specs.Entry.{are_in_order, first_name};
-ghost use Rattle.keep_bodies.specs.Left.{left_entry, entries_left};
-ghost use Rattle.keep_bodies.specs.Spots.{spot, spot_cmp, comes_first, leading};
+ghost use Rattle.keep_bodies.specs.inner.Left.{left_entry, entries_left};
+ghost use Rattle.keep_bodies.specs.inner.Spots.{spot, spot_cmp, comes_first, leading};
 
 use crate::left::Left;
 use kept_entries::Entry;

@@ -8,7 +8,7 @@ ghost use Rattle.hub_cells.specs.Seen.{side, tuple, place_list, cell};
 ghost use Rattle.keep_laws.specs.Entry.{put};
 ghost use Rattle.keep_laws.specs.Body.{object_in};
 ghost use Rattle.keep_laws.specs.Settle.{value_same, tuple_same};
-ghost use Rattle.keep_bodies.specs.Names.{name_list};
+ghost use Rattle.keep_bodies.specs.inner.Names.{name_list};
 
 use hub_cells::{Cell, Name, Names, Side, Tuple};
 use kj_value::{JFields, JVal, NoMemory, Txt, copy, same};

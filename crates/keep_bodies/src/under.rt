@@ -1,7 +1,7 @@
 //! Entries of an inner object as they stand outside of it.
 ghost use Rattle.std.specs.Prelude.{◌≡◌, ◌∷◌, ◌++◌, map, reverse, IfOk, OnOk};
 ghost use Rattle.keep_laws.specs.Entry.{under};
-ghost use Rattle.keep_bodies.specs.Turned.{turned};
+ghost use Rattle.keep_bodies.specs.inner.Turned.{turned};
 
 use kept_entries::Entry;
 use kj_value::{NoMemory, TextList, Txt};

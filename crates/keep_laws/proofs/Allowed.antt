@@ -11,7 +11,7 @@ use Rattle.struct_schema.specs.Shape.{Shape, own, properties, some_shape}
 use Rattle.struct_schema.specs.Names.{property}
 use Rattle.struct_schema.specs.Valid.{valid}
 use Rattle.struct_schema.specs.Stays.{stays}
-use Rattle.struct_schema.specs.Own.{stays_filled, filled_stays}
+use Rattle.struct_schema.specs.laws.Own.{stays_filled, filled_stays}
 use Rattle.hub_cells.specs.declared.allowed.TheConstants.{STORED_LEVELS}
 use Rattle.hub_cells.specs.Side.{Side}
 use Rattle.hub_cells.specs.Level.{Name, Place, Cell, places, names, tuple_of, cells_names, is_word, allowed_at, all_allowed}

@@ -16,8 +16,8 @@ use Rattle.hub_fills.specs.Lookups.{cell_at, level_at, cell_in, level_in}
 use Rattle.hub_fills.specs.Fills.{Fills, fills, Within, within, default_of, first_default, fill_of, fills_of, fills_within}
 use Rattle.hub_fills.specs.Late.{is_plain, pairs_plainly, all_pair}
 use Rattle.hub_fills.specs.Sound.{IsAmong, EachLevel, AreAmong, HasLevel}
-use Rattle.hub_fills.specs.NameLaws.{one_name, has_cases}
-use Rattle.hub_fills.specs.RightLaws.{CellFacts, level_facts, Given, from_first, pair_at, plain_one, all_inner, level_there, among_at}
+use Rattle.hub_fills.specs.laws.NameLaws.{one_name, has_cases}
+use Rattle.hub_fills.specs.laws.RightLaws.{CellFacts, level_facts, Given, from_first, pair_at, plain_one, all_inner, level_there, among_at}
 use Rattle.keep_laws.specs.Marked.{IfThere, there}
 use Rattle.keep_laws.specs.Body.{as_object, object_in, read, read_cells, read_inners}
 use Rattle.keep_laws.specs.Complete.{IsFilled, CellsFilled, IsComplete, InnersComplete}

@@ -10,7 +10,7 @@ use Rattle.hub_cells.specs.Cross.{matched, shown}
 use Rattle.hub_cells.specs.Level.{Place, Cell, places, names, tuple_of, allowed_at, all_allowed, allows, some_there, have_default, can_default, MatchThere, CellFits, CellsFit, Fits, InnersFit, Level, level, Inners, no_inner, inner}
 use Rattle.hub_fills.specs.Fills.{Fills, fills, Within, nothing_within, within}
 use Rattle.hub_fills.specs.Right.{IsRight, AreRight, RightFills, RightWithin}
-use Rattle.hub_fills.specs.RightLaws.{one_place}
+use Rattle.hub_fills.specs.laws.RightLaws.{one_place}
 use Rattle.keep_laws.specs.Marked.{Mark, Marks, Marked, MarkedInners, IsAlive, AreGood, IfThere, OrAbsent, IsGood, InnersGood, there, crossed_as, crossed_mark, crossed_marks, crossed, crossed_inners}
 use Rattle.keep_laws.specs.Settle.{set_at, all_set, CellsSet, AreSet, InnersSet}
 use Rattle.keep_laws.specs.Complete.{where_absent, filled_tuple, filled_marks, filled, filled_inners, IsFilled, CellsFilled, IsComplete, InnersComplete}

@@ -1,7 +1,7 @@
 -- An object whose dead entries are taken out is whole, and comes back from the other side.
 use Rattle.std.proofs.Common.{◌≡◌, List, [], ◌∷◌, Bool, true, false, ◌&&◌, cond, Option, Some, None, refl, ap, ap₂, sym, subst, ◌∙◌, arith}
 use Rattle.kj_value.specs.Json.{Json}
-use Rattle.kj_value.specs.SameLaws.{json_same-Decides}
+use Rattle.kj_value.specs.laws.SameLaws.{json_same-Decides}
 use Rattle.hub_cells.specs.Side.{Side, other}
 use Rattle.hub_cells.specs.Cell.{Tuple}
 use Rattle.hub_cells.specs.Cross.{matched, shown}

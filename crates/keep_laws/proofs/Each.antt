@@ -6,7 +6,7 @@ use Rattle.kj_value.specs.Json.{Json, depth, members_depth, members_of}
 use Rattle.kj_value.specs.Fields.{Pairs, field}
 use Rattle.kj_value.specs.Sound.{IsSoundJson, ComesFirst, AreRising}
 use Rattle.struct_schema.specs.Names.{is_name}
-use Rattle.struct_schema.specs.NameLaws.{one_name, own_name, other_name}
+use Rattle.struct_schema.specs.laws.NameLaws.{one_name, own_name, other_name}
 use Rattle.hub_cells.specs.Level.{Name}
 use Rattle.hub_cells.specs.Fit.{has_name}
 use Rattle.keep_laws.specs.Entry.{all_named}

@@ -11,7 +11,7 @@ use Rattle.struct_schema.specs.Shape.{plain, Shape, shape, shape_at, no_shapes, 
 use Rattle.struct_schema.specs.Names.{is_name, property}
 use Rattle.struct_schema.specs.Valid.{valid}
 use Rattle.struct_schema.specs.Stays.{stays}
-use Rattle.struct_schema.specs.Own.{stays_filled}
+use Rattle.struct_schema.specs.laws.Own.{stays_filled}
 use Rattle.struct_schema.specs.declared.kind.NodeKind.TheVariants.{Object, Whole}
 use Rattle.hub_cells.specs.Side.{Side, spoke, hub, other}
 use Rattle.hub_cells.specs.Cell.{same, Tuple}

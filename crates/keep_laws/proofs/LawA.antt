@@ -6,7 +6,7 @@ use Rattle.hub_cells.specs.Cross.{matched, shown}
 use Rattle.hub_cells.specs.Level.{allows, Cell, Level, level, Inners, no_inner, inner, MatchAllowed, CellFits, CellsFit, Fits, InnersFit}
 use Rattle.keep_laws.specs.Marked.{Mark, Marks, Marked, MarkedInners, IsAlive, AreGood, OrAbsent, IsGood, InnersGood, crossed_as, crossed_mark, crossed_marks, there, crossed, crossed_inners}
 use Rattle.keep_laws.specs.Pairing.{State, is_matched, hub_kept, spoke_kept, AllPaired, BothOrNeither, Paired, InnersPaired}
-use Rattle.hub_cells.specs.OneToOne.{one_to_one, is_hub, is_spoke, hub_is, none_unmatched, unmatched_none}
+use Rattle.hub_cells.specs.laws.OneToOne.{one_to_one, is_hub, is_spoke, hub_is, none_unmatched, unmatched_none}
 
 pub other_other : (d : Side) → other (other d) ≡ d
 other_other spoke = refl

@@ -9,7 +9,7 @@ use Rattle.struct_schema.specs.Names.{value_at, property, or_shape, shape_for, p
 use Rattle.struct_schema.specs.Keywords.{has_kind, is_chosen, is_within, keeps}
 use Rattle.struct_schema.specs.Valid.{valid, members_valid}
 use Rattle.struct_schema.specs.Filled.{is_object, PresentFilled, PropertyFilled, Filled, NameFilled, RestFilled}
-use Rattle.struct_schema.specs.Own.{to_name, of_name}
+use Rattle.struct_schema.specs.laws.Own.{to_name, of_name}
 use Rattle.struct_schema.specs.declared.kind.NodeKind.{NodeKind}
 use Rattle.hub_cells.specs.declared.allowed.TheConstants.{STORED_LEVELS}
 use Rattle.hub_cells.specs.Level.{Name}

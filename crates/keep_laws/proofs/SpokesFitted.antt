@@ -8,7 +8,7 @@ use Rattle.hub_cells.specs.Level.{Level}
 use Rattle.hub_cells.specs.Fit.{Stands, IsFitted}
 use Rattle.hub_fills.specs.Right.{RightFills}
 use Rattle.hub_fills.specs.Sound.{IsAmong, EachLevel, AreAmong, HasLevel}
-use Rattle.hub_fills.specs.RightLaws.{level_right}
+use Rattle.hub_fills.specs.laws.RightLaws.{level_right}
 use Rattle.keep_laws.specs.FittedBody.{IsBody, IsBodyOf, HasRoom}
 use Rattle.keep_laws.specs.Spokes.{Spoke, Spokes, AreFittedTo, HaveOneHub, levels_of, HaveDefaults, IsDefinition, fills_at}
 use Rattle.keep_laws.specs.Keys.{of_spoke, key_kind, spoke_key}

@@ -1,4 +1,4 @@
 pub mod Entry
-pub mod EntryCode
 pub mod Text
 pub mod Refusal
+pub mod laws

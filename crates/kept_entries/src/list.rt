@@ -16,7 +16,7 @@ impl Model for Kept {
     ghost use Rattle.std.specs.Prelude.{List};
     ghost use Rattle.std.specs.Coded.{coded_list};
     ghost use Rattle.kept_entries.specs.declared.entry.Entry.{Entry};
-    ghost use Rattle.kept_entries.specs.EntryCode.{entry_code};
+    ghost use Rattle.kept_entries.specs.laws.EntryCode.{entry_code};
 
     ghost Value = { List Entry };
 

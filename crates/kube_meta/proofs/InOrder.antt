@@ -8,7 +8,7 @@ use Rattle.kj_value.specs.Json.{Json, text}
 use Rattle.kj_value.specs.Fields.{Pairs, with_field, IsBelowFirst, AreInOrder}
 use Rattle.kube_meta.specs.View.{Texts}
 use Rattle.kube_meta.specs.Document.{optional, text_fields}
-use Rattle.kube_meta.specs.Following.{IsAfter, Follows}
+use Rattle.kube_meta.specs.inner.Following.{IsAfter, Follows}
 
 turned : (k l : List ℕ) → IsAfter k l → slice_cmp nat_cmp l k ≡ Less
 turned k l e = nat_list_cmp_total.antisymm l k ∙ ap ordering_reverse e

@@ -5,7 +5,7 @@ ghost use Rattle.kj_value.specs.Seen.{json};
 ghost use Rattle.kj_value.specs.Texts.{bytes_of};
 ghost use Rattle.kube_meta.specs.View.{meta_of, object_of, stamp_bytes};
 ghost use Rattle.kube_meta.specs.Document.{optional, some_text, some_texts, some_list, some_generation, text_fields, metadata, document};
-ghost use Rattle.kube_meta.specs.Following.{IsAfter, Follows};
+ghost use Rattle.kube_meta.specs.inner.Following.{IsAfter, Follows};
 
 use crate::object::{Meta, Object};
 use kj_value::{JFields, JItems, JVal, NoMemory, Stamp, TextField, TextList, TextMap, Txt};

@@ -9,15 +9,15 @@ use Rattle.kube_meta.specs.Plan.{Migration, running, may_claim, is_done}
 use Rattle.api_calls.specs.Calls.{Server, Call, work, Told, answered, worked, failed, gave_back, no_memory, IsTurn, Decides, Fails, IsMoved, IsLost, Comes, decided, wants_memory, not_converted, moved, lost}
 use Rattle.api_calls.specs.Ends.{grown, prepare}
 use Rattle.api_calls.specs.Item.{Item, Logged, items, items_of}
-use Rattle.api_calls.specs.GrowthLaws.{legal-more}
+use Rattle.api_calls.specs.laws.GrowthLaws.{legal-more}
 use Rattle.api_calls.specs.Legal.{In, legal}
 use Rattle.api_calls.specs.Meaning.{Meaning}
 use Rattle.api_calls.specs.Reply.{ReplyView}
 use Rattle.api_calls.specs.State.{State, revision, state}
 use Rattle.api_calls.specs.Work.{Turn, Work, idle_turn, first_turn, turn_decision}
-use Rattle.api_calls.specs.WorkGuards.{work-guard}
+use Rattle.api_calls.specs.inner.WorkGuards.{work-guard}
 use Rattle.api_calls.proofs.Sound.{sound-all, finished}
-use Rattle.turn_cell.specs.Laws.{items_of-append}
+use Rattle.turn_cell.specs.laws.Laws.{items_of-append}
 use Rattle.turn_cell.specs.Turns.{addition}
 use Rattle.turn_cell.specs.Views.{IsAlone}
 use Rattle.turn_cell.specs.declared.view.View.{View}

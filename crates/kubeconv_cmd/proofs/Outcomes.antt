@@ -23,12 +23,12 @@ use Rattle.far_lines.specs.Migrated.{Migrated}
 use Rattle.far_lines.specs.Ends.{Came, put_back, broke as broke_so, unmade, CameOf, at_place, placeless as no_place, unread as unread_place, Told as ToldTally, IfSilent, OnUnwritten, fault_end}
 use Rattle.far_lines.specs.declared.end.MigrateEnd.{MigrateEnd}
 use Rattle.far_lines.specs.declared.end.MigrateEnd.TheVariants as migrated
-use Rattle.kubeconv_cmd.specs.Migrations.{migrate_end_line, migrate_status}
+use Rattle.kubeconv_cmd.specs.inner.Migrations.{migrate_end_line, migrate_status}
 use Rattle.kubeconv_cmd.specs.Status.{error_line, pipe_status}
 use Rattle.kubeconv_cmd.specs.Outcome.{World, OfTexts, OfInput, HasLoaded, HasHandedOn, Says, IsSilent, HearsNobody, AnswersSo, Stopped, unreadable, refused, wanting, PipeOutcome, talked, unserved, TaskOutcome, wrote_line, broke_line, refused_input, unread_input, wanting_task, unloaded_task, DrillOutcome, wrote_drill, broke_drill, wanting_drill, ServeOutcome, answered, answered_fewer, unheard, untold, wanting_service, unloaded_service, MigratedAt, MigrateOutcome, settled, contested, broke_tally, forgotten, misanswered, unlinked, wanting_migration, placeless, IsPlaceless, Outcome, FilesFail, InputFails, OutputFails, EarsFail, FilesStay, InputStays, OutputStays, EarsStay}
-use Rattle.kubeconv_cmd.specs.Ends.{OnRefused, OnUnread, stop_status, stop_line, talk_status, why_text}
-use Rattle.kubeconv_cmd.specs.Halts.{OnHalt, Unwritten, task_status, task_line}
-use Rattle.kubeconv_cmd.specs.Served.{OnUnheard, UnlessUnheard, OnUntold, Silent, served_status}
+use Rattle.kubeconv_cmd.specs.inner.Ends.{OnRefused, OnUnread, stop_status, stop_line, talk_status, why_text}
+use Rattle.kubeconv_cmd.specs.inner.Halts.{OnHalt, Unwritten, task_status, task_line}
+use Rattle.kubeconv_cmd.specs.inner.Served.{OnUnheard, UnlessUnheard, OnUntold, Silent, served_status}
 use Rattle.kubeconv_cmd.specs.declared.pipe.PipeEnd.{PipeEnd}
 use Rattle.kubeconv_cmd.specs.declared.pipe.PipeEnd.TheVariants.{Closed, Torn, Refused, Spent, ReadFault, WriteFault}
 use Rattle.kubeconv_cmd.specs.declared.stop.Stop.{Stop}

@@ -19,7 +19,7 @@ use Rattle.serve_spans.specs.Spans.{AllServed}
 use Rattle.serve_many.specs.Answered.{IsAnswered, front_of}
 use Rattle.kubeconv_cmd.specs.Serving.{Start, meaning_of}
 use Rattle.kubeconv_cmd.specs.Beside.{no_faults, AnsweredAll, ServesAll}
-use Rattle.kubeconv_cmd.specs.Served.{OnUnheard}
+use Rattle.kubeconv_cmd.specs.inner.Served.{OnUnheard}
 use Rattle.kubeconv_cmd.specs.declared.serve_line.Unserved.{Unserved}
 use Rattle.kubeconv_cmd.specs.declared.serve_line.Unserved.TheVariants.{NotListening, WriteFailed, NoMemory}
 use Rattle.kubeconv_cmd.proofs.Serving.{first_alone}

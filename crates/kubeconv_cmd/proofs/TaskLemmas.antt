@@ -13,7 +13,7 @@ use Rattle.api_calls.specs.Readings.{IsFaulty}
 use Rattle.api_calls.specs.declared.versions.TheConstants.{OBJECT_LEVELS}
 use Rattle.command_lines.specs.Lines.{Task, convert, review}
 use Rattle.kubeconv_cmd.specs.Tasks.{IsVersionNamed, IsValueOf, AnswersDocument, RefusesDocument, unknown, long_document, faulty as faulty_document, long_review, no_review, AnswersTexts, RefusesTexts, Wrote, Broke, no_version, too_long, IsWithout, fault_words, not_review}
-use Rattle.kubeconv_cmd.specs.Halts.{OnUnread, Follows, OnHalt, NoValue, NoAnswer, long, faulty, none}
+use Rattle.kubeconv_cmd.specs.inner.Halts.{OnUnread, Follows, OnHalt, NoValue, NoAnswer, long, faulty, none}
 use Rattle.kubeconv_cmd.specs.declared.input.TheConstants.{MOST_INPUT_BYTES}
 use Rattle.kubeconv_cmd.specs.declared.input.Unread.{Unread}
 use Rattle.kubeconv_cmd.specs.declared.input.Unread.TheVariants as unread

@@ -6,7 +6,4 @@ pub mod Beside
 pub mod Outcome
 pub mod Status
 pub mod Refusal
-pub mod Ends
-pub mod Halts
-pub mod Migrations
-pub mod Served
+pub mod inner

@@ -5,7 +5,7 @@ ghost use Rattle.edge_io.specs.Causes.{Rose};
 ghost use Rattle.crontab_example.specs.Documents.{definition_document, rules_document};
 ghost use Rattle.kubeconv_cmd.specs.Tasks.{Wrote, Broke};
 ghost use Rattle.kubeconv_cmd.specs.Serving.{DrillsTexts};
-ghost use Rattle.kubeconv_cmd.specs.Halts.{OnHalt, Unwritten};
+ghost use Rattle.kubeconv_cmd.specs.inner.Halts.{OnHalt, Unwritten};
 
 use crate::halt::Halt;
 use crate::loading::load_example;

@@ -11,7 +11,7 @@ ghost use Rattle.built_in.specs.Texts.{definition_text, rules_text};
 ghost use Rattle.kubeconv_cmd.specs.Texts.{Texts};
 ghost use Rattle.kubeconv_cmd.specs.Refusal.{IsText, IsUnfit, IsFirstRefused, IsServed, DontLoad, RefusesNamed, file_of};
 ghost use Rattle.command_lines.specs.Given.{named_of};
-ghost use Rattle.kubeconv_cmd.specs.Ends.{OnRefused, OnUnread};
+ghost use Rattle.kubeconv_cmd.specs.inner.Ends.{OnRefused, OnUnread};
 
 use crate::stop::{Stop, Why};
 use built_in::accepted;

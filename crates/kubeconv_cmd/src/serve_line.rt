@@ -10,7 +10,7 @@ ghost use Rattle.crd_versions.specs.Set.{definition_of};
 ghost use Rattle.kubeconv_cmd.specs.Status.{error_line};
 ghost use Rattle.kubeconv_cmd.specs.Listening.{listening_line, Told, ToldSome, Announced, NamesPlace};
 ghost use Rattle.kubeconv_cmd.specs.Beside.{AnsweredAll, ServesAll};
-ghost use Rattle.kubeconv_cmd.specs.Served.{OnUnheard, UnlessUnheard, OnUntold, Silent, served_status};
+ghost use Rattle.kubeconv_cmd.specs.inner.Served.{OnUnheard, UnlessUnheard, OnUntold, Silent, served_status};
 
 use crate::status::{DONE, LISTEN_FAILED, NO_MEMORY, WRITE_FAILED, ended};
 use crate::tasks::write_line;

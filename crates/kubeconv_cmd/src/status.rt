@@ -5,9 +5,9 @@ ghost use Rattle.edge_io.specs.Causes.{HasCause, Rose};
 ghost use Rattle.edge_io.specs.Sends.{Sends};
 ghost use Rattle.kubeconv_cmd.specs.Status.{pipe_status, answer_line, error_line as error_line_of, line_saying, refusal_line};
 ghost use Rattle.kubeconv_cmd.specs.Refusal.{blame_text};
-ghost use Rattle.kubeconv_cmd.specs.Ends.{stop_line, stop_status, talk_status, why_text};
-ghost use Rattle.kubeconv_cmd.specs.Halts.{task_line, task_status};
-ghost use Rattle.kubeconv_cmd.specs.Migrations.{migrate_end_line, migrate_status};
+ghost use Rattle.kubeconv_cmd.specs.inner.Ends.{stop_line, stop_status, talk_status, why_text};
+ghost use Rattle.kubeconv_cmd.specs.inner.Halts.{task_line, task_status};
+ghost use Rattle.kubeconv_cmd.specs.inner.Migrations.{migrate_end_line, migrate_status};
 
 use crate::halt::Halt;
 use crate::pipe::PipeEnd;

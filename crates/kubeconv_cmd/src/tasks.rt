@@ -16,7 +16,7 @@ ghost use Rattle.review_batch.specs.Answer.{IsAnswer, IsNoRequest};
 ghost use Rattle.kj_value.specs.Text.{text_of};
 ghost use Rattle.kubeconv_cmd.specs.declared.input.TheConstants.{MOST_INPUT_BYTES};
 ghost use Rattle.command_lines.specs.Given.{task_of};
-ghost use Rattle.kubeconv_cmd.specs.Halts.{Follows, OnHalt, Unwritten, NoValue, NoAnswer};
+ghost use Rattle.kubeconv_cmd.specs.inner.Halts.{Follows, OnHalt, Unwritten, NoValue, NoAnswer};
 ghost use Rattle.kubeconv_cmd.specs.Tasks.{AnswersDocument, RefusesDocument, Wrote, Broke, IsValueOf, IsWithout, fault_words, no_version as no_version_text, not_review as not_review_text, ended_line};
 
 use crate::halt::Halt;

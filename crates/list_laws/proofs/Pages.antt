@@ -9,7 +9,7 @@ use Rattle.kube_meta.specs.Key.{KeyView, key_cmp}
 use Rattle.kube_meta.specs.Page.{bound_after, in_namespace, listed, page_of}
 use Rattle.kube_meta.specs.Plan.{After, passed}
 use Rattle.kube_meta.specs.declared.limits.Limits.{Limits}
-use Rattle.api_calls.specs.GrowthLaws.{legal-front}
+use Rattle.api_calls.specs.laws.GrowthLaws.{legal-front}
 use Rattle.api_calls.specs.Item.{Item, entry, note}
 use Rattle.api_calls.specs.Laws.{IsRising}
 use Rattle.api_calls.specs.Legal.{Each, legal}

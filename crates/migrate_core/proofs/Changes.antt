@@ -5,7 +5,7 @@ use Rattle.std.specs.List.{list_any, position_from}
 use Rattle.std.proofs.lemmas.Iterator.Adapters.{position_from-zero}
 use Rattle.std.proofs.lemmas.List.Quantifiers.{position-Some}
 use Rattle.kube_meta.specs.Plan.{Span, Slot, Free, Held, Loose, changed, span_of, hold_loose, hold_free, is_loose, is_free}
-use Rattle.migrate_core.specs.Slots.{is_held_by, held_as, held_span, turned}
+use Rattle.migrate_core.specs.inner.Slots.{is_held_by, held_as, held_span, turned}
 
 -- the first element with a property becomes another
 abbrev pub first_changed : (Slot → Bool) → (Slot → Slot) → List Slot → List Slot

@@ -8,7 +8,7 @@ use Rattle.kube_meta.specs.declared.limits.Condition.TheVariants.{Succeeded}
 use Rattle.kube_meta.specs.Plan.{Bound, Span, Slot, Plan, Migration, running, runs, ended, span_of, is_done, is_end, is_free, is_loose, hold_loose, hold_free, next_bound, may_claim, claimed, pass_key}
 use Rattle.migrate_core.specs.declared.records.Row.{Row}
 use Rattle.migrate_core.specs.Rows.{keys}
-use Rattle.migrate_core.specs.Slots.{plan_of}
+use Rattle.migrate_core.specs.inner.Slots.{plan_of}
 use Rattle.migrate_core.specs.View.{MigrationsView}
 use Rattle.migrate_core.specs.Moves.{work_of, work_in, work_under, IsInWork, takes_claim, after_claim, after_pass, after_mark}
 use Rattle.migrate_core.proofs.Changes.{hold_loose-none}

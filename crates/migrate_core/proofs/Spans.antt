@@ -7,7 +7,7 @@ use Rattle.std.specs.declared.cmp.Ordering.{Ordering}
 use Rattle.std.specs.declared.cmp.Ordering.TheVariants.{Less, Equal, Greater}
 use Rattle.std.proofs.lemmas.Cmp.{alike_right}
 use Rattle.kube_meta.specs.Key.{KeyView, key_cmp}
-use Rattle.kube_meta.specs.KeyOrder.{key_cmp_total, key_cmp_itself}
+use Rattle.kube_meta.specs.laws.KeyOrder.{key_cmp_total, key_cmp_itself}
 use Rattle.kube_meta.specs.Plan.{Bound, Start, After, End, passed, next_bound, end_among}
 use Rattle.migrate_core.specs.declared.records.Row.{Row}
 use Rattle.migrate_core.specs.Rows.{KeysRise, IsBelowFirst, first_behind, elsewhere, keys}

@@ -1,7 +1,7 @@
 pub mod Rows
 pub mod View
 pub mod Moves
-pub mod MoveLaws
 pub mod Bounds
-pub mod Slots
 pub mod SlotUses
+pub mod laws
+pub mod inner

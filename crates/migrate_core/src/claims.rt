@@ -3,7 +3,7 @@ ghost use Rattle.std.specs.Prelude.{◌≡◌, ◌&&◌, not, if◌then◌else�
 ghost use Rattle.std.specs.List.{list_any};
 ghost use Rattle.kube_meta.specs.Plan.{claimed, hold_free as free_held, is_end, is_free, may_claim, next_bound};
 ghost use Rattle.migrate_core.specs.Rows.{keys};
-ghost use Rattle.migrate_core.specs.Slots.{plan_of};
+ghost use Rattle.migrate_core.specs.inner.Slots.{plan_of};
 
 use crate::bound::{KeyBound, KeyRange};
 use crate::records::{Records, range_end};

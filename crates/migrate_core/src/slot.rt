@@ -2,7 +2,7 @@
 ghost use Rattle.std.specs.Prelude.{◌≡◌};
 ghost use Rattle.std.specs.Option.{option_copied};
 ghost use Rattle.kube_meta.specs.Plan.{Span, Free, Held, Loose, After, is_free, is_loose};
-ghost use Rattle.migrate_core.specs.Slots.{is_held, is_held_by, held_as, held_span, turned};
+ghost use Rattle.migrate_core.specs.inner.Slots.{is_held, is_held_by, held_as, held_span, turned};
 
 use crate::bound::{KeyBound, KeyRange};
 use kube_meta::KeySpot;

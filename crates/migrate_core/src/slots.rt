@@ -3,7 +3,7 @@ ghost use Rattle.std.specs.Prelude.{◌≡◌, ◌<◌, IfSome, length, not, rep
 ghost use Rattle.std.specs.List.{list_any, position_from};
 ghost use Rattle.std.specs.Option.{option_copied};
 ghost use Rattle.kube_meta.specs.Plan.{Free, Held, Loose, After, changed, span_of, hold_loose as loose_held, hold_free as free_held, is_free, is_loose};
-ghost use Rattle.migrate_core.specs.Slots.{is_held_by};
+ghost use Rattle.migrate_core.specs.inner.Slots.{is_held_by};
 
 use crate::bound::KeyRange;
 use crate::slot::ClaimSlot;

@@ -11,8 +11,8 @@ use Rattle.kj_value.specs.Sound.{IsSoundJson, AreSoundItems, ComesFirst, AreRisi
 use Rattle.struct_schema.specs.Shape.{Own, Shape, shape, own, Shapes, no_shapes, shape_at, MaybeShapes, no_map, some_map, MaybeShape, no_shape, some_shape}
 use Rattle.struct_schema.specs.Names.{is_name, value_at, shape_named, property, or_shape, shape_for}
 use Rattle.struct_schema.specs.Filled.{is_object, is_array, is_forbidden, PresentFilled, ElementFilled, AtEachName, EachItem, AtEachItem, Filled, NameFilled, RestFilled, ItemFilled}
-use Rattle.struct_schema.specs.NameLaws.{one_name, own_name, gone}
-use Rattle.prune_default.specs.Missing.{or_value, default_of}
+use Rattle.struct_schema.specs.laws.NameLaws.{one_name, own_name, gone}
+use Rattle.prune_default.specs.inner.Missing.{or_value, default_of}
 use Rattle.prune_default.specs.SoundDefaults.{SoundAt, HasSoundDefaults, SoundInMap, SoundInShapes, SoundInMaybe}
 use Rattle.prune_default.proofs.Lookup.{value_at-with}
 use Rattle.prune_default.proofs.Level.{name_filled, rest_none}

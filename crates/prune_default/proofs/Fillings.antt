@@ -10,7 +10,7 @@ use Rattle.struct_schema.specs.Shape.{Own, Shape, shape, own, Shapes, no_shapes,
 use Rattle.struct_schema.specs.Names.{is_name, value_at, shape_named, property}
 use Rattle.struct_schema.specs.Filled.{is_object, is_array, is_forbidden, PresentFilled, PropertyFilled, OtherFilled, EachItem, AtEachItem, AtEachName, Filled, NameFilled, RestFilled, ItemFilled}
 use Rattle.struct_schema.specs.OwnDefaults.{IsOwnFilling, HasOwnDefaults, InMap, InShapes, InMaybe}
-use Rattle.struct_schema.specs.NameLaws.{one_name, own_name, gone}
+use Rattle.struct_schema.specs.laws.NameLaws.{one_name, own_name, gone}
 use Rattle.prune_default.proofs.Lookup.{sound_at}
 use Rattle.prune_default.proofs.Level.{By, to_name, of_name}
 

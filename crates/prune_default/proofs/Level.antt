@@ -6,8 +6,8 @@ use Rattle.kj_value.specs.Fields.{Pairs, with_field}
 use Rattle.struct_schema.specs.Shape.{Own, Shape, own, Shapes, no_shapes, shape_at, MaybeShapes, no_map, some_map, MaybeShape, no_shape, some_shape}
 use Rattle.struct_schema.specs.Names.{is_name, value_at, shape_named, property, or_shape, shape_for}
 use Rattle.struct_schema.specs.Filled.{is_forbidden, PresentFilled, PropertyFilled, EachItem, Filled, NameFilled, NamedFilled, RestFilled, ItemFilled}
-use Rattle.struct_schema.specs.NameLaws.{one_name}
-use Rattle.prune_default.specs.Missing.{or_value, default_of}
+use Rattle.struct_schema.specs.laws.NameLaws.{one_name}
+use Rattle.prune_default.specs.inner.Missing.{or_value, default_of}
 use Rattle.prune_default.proofs.Lookup.{value_at-with}
 use Rattle.prune_default.proofs.Missing.{or_none}
 

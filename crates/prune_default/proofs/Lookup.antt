@@ -6,7 +6,7 @@ use Rattle.kj_value.specs.Json.{Json, Members, no_members, member, members_of}
 use Rattle.kj_value.specs.Fields.{Pairs, with_field}
 use Rattle.kj_value.specs.Sound.{IsSoundJson, AreRising}
 use Rattle.struct_schema.specs.Names.{is_name, value_at}
-use Rattle.struct_schema.specs.NameLaws.{one_name, own_name}
+use Rattle.struct_schema.specs.laws.NameLaws.{one_name, own_name}
 
 -- ---- with a value at a name
 

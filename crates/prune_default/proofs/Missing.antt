@@ -11,8 +11,8 @@ use Rattle.struct_schema.specs.ShapeOf.{shape_of, named_shape}
 use Rattle.struct_schema.specs.Names.{is_name, value_at, shape_named, property}
 use Rattle.struct_schema.specs.Stays.{each_default}
 use Rattle.struct_schema.specs.declared.schema.SchemaField.{SchemaField}
-use Rattle.struct_schema.specs.NameLaws.{one_name}
-use Rattle.prune_default.specs.Missing.{or_value, default_of, first_default}
+use Rattle.struct_schema.specs.laws.NameLaws.{one_name}
+use Rattle.prune_default.specs.inner.Missing.{or_value, default_of, first_default}
 use Rattle.prune_default.proofs.Lookup.{value_at-with}
 
 both_true : (a b : Bool) → (a && b) ≡ true → (a ≡ true) × (b ≡ true)

@@ -4,7 +4,7 @@ use Rattle.std.specs.Ordering.{is_eq, match_ordering}
 use Rattle.std.specs.Cmp.Lexicographic.{slice_cmp}
 use Rattle.kj_value.specs.Json.{Json, null, boolean, whole, text, list, object, items_of, members_of}
 use Rattle.kj_value.specs.Fields.{Pairs, with_field}
-use Rattle.struct_schema.specs.NameLaws.{one_name}
+use Rattle.struct_schema.specs.laws.NameLaws.{one_name}
 use Rattle.prune_default.specs.Size.{size, items_size, members_size, maybe_size}
 
 -- no value is without size

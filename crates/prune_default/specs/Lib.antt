@@ -1,3 +1,3 @@
-pub mod Missing
 pub mod Size
 pub mod SoundDefaults
+pub mod inner

@@ -6,7 +6,7 @@ ghost use Rattle.struct_schema.specs.Shape.{map_of, shapes_of};
 ghost use Rattle.struct_schema.specs.ShapeOf.{own_of, named_shape};
 ghost use Rattle.struct_schema.specs.Names.{is_name, property, value_at};
 ghost use Rattle.struct_schema.specs.Stays.{each_default};
-ghost use Rattle.prune_default.specs.Missing.{default_of, first_default, or_value};
+ghost use Rattle.prune_default.specs.inner.Missing.{default_of, first_default, or_value};
 ghost use Rattle.prune_default.specs.Size.{members_size};
 
 use crate::room::take_field;

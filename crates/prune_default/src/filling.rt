@@ -7,7 +7,7 @@ ghost use Rattle.struct_schema.specs.Shape.{map_of, maybe_of, some_shape, items_
 ghost use Rattle.struct_schema.specs.ShapeOf.{shape_of, own_of};
 ghost use Rattle.struct_schema.specs.Names.{is_name, shape_for, value_at};
 ghost use Rattle.struct_schema.specs.Filled.{Filled, NameFilled, RestFilled, ItemFilled, PresentFilled, EachItem};
-ghost use Rattle.prune_default.specs.Missing.{or_value};
+ghost use Rattle.prune_default.specs.inner.Missing.{or_value};
 ghost use Rattle.prune_default.specs.Size.{size, items_size, members_size, maybe_size, most_made};
 
 use crate::defaults::set_defaults;

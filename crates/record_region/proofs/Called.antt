@@ -3,7 +3,7 @@ use Rattle.std.proofs.Common.{◌≡◌, ◌≢◌, ℕ, zero, suc, ◌+◌, ◌
 use Rattle.std.specs.Prelude.{if◌then◌else◌, slice_set}
 use Rattle.std.proofs.lemmas.Bool.Decides.{nat_tests}
 use Rattle.std.proofs.lemmas.List.{length-set, length-replicate}
-use Rattle.record_region.specs.Laws.{piece_at-set_same, piece_at-set_other, live_within, used-set}
+use Rattle.record_region.specs.laws.Laws.{piece_at-set_same, piece_at-set_other, live_within, used-set}
 use Rattle.record_region.specs.Places.{Places, piece_at, chunks_in, used, spare}
 use Rattle.record_region.specs.Runs.{Call, Put, Refused, Free, AnswersAll, called_all, opened, put_last}
 use Rattle.record_region.proofs.Opening.{used-none}

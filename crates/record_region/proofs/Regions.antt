@@ -6,7 +6,7 @@ use Rattle.std.proofs.lemmas.List.{length-set, length-take}
 use Rattle.record_region.specs.declared.chunks.TheConstants.{CHUNK_BYTES}
 use Rattle.record_region.specs.Chunks.{chunks_of}
 use Rattle.record_region.specs.Places.{Places, used, spare, piece_at, bytes_at, bytes_in, chunks_in, IsLive}
-use Rattle.record_region.specs.Laws.{used-set, live_within}
+use Rattle.record_region.specs.laws.Laws.{used-set, live_within}
 use Rattle.record_region.specs.Chains.{walk, chunk_at, content, marked, places_from, chain_length, IsApart, IsSoundRegion}
 use Rattle.record_region.proofs.Stores.{length-content}
 use Rattle.record_region.proofs.Labels.{apart_by, not_free, chain-within, walk-other, apart-put, apart-free}

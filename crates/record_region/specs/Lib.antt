@@ -1,5 +1,5 @@
 pub mod Chunks
 pub mod Places
 pub mod Chains
-pub mod Laws
 pub mod Runs
+pub mod laws

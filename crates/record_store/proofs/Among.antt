@@ -3,13 +3,13 @@ use Rattle.std.proofs.Common.{◌≡◌, ℕ, List, [], ◌∷◌, map, Bool, tr
 use Rattle.std.specs.Prelude.{◌&&◌, not, nat_le}
 use Rattle.std.specs.Ordering.{is_gt, is_lt, match_ordering}
 use Rattle.kube_meta.specs.Key.{KeyView, key_cmp}
-use Rattle.kube_meta.specs.KeyOrder.{key_cmp_total, key_cmp_one}
+use Rattle.kube_meta.specs.laws.KeyOrder.{key_cmp_total, key_cmp_one}
 use Rattle.kube_meta.specs.Page.{in_namespace, listed}
 use Rattle.record_store.specs.ByKey.{IsBelowFirst, KeysRise}
 use Rattle.record_store.specs.Rows.{row_key}
 use Rattle.record_store.specs.declared.row.Row.{Row}
-use Rattle.record_store.specs.Picked.{merge_into, merged, standing}
-use Rattle.record_store.specs.Stretches.{comes_before}
+use Rattle.record_store.specs.inner.Picked.{merge_into, merged, standing}
+use Rattle.record_store.specs.inner.Stretches.{comes_before}
 use Rattle.record_store.proofs.Search.{reversed}
 use Rattle.record_store.proofs.Stretched.{among-them, falls, in-of, is_behind, names_cmp}
 

@@ -5,10 +5,10 @@ use Rattle.std.specs.List.{AllByRecursion as Each}
 use Rattle.std.proofs.lemmas.List.{length-set}
 use Rattle.kube_meta.specs.Key.{KeyView}
 use Rattle.kube_meta.specs.Window.{weights, newest, floor_from}
-use Rattle.kube_meta.specs.WindowLaws.{newest-fits, fits-bounds}
+use Rattle.kube_meta.specs.laws.WindowLaws.{newest-fits, fits-bounds}
 use Rattle.kube_meta.specs.declared.limits.Limits.{Limits}
 use Rattle.record_region.specs.Chunks.{chunks_of}
-use Rattle.record_region.specs.Laws.{piece_at-set_same}
+use Rattle.record_region.specs.laws.Laws.{piece_at-set_same}
 use Rattle.record_region.specs.Places.{Places, piece_at, bytes_in, spare}
 use Rattle.record_store.specs.ByKey.{KeysRise, find, put, without}
 use Rattle.record_store.specs.Rows.{Rows, row_key}

@@ -3,7 +3,7 @@ use Rattle.std.proofs.Common.{◌≡◌, ℕ, ◌+◌, List, [], ◌∷◌, ◌+
 use Rattle.std.specs.List.{AllByRecursion as Each}
 use Rattle.std.specs.Ordering.{match_ordering}
 use Rattle.kube_meta.specs.Key.{KeyView, key_cmp}
-use Rattle.kube_meta.specs.KeyOrder.{key_cmp_total, key_cmp_one}
+use Rattle.kube_meta.specs.laws.KeyOrder.{key_cmp_total, key_cmp_one}
 use Rattle.kube_meta.specs.Window.{weights}
 use Rattle.record_store.specs.ByKey.{IsBelowFirst, KeysRise, find, put, without}
 

@@ -3,9 +3,9 @@ use Rattle.std.proofs.Common.{◌≡◌, List, [], ◌∷◌, map, Ordering, Les
 use Rattle.std.specs.List.{AllByRecursion as Each}
 use Rattle.std.specs.Ordering.{match_ordering, ordering_reverse}
 use Rattle.kube_meta.specs.Key.{KeyView, key_cmp}
-use Rattle.kube_meta.specs.KeyOrder.{key_cmp_total, key_cmp_one}
+use Rattle.kube_meta.specs.laws.KeyOrder.{key_cmp_total, key_cmp_one}
 use Rattle.record_store.specs.ByKey.{put}
-use Rattle.record_store.specs.Picked.{merge_into, merged}
+use Rattle.record_store.specs.inner.Picked.{merge_into, merged}
 
 reversed : (k l : KeyView) (o : Ordering) → key_cmp k l ≡ o → key_cmp l k ≡ ordering_reverse o
 reversed k l o e = key_cmp_total.antisymm l k ∙ ap ordering_reverse e

@@ -1,7 +1,7 @@
 -- A store of which nothing is used yet.
 use Rattle.std.proofs.Common.{◌≡◌, ℕ, zero, suc, ◌+◌, ◌<◌, ◌^◌, List, [], length, Option, None, ap, refl, sym, arith}
 use Rattle.std.specs.Prelude.{replicate}
-use Rattle.kube_meta.specs.WindowLaws.{newest-fits}
+use Rattle.kube_meta.specs.laws.WindowLaws.{newest-fits}
 use Rattle.kube_meta.specs.declared.limits.Limits.{Limits}
 use Rattle.record_region.specs.Places.{piece_at, used}
 use Rattle.record_store.specs.Held.{pieces_in}

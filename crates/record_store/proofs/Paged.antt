@@ -15,7 +15,7 @@ use Rattle.record_store.specs.Pasts.{Pasts, rows_of}
 use Rattle.record_region.specs.Places.{Places}
 use Rattle.record_store.specs.View.{Item, Old, item_key, put_all, still, since, items_at}
 use Rattle.record_store.specs.Inside.{AreKept, IsKept, IsSoundStore, item_of, old_of, store_view}
-use Rattle.record_store.specs.Picked.{merged, standing, stood, superseded}
+use Rattle.record_store.specs.inner.Picked.{merged, standing, stood, superseded}
 use Rattle.record_store.proofs.Keyed.{each-put}
 use Rattle.record_store.proofs.Mapped.{put-seen, each-seen}
 use Rattle.record_store.proofs.Merged.{merged-nothing, put-merged, merged-seen, each-merged}

@@ -4,7 +4,7 @@ use Rattle.std.specs.Prelude.{if◌then◌else◌, slice_set, IsSome, IsUtf8}
 use Rattle.std.proofs.lemmas.Bool.Decides.{nat_tests}
 use Rattle.kube_meta.specs.Window.{weights}
 use Rattle.record_region.specs.Chunks.{chunks_of}
-use Rattle.record_region.specs.Laws.{piece_at-set_other, live-set_other}
+use Rattle.record_region.specs.laws.Laws.{piece_at-set_other, live-set_other}
 use Rattle.record_region.specs.Places.{Places, piece_at, bytes_in, bytes_at, chunks_in}
 use Rattle.record_store.specs.declared.row.Row.{Row}
 use Rattle.record_store.specs.declared.past.Past.{Past}

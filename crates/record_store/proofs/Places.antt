@@ -3,7 +3,7 @@ use Rattle.std.proofs.Common.{◌≡◌, ℕ, zero, suc, ◌<◌, ◌≤◌, Lis
 use Rattle.std.specs.Prelude.{find as first, insert, remove, not, slice_get}
 use Rattle.std.specs.Ordering.{match_ordering, is_gt}
 use Rattle.kube_meta.specs.Key.{KeyView, key_cmp}
-use Rattle.kube_meta.specs.KeyOrder.{key_cmp_total}
+use Rattle.kube_meta.specs.laws.KeyOrder.{key_cmp_total}
 use Rattle.kube_meta.specs.Plan.{Start, After, passed}
 use Rattle.record_store.specs.ByKey.{IsBelowFirst, KeysRise, all_behind, find, put, without, next, place, place_behind}
 use Rattle.record_store.proofs.Search.{reversed}

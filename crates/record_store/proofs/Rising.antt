@@ -3,7 +3,7 @@ use Rattle.std.proofs.Common.{◌≡◌, List, [], ◌∷◌, Bool, true, false,
 use Rattle.std.specs.Prelude.{◌⊎◌}
 use Rattle.std.specs.Ordering.{match_ordering, ordering_reverse}
 use Rattle.kube_meta.specs.Key.{KeyView, key_cmp}
-use Rattle.kube_meta.specs.KeyOrder.{key_cmp_total, key_cmp_one, key_cmp_itself}
+use Rattle.kube_meta.specs.laws.KeyOrder.{key_cmp_total, key_cmp_one, key_cmp_itself}
 use Rattle.record_store.specs.ByKey.{put}
 use Rattle.api_calls.specs.Objects.{Stored, object_key, find}
 use Rattle.api_calls.specs.Legal.{Each, In}

@@ -7,7 +7,7 @@ use Rattle.kube_meta.specs.Key.{KeyView}
 use Rattle.kube_meta.specs.Window.{weights, fits, newest}
 use Rattle.kube_meta.specs.declared.limits.Limits.{Limits}
 use Rattle.record_region.specs.Chunks.{chunks_of}
-use Rattle.record_region.specs.Laws.{piece_at-set_other, piece_at-set_same, live-put, live_within, used-set}
+use Rattle.record_region.specs.laws.Laws.{piece_at-set_other, piece_at-set_same, live-put, live_within, used-set}
 use Rattle.record_region.specs.Places.{Places, piece_at, bytes_in, bytes_at, chunks_in, used}
 use Rattle.record_store.specs.ByKey.{find, put, without}
 use Rattle.record_store.specs.Rows.{row_key}

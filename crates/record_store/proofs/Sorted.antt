@@ -3,7 +3,7 @@ use Rattle.std.proofs.Common.{◌≡◌, ℕ, suc, ◌<◌, ◌≤◌, List, [],
 use Rattle.std.specs.Prelude.{insert}
 use Rattle.std.specs.Ordering.{match_ordering, ordering_reverse}
 use Rattle.kube_meta.specs.Key.{KeyView, key_cmp}
-use Rattle.kube_meta.specs.KeyOrder.{key_cmp_total}
+use Rattle.kube_meta.specs.laws.KeyOrder.{key_cmp_total}
 use Rattle.record_store.specs.ByKey.{IsBelowFirst, KeysRise, find, put, next, place}
 
 module _ {F : Type 0} (key : F → KeyView) where

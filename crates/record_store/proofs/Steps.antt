@@ -17,7 +17,7 @@ use Rattle.record_store.specs.declared.row.Row.{Row}
 use Rattle.record_store.specs.declared.past.Past.{Past}
 use Rattle.record_store.specs.declared.page.Pick.{Pick}
 use Rattle.record_store.specs.View.{Item}
-use Rattle.record_store.specs.Picked.{Shown, pick_row, pick_key, rows_in, no_rows, standing, stood, superseded, merge_into, merged, with_more}
+use Rattle.record_store.specs.inner.Picked.{Shown, pick_row, pick_key, rows_in, no_rows, standing, stood, superseded, merge_into, merged, with_more}
 use Rattle.record_store.proofs.Mapped.{put-seen}
 
 module _ {X : Type 0} where

@@ -12,7 +12,7 @@ use Rattle.std.specs.Cmp.Lexicographic.{slice_cmp}
 use Rattle.kube_meta.specs.Key.{KeyView, key_cmp}
 use Rattle.kube_meta.specs.Page.{bound_after, in_namespace, listed}
 use Rattle.record_store.specs.ByKey.{KeysRise, all_behind}
-use Rattle.record_store.specs.Stretches.{comes_before}
+use Rattle.record_store.specs.inner.Stretches.{comes_before}
 use Rattle.kube_meta.specs.Plan.{passed}
 use Rattle.record_store.proofs.Search.{earlier}
 

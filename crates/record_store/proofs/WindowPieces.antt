@@ -4,7 +4,7 @@ use Rattle.std.specs.Prelude.{slice_set, IsSome}
 use Rattle.std.proofs.lemmas.Bool.Decides.{nat_tests}
 use Rattle.kube_meta.specs.Window.{fits}
 use Rattle.kube_meta.specs.declared.limits.Limits.{Limits}
-use Rattle.record_region.specs.Laws.{piece_at-set_other}
+use Rattle.record_region.specs.laws.Laws.{piece_at-set_other}
 use Rattle.record_region.specs.Places.{Places, piece_at, IsLive}
 use Rattle.record_store.specs.declared.row.Row.{Row}
 use Rattle.record_store.specs.declared.past.Past.{Past}

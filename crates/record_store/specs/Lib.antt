@@ -1,14 +1,13 @@
 pub mod ByKey
 pub mod Rows
 pub mod Blocks
-pub mod Stretches
 pub mod Pasts
 pub mod Held
 pub mod View
 pub mod Moves
 pub mod Room
 pub mod Inside
-pub mod Picked
 pub mod Copies
 pub mod Standing
 pub mod Keeping
+pub mod inner

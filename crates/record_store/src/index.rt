@@ -3,7 +3,7 @@ ghost use Rattle.std.specs.Prelude.{◌≡◌, ◌+◌, ◌<◌, ◌≤◌, ◌^
 ghost use Rattle.kube_meta.specs.Page.{bound_after, listed};
 ghost use Rattle.kube_meta.specs.Plan.{passed};
 ghost use Rattle.record_store.specs.ByKey.{KeysRise, all_behind, find, place as place_of, put, without};
-ghost use Rattle.record_store.specs.Stretches.{comes_before};
+ghost use Rattle.record_store.specs.inner.Stretches.{comes_before};
 ghost use Rattle.record_store.specs.declared.row.Row.{Row as RowView};
 
 use crate::lookup::place_behind;

@@ -7,7 +7,7 @@ ghost use Rattle.record_store.specs.Rows.{row_key};
 ghost use Rattle.record_store.specs.declared.row.Row.{Row as RowView};
 ghost use Rattle.record_store.specs.Copies.{copied};
 ghost use Rattle.record_store.specs.Inside.{AreKept, IsKept, item_of};
-ghost use Rattle.record_store.specs.Picked.{ends, merge_into, merged, no_rows, pick_key, rows_in, shown_in, standing, stood, superseded, with_more};
+ghost use Rattle.record_store.specs.inner.Picked.{ends, merge_into, merged, no_rows, pick_key, rows_in, shown_in, standing, stood, superseded, with_more};
 
 use crate::index::{Index, Stretch};
 use crate::lookup::{Keyed, seek};

@@ -9,8 +9,8 @@ use Rattle.review_forms.specs.Page.{PageView}
 use Rattle.review_forms.specs.Request.{RequestView}
 use Rattle.review_batch.specs.Answer.{ComesOfReview, IsGroupVersion, success, failure, all}
 use Rattle.review_forms.specs.Spelling.{review_end}
-use Rattle.review_batch.specs.Spelling.{success_front, success_middle, failure_front, failure_middle}
-use Rattle.review_batch.specs.Steps.{GoesOn, IsResponse}
+use Rattle.review_batch.specs.inner.Spelling.{success_front, success_middle, failure_front, failure_middle}
+use Rattle.review_batch.specs.inner.Steps.{GoesOn, IsResponse}
 use Rattle.review_batch.proofs.Spelled.{success-text, failure-text}
 
 pub failed : {E : Type 0} (d : Definition) (r : RequestView) (message page : List ℕ) (res : Result Bytes E) → ComesOfReview d r (failure message) → page ≡ []

@@ -7,7 +7,7 @@ use Rattle.kj_value.specs.Text.{text_of, items_text, quoted}
 use Rattle.review_forms.specs.Form.{review_version, review_kind}
 use Rattle.review_batch.specs.Answer.{response_document, success, failure}
 use Rattle.review_forms.specs.Spelling.{review_end}
-use Rattle.review_batch.specs.Spelling.{success_front, success_middle, failure_front, failure_middle}
+use Rattle.review_batch.specs.inner.Spelling.{success_front, success_middle, failure_front, failure_middle}
 
 -- ---- a response of objects
 

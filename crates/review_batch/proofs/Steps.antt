@@ -9,7 +9,7 @@ use Rattle.crd_meaning.specs.Converted.{IsConverted}
 use Rattle.review_forms.specs.Page.{PageView}
 use Rattle.review_batch.specs.Answer.{AreConverted, IsFirstWithout, blame}
 use Rattle.review_forms.specs.Spelling.{comma_before}
-use Rattle.review_batch.specs.Steps.{HasValue, HasNone, GoesOn}
+use Rattle.review_batch.specs.inner.Steps.{HasValue, HasNone, GoesOn}
 use Rattle.review_forms.proofs.Snoc.{items-snoc, take-snoc, split_at}
 
 -- what is known in the loop

@@ -1,3 +1,2 @@
 pub mod Answer
-pub mod Spelling
-pub mod Steps
+pub mod inner

@@ -9,9 +9,9 @@ ghost use Rattle.review_forms.specs.Request.{objects_path};
 ghost use Rattle.review_batch.specs.Answer.{IsAnswer, IsNoRequest, IsGroupVersion};
 ghost use Rattle.review_forms.specs.Faults.{OnNotReview};
 ghost use Rattle.review_forms.specs.Seen.{view_of};
-ghost use Rattle.review_batch.specs.Steps.{IsResponse};
+ghost use Rattle.review_batch.specs.inner.Steps.{IsResponse};
 ghost use Rattle.review_forms.specs.Spelling.{review_end};
-ghost use Rattle.review_batch.specs.Spelling.{success_middle, failure_front, failure_middle};
+ghost use Rattle.review_batch.specs.inner.Spelling.{success_middle, failure_front, failure_middle};
 
 use crate::converting::converted;
 use crate::levels::ANSWER_ROOM;

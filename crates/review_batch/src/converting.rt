@@ -10,7 +10,7 @@ ghost use Rattle.crd_versions.specs.Set.{definition_of};
 ghost use Rattle.review_forms.specs.Form.{no_object};
 ghost use Rattle.review_forms.specs.Request.{objects_path};
 ghost use Rattle.review_batch.specs.Answer.{IsFirstWithout, blame};
-ghost use Rattle.review_batch.specs.Steps.{HasValue, HasNone, GoesOn};
+ghost use Rattle.review_batch.specs.inner.Steps.{HasValue, HasNone, GoesOn};
 
 use api_calls::{AdmitFault, Cause};
 use crd_meaning::one_value;

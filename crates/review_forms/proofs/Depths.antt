@@ -4,7 +4,7 @@ use Rattle.kj_value.specs.Json.{Json, items_of, members_of, depth, items_depth, 
 use Rattle.kj_value.specs.Fields.{Pairs, field}
 use Rattle.kj_value.specs.Kinds.{as_object, as_list}
 use Rattle.kj_value.specs.KindLaws.{object_known, list_known}
-use Rattle.kj_value.specs.Inside.{depth_field}
+use Rattle.kj_value.specs.laws.Inside.{depth_field}
 use Rattle.review_forms.specs.Form.{list_in, object_in}
 
 pub object_depth : (j : Json) (es : Pairs) → as_object j ≡ Some es → depth j ≡ suc (members_depth (members_of es))

@@ -8,7 +8,7 @@ use Rattle.std.proofs.lemmas.Bool.Decides.{nat_tests}
 use Rattle.std.proofs.lemmas.Slice.Eq.{bytes_eq-Decides}
 use Rattle.kj_value.specs.Json.{Json, null, boolean, whole, text, list, object, Items, no_items, item, Members, no_members, member}
 use Rattle.struct_schema.specs.Names.{is_name}
-use Rattle.struct_schema.specs.NameLaws.{one_name, own_name}
+use Rattle.struct_schema.specs.laws.NameLaws.{one_name, own_name}
 use Rattle.hub_cells.specs.Level.{Name}
 use Rattle.hub_rules.specs.Rule.{Rule, same, within, spoke_only, hub_only, split, table, scale, Rules, no_rules, rule, rules_of, rule_depth, inner_depth}
 use Rattle.hub_rules.specs.declared.rules.TheConstants.{MAX_OBJECTS}

@@ -40,7 +40,7 @@ impl Model for RuleMap {
     ghost use Rattle.std.specs.Coded.{coded_list, coded_ℕ, coded×};
     ghost use Rattle.kj_value.specs.Fields.{AreInOrder};
     ghost use Rattle.hub_rules.specs.Rule.{Rule};
-    ghost use Rattle.hub_rules.specs.RuleCode.{rule_code};
+    ghost use Rattle.hub_rules.specs.laws.RuleCode.{rule_code};
     ghost use Rattle.rule_reading.specs.SeenSet.{spoke_pair};
 
     ghost Value = { List (List ℕ × List Rule) };

@@ -6,7 +6,7 @@ use Rattle.struct_schema.specs.Names.{is_name, value_at}
 use Rattle.struct_schema.specs.Shape.{Shape, Shapes, MaybeShapes, MaybeShape, some_shape}
 use Rattle.struct_schema.specs.Valid.{valid}
 use Rattle.struct_schema.specs.Stays.{stays}
-use Rattle.struct_schema.specs.Own.{stays_filled}
+use Rattle.struct_schema.specs.laws.Own.{stays_filled}
 use Rattle.struct_schema.specs.OwnDefaults.{IsOwnFilling, HasOwnDefaults, InMap, InShapes, InMaybe}
 use Rattle.schema_reading.specs.Words.{word, passed_type}
 use Rattle.schema_reading.specs.Kind.{node_kind, type_allowed}

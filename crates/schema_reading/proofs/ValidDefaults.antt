@@ -6,7 +6,7 @@ use Rattle.struct_schema.specs.Names.{is_name, value_at}
 use Rattle.struct_schema.specs.Shape.{Shape, Shapes, MaybeShapes, MaybeShape, some_shape}
 use Rattle.struct_schema.specs.Valid.{valid}
 use Rattle.struct_schema.specs.Stays.{stays}
-use Rattle.struct_schema.specs.BelowLaws.{valid-below, stays-below}
+use Rattle.struct_schema.specs.laws.BelowLaws.{valid-below, stays-below}
 use Rattle.schema_reading.specs.Words.{word, passed_type}
 use Rattle.schema_reading.specs.Kind.{node_kind, type_allowed}
 use Rattle.schema_reading.specs.Allowed.{items_allowed, additional_allowed}

@@ -5,12 +5,12 @@ use Rattle.std.specs.Ordering.{match_ordering}
 use Rattle.std.specs.declared.cmp.Ordering.{Ordering}
 use Rattle.std.specs.declared.cmp.Ordering.TheVariants.{Less, Equal, Greater}
 use Rattle.kube_meta.specs.Key.{KeyView, key_cmp}
-use Rattle.kube_meta.specs.KeyOrder.{key_cmp_one}
+use Rattle.kube_meta.specs.laws.KeyOrder.{key_cmp_one}
 use Rattle.kube_meta.specs.Plan.{Migration, running, may_claim, is_done}
 use Rattle.kube_meta.specs.declared.limits.Limits.{Limits}
 use Rattle.api_calls.specs.Calls.{Server}
 use Rattle.api_calls.specs.Ends.{claimed, enters, finished, grown, idle, says}
-use Rattle.api_calls.specs.GrowthLaws.{legal-front, state-more}
+use Rattle.api_calls.specs.laws.GrowthLaws.{legal-front, state-more}
 use Rattle.api_calls.specs.Item.{Create, Replace, Mark, Release, Touch, Delete, SetVersions, Trim, StartMigration, MarkSucceeded, Claim, RangeDone, GiveBack, Item, Logged, entry, items, note}
 use Rattle.api_calls.specs.Laws.{KeepsStorage}
 use Rattle.api_calls.specs.Legal.{Each, MaySucceed, legal}

@@ -17,7 +17,7 @@ use Rattle.http_front.specs.declared.link.End.{End}
 use Rattle.http_front.specs.declared.link.End.TheVariants as ends
 use Rattle.shared_api.specs.Passes.{ApiOf, IsOf, Known}
 use Rattle.shared_api.specs.declared.cell.CoreBase.{CoreBase}
-use Rattle.turn_cell.specs.Laws.{prefix_self, prefix_trans}
+use Rattle.turn_cell.specs.laws.Laws.{prefix_self, prefix_trans}
 use Rattle.turn_cell.specs.declared.view.View.{View}
 use Rattle.serve_spans.specs.Spans.{IsSameBut, Quiet, Linked}
 use Rattle.serve_spans.proofs.Spans.{Grows}

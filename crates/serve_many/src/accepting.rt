@@ -5,7 +5,7 @@ ghost use Rattle.edge_io.specs.Connections.{Origin, Ending, AddsOne, HandsOut};
 ghost use Rattle.shared_api.specs.Passes.{IsOf};
 ghost use Rattle.shared_api.specs.declared.cell.CoreBase.{CoreBase};
 ghost use Rattle.turn_cell.specs.declared.view.View.{View};
-ghost use Rattle.serve_spans.specs.Keeping.{Going, Job as GoingJob};
+ghost use Rattle.serve_spans.specs.inner.Keeping.{Going, Job as GoingJob};
 ghost use Rattle.serve_many.specs.Answered.{IsAnswered, front_of};
 ghost use Rattle.serve_many.specs.Ends.{most_running};
 ghost use Rattle.serve_many.specs.Jobs.{IsUntouched, Serves};

@@ -5,7 +5,7 @@ ghost use Rattle.shared_api.specs.Passes.{IsOf, Known};
 ghost use Rattle.shared_api.specs.declared.cell.CoreBase.{CoreBase};
 ghost use Rattle.turn_cell.specs.Turns.{Meets};
 ghost use Rattle.turn_cell.specs.declared.view.View.{View};
-ghost use Rattle.serve_spans.specs.Keeping.{Going, Job};
+ghost use Rattle.serve_spans.specs.inner.Keeping.{Going, Job};
 ghost use Rattle.serve_many.specs.Answered.{IsAnswered, front_of};
 ghost use Rattle.serve_many.specs.Jobs.{Retires, Worked};
 

@@ -6,17 +6,17 @@ use Rattle.std.proofs.Math.Nat.{mul-div_cancel}
 use native.Mathlib.Decide.{ℕ_discrete}
 use mathlib.Core.List.{IsPrefix}
 use Rattle.api_calls.specs.Item.{Logged, Item, items_of}
-use Rattle.turn_cell.specs.Laws.{prefix_self, prefix_trans, items_of-append}
+use Rattle.turn_cell.specs.laws.Laws.{prefix_self, prefix_trans, items_of-append}
 use Rattle.turn_cell.specs.Numbers.{In}
 use Rattle.turn_cell.specs.Rule.{parts_of}
-use Rattle.turn_cell.specs.ShareLaws.{parts_whole, parts_double, parts_half, parts_both, whole-parts}
+use Rattle.turn_cell.specs.laws.ShareLaws.{parts_whole, parts_double, parts_half, parts_both, whole-parts}
 use Rattle.turn_cell.specs.Turns.{Meets, Turned, addition}
 use Rattle.turn_cell.specs.Views.{numbers_of, numbers_or, number_or, IsAlone, half, both_shares, set_stage}
 use Rattle.turn_cell.specs.declared.view.View.{View}
 use Rattle.serve_spans.specs.Spans.{IsSameBut, Quiet, Span}
 use Rattle.serve_spans.specs.Owners.{At, Within, IsWork, IsWorkIf, TakesTurns}
 use Rattle.serve_spans.specs.Served.{IsSamePart}
-use Rattle.serve_spans.specs.Keeping.{IsCovering, parts_all, AllDeep, IsShared}
+use Rattle.serve_spans.specs.inner.Keeping.{IsCovering, parts_all, AllDeep, IsShared}
 use Rattle.serve_spans.proofs.Lists.{lt_or, none_more, nothing_before, items_of-other, own_item, in_cases, number_in}
 use Rattle.serve_spans.proofs.Spans.{numbers_met}
 

@@ -4,14 +4,14 @@ use Rattle.std.proofs.lemmas.List.{append-nil}
 use mathlib.Core.List.{IsPrefix}
 use Rattle.api_calls.specs.Item.{Logged, items_of}
 use Rattle.edge_io.specs.Connections.{Origin, Ending, AddsOne, HandsOut}
-use Rattle.turn_cell.specs.Laws.{prefix_self}
+use Rattle.turn_cell.specs.laws.Laws.{prefix_self}
 use Rattle.turn_cell.specs.Turns.{Meets, IsNew}
 use Rattle.turn_cell.specs.Views.{numbers_of, halved}
 use Rattle.turn_cell.specs.declared.view.View.{View}
 use Rattle.serve_spans.specs.Spans.{Service, Span, Linked}
 use Rattle.serve_spans.specs.Owners.{TakesTurns}
 use Rattle.serve_spans.specs.Served.{Among, origins_of, HandsOutAll, AddsAll, ServedAll}
-use Rattle.serve_spans.specs.Keeping.{IsServing, IsShared, Job, out_of, views_of, IsBegun, AllBegun, Going}
+use Rattle.serve_spans.specs.inner.Keeping.{IsServing, IsShared, Job, out_of, views_of, IsBegun, AllBegun, Going}
 use Rattle.serve_spans.proofs.Lists.{map_append, map_snoc}
 use Rattle.serve_spans.proofs.Spans.{Grows, linked_grows, span_of, past_of, one_worked, one_joins, one_met, one_begun, one_here}
 use Rattle.serve_spans.proofs.Alone.{at_within, within_front, within_last, cover_starts, cover_same, cover_met, cover_here, cover_works, cover_all, shared_starts, shared_made, shared_two, shared_met, shared_same, shared_ends, shared_part}

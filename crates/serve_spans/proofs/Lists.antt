@@ -3,7 +3,7 @@ use Rattle.std.proofs.Common.{ℕ, zero, suc, ◌≡◌, ◌≢◌, ◌≤◌, �
 use Rattle.std.proofs.lemmas.Bool.Decides.{nat_tests}
 use mathlib.Core.List.{IsPrefix}
 use Rattle.api_calls.specs.Item.{Logged, items_of}
-use Rattle.turn_cell.specs.Laws.{items_of-append}
+use Rattle.turn_cell.specs.laws.Laws.{items_of-append}
 use Rattle.turn_cell.specs.Numbers.{In, Differ}
 use Rattle.turn_cell.specs.Views.{numbers_of, numbers_or}
 use Rattle.turn_cell.specs.declared.view.View.{View}

@@ -3,14 +3,14 @@ use Rattle.std.proofs.Common.{ℕ, suc, ◌≡◌, ◌≤◌, ◌+◌, ◌⊎◌
 use mathlib.Core.List.{IsPrefix}
 use Rattle.api_calls.specs.Item.{Logged}
 use Rattle.edge_io.specs.Connections.{Origin, Ending}
-use Rattle.turn_cell.specs.Laws.{prefix_self, prefix_trans}
+use Rattle.turn_cell.specs.laws.Laws.{prefix_self, prefix_trans}
 use Rattle.turn_cell.specs.Numbers.{In}
 use Rattle.turn_cell.specs.declared.view.View.{View}
 use Rattle.turn_cell.specs.Views.{numbers_of, numbers_or, met_with, set_stage}
 use Rattle.turn_cell.specs.Turns.{Meets}
 use Rattle.serve_spans.specs.Spans.{IsSameBut, Service, Span, Linked, IsServed, AllServed, IsApart, AreApart, AreLate, AreOf}
 use Rattle.serve_spans.specs.Served.{Among, origins_of}
-use Rattle.serve_spans.specs.Keeping.{ArePast, IsServing}
+use Rattle.serve_spans.specs.inner.Keeping.{ArePast, IsServing}
 use Rattle.serve_spans.proofs.Lists.{take_kept, take_prefix, prefix_length, in_left, in_right, differ_apart, number_in}
 
 -- a list only grows while a connection is served

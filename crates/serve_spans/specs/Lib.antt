@@ -1,4 +1,4 @@
 pub mod Spans
 pub mod Owners
 pub mod Served
-pub mod Keeping
+pub mod inner

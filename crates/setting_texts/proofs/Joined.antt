@@ -11,7 +11,7 @@ use Rattle.kube_meta.specs.declared.limits.Condition.TheVariants.{Running, Succe
 use Rattle.api_calls.specs.Documents.{by_name, condition_word, group_document, group_member, group_version, migration_document, migration_list}
 use Rattle.api_calls.specs.Meaning.{Meaning}
 use Rattle.call_texts.specs.PageTexts.{Adds, comma_before, joined_from, two_ends}
-use Rattle.setting_texts.specs.SettingTexts.{migration_text, member_text, group_text, before_name, before_group, before_resource, before_condition, before_storage, before_migrations, behind_migrations, before_group_name, before_preferred, before_versions, behind_versions, before_group_version, before_name_alone, one_end}
+use Rattle.setting_texts.specs.inner.SettingTexts.{migration_text, member_text, group_text, before_name, before_group, before_resource, before_condition, before_storage, before_migrations, behind_migrations, before_group_name, before_preferred, before_versions, behind_versions, before_group_version, before_name_alone, one_end}
 use Rattle.call_texts.proofs.Pieces.{onward}
 
 -- ---- lists

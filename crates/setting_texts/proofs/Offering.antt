@@ -14,7 +14,7 @@ use Rattle.api_calls.specs.Replies.{GroupReply, said}
 use Rattle.api_calls.specs.State.{State, served}
 use Rattle.api_calls.specs.Versions.{AreFlags}
 use Rattle.api_calls.specs.declared.flags.Flags.{Flags}
-use Rattle.setting_texts.specs.Offered.{rank_of, ranked_below, ranked_with}
+use Rattle.setting_texts.specs.inner.Offered.{rank_of, ranked_below, ranked_with}
 
 -- ---- one more version
 

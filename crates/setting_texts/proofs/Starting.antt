@@ -27,7 +27,7 @@ use Rattle.migrate_core.specs.declared.ends.StartEnd.TheVariants as core
 use Rattle.call_texts.specs.Told.{Came}
 use Rattle.call_texts.specs.Faults.{unstarted}
 use Rattle.call_texts.specs.PageTexts.{two_ends}
-use Rattle.setting_texts.specs.SettingTexts.{before_name, before_storage, migration_text, resource_text, target_text, untargeted_text}
+use Rattle.setting_texts.specs.inner.SettingTexts.{before_name, before_storage, migration_text, resource_text, target_text, untargeted_text}
 use Rattle.setting_texts.specs.Starting.{HasTarget, HasTexts, IsUnstarted, running_text}
 use Rattle.setting_texts.proofs.Joined.{text_of-migration}
 

@@ -1,5 +1,4 @@
-pub mod SettingTexts
-pub mod Offered
 pub mod Migrating
 pub mod Changing
 pub mod Starting
+pub mod inner

@@ -8,9 +8,9 @@ ghost use Rattle.api_calls.specs.Replies.{GroupReply};
 ghost use Rattle.api_calls.specs.State.{State, served};
 ghost use Rattle.api_calls.specs.Versions.{AreFlags};
 ghost use Rattle.call_texts.specs.Told.{Came, decided};
-ghost use Rattle.setting_texts.specs.Offered.{rank_of, ranked_with};
+ghost use Rattle.setting_texts.specs.inner.Offered.{rank_of, ranked_with};
 ghost use Rattle.call_texts.specs.PageTexts.{Adds, joined_from};
-ghost use Rattle.setting_texts.specs.SettingTexts.{member_text};
+ghost use Rattle.setting_texts.specs.inner.SettingTexts.{member_text};
 
 use api_calls::{Flags, Reply, Versions, is_served, priority, priority_total};
 use call_texts::{Given, Refused, add, comma_before, group_version, quoted};

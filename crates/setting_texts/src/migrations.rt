@@ -8,7 +8,7 @@ ghost use Rattle.api_calls.specs.State.{State};
 ghost use Rattle.call_texts.specs.Told.{Came, decided};
 ghost use Rattle.setting_texts.specs.Migrating.{HaveTargets};
 ghost use Rattle.call_texts.specs.PageTexts.{Adds, joined_from};
-ghost use Rattle.setting_texts.specs.SettingTexts.{migration_text, resource_text, target_text, untargeted_text};
+ghost use Rattle.setting_texts.specs.inner.SettingTexts.{migration_text, resource_text, target_text, untargeted_text};
 
 use api_calls::{Refusal, Reply, Versions};
 use call_texts::{Given, Refused, add, comma_before, quoted};

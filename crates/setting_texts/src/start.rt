@@ -8,7 +8,7 @@ ghost use Rattle.api_calls.specs.Refusal.{refusal_of};
 ghost use Rattle.api_calls.specs.Replies.{start_answer};
 ghost use Rattle.api_core.specs.Ends.{start_end};
 ghost use Rattle.call_texts.specs.Told.{Came, decided};
-ghost use Rattle.setting_texts.specs.SettingTexts.{untargeted_text};
+ghost use Rattle.setting_texts.specs.inner.SettingTexts.{untargeted_text};
 ghost use Rattle.setting_texts.specs.Starting.{HasTarget, HasTexts, IsUnstarted, is_started, running_text};
 
 use crate::migrations::{add_target, add_untargeted, resource_text};

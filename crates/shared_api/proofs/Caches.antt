@@ -21,8 +21,8 @@ use Rattle.call_texts.specs.Cached.{AreCached, WasSeen}
 use Rattle.call_texts.proofs.Caching.{all-cached-on}
 use Rattle.shared_api.specs.Answered.{CallsOn}
 use Rattle.shared_api.specs.Base.{server_of}
-use Rattle.shared_api.specs.PageTurns.{LooksPage}
-use Rattle.shared_api.specs.Turning.{Looks, Reads, Writes}
+use Rattle.shared_api.specs.inner.PageTurns.{LooksPage}
+use Rattle.shared_api.specs.inner.Turning.{Looks, Reads, Writes}
 use Rattle.shared_api.specs.declared.cell.CoreBase.{CoreBase}
 
 items-append : (xs ys : List Logged) → items (xs ++ ys) ≡ items xs ++ items ys

@@ -28,9 +28,9 @@ use Rattle.turn_cell.specs.declared.view.View.{View}
 use Rattle.call_texts.specs.Told.{Came}
 use Rattle.shared_api.specs.Answered.{CallsOn}
 use Rattle.shared_api.specs.Base.{StandsCell, base_of, server_of}
-use Rattle.shared_api.specs.ChangeTurns.{Sets, is_set}
+use Rattle.shared_api.specs.inner.ChangeTurns.{Sets, is_set}
 use Rattle.call_texts.specs.Faults.{unread}
-use Rattle.shared_api.specs.Turning.{Closes, Settles, Writes, item_if}
+use Rattle.shared_api.specs.inner.Turning.{Closes, Settles, Writes, item_if}
 use Rattle.shared_api.specs.declared.cell.CoreBase.{CoreBase}
 use Rattle.shared_api.proofs.Turns.{reads_calls}
 use Rattle.shared_api.proofs.Entering.{writes, writes_calls}

@@ -21,10 +21,10 @@ use Rattle.turn_cell.specs.declared.view.View.{View}
 use Rattle.turn_cell.specs.declared.view.Stage.TheVariants.{Holds}
 use Rattle.turn_cell.specs.Views.{set_stage, Later}
 use mathlib.Core.List.{IsPrefix}
-use Rattle.api_core.specs.CoreLaws.{known-later}
+use Rattle.api_core.specs.laws.CoreLaws.{known-later}
 use Rattle.shared_api.specs.Base.{StandsCell, base_of, server_of}
-use Rattle.shared_api.specs.WriteTurns.{Commits, SeenAt, creates, is_done}
-use Rattle.shared_api.specs.Turning.{Closes, Writes, item_if}
+use Rattle.shared_api.specs.inner.WriteTurns.{Commits, SeenAt, creates, is_done}
+use Rattle.shared_api.specs.inner.Turning.{Closes, Writes, item_if}
 use Rattle.shared_api.specs.declared.cell.CoreBase.{CoreBase}
 use Rattle.shared_api.proofs.Entering.{writes}
 use Rattle.shared_api.proofs.Turns.{few_entries}

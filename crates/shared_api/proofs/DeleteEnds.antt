@@ -25,11 +25,11 @@ use Rattle.turn_cell.specs.declared.view.View.{View}
 use Rattle.call_texts.specs.Told.{Came, decided}
 use Rattle.shared_api.specs.Answered.{CallsOn}
 use Rattle.write_texts.specs.Leavings.{Deleted, IsLeaving, IsMarking, IsPlain, TellsMark, TellsPlain}
-use Rattle.shared_api.specs.DeleteTurns.{EndsDelete, TriesDelete}
-use Rattle.shared_api.specs.WriteTurns.{Commits, Rested, Stays}
+use Rattle.shared_api.specs.inner.DeleteTurns.{EndsDelete, TriesDelete}
+use Rattle.shared_api.specs.inner.WriteTurns.{Commits, Rested, Stays}
 use Rattle.write_texts.specs.Removing.{IsToMark, WasAt}
-use Rattle.shared_api.specs.RemovalTurns.{marks, removes}
-use Rattle.shared_api.specs.Turning.{Reads, Settles, Writes}
+use Rattle.shared_api.specs.inner.RemovalTurns.{marks, removes}
+use Rattle.shared_api.specs.inner.Turning.{Reads, Settles, Writes}
 use Rattle.shared_api.specs.declared.cell.CoreBase.{CoreBase}
 use Rattle.write_texts.specs.declared.delete.DeleteTry.{DeleteTry}
 use Rattle.write_texts.specs.declared.delete.DeleteTry.TheVariants as try

@@ -17,14 +17,14 @@ use Rattle.api_calls.specs.ReplyLaws.{IsUnnumbered, delete-reply, mark-reply}
 use Rattle.api_calls.specs.State.{State, revision, served, state}
 use Rattle.api_calls.specs.Uid.{uid}
 use Rattle.api_calls.specs.Writes.{at_number, delete_commit, if_storage, mark_commit}
-use Rattle.api_core.specs.CoreLaws.{same-later}
+use Rattle.api_core.specs.laws.CoreLaws.{same-later}
 use Rattle.api_core.specs.declared.seen.Prepared.{Prepared}
 use Rattle.call_texts.specs.Told.{Came}
 use Rattle.write_texts.specs.Leavings as leavings
 use Rattle.write_texts.specs.Leavings.{IsMarking, IsPlain, IsRetried, SaysMark, SaysPlain}
-use Rattle.shared_api.specs.WriteTurns.{is_done}
+use Rattle.shared_api.specs.inner.WriteTurns.{is_done}
 use Rattle.write_texts.specs.Sealed.{opened}
-use Rattle.shared_api.specs.Turning.{item_if}
+use Rattle.shared_api.specs.inner.Turning.{item_if}
 use Rattle.write_texts.specs.declared.seal.Sealed.{Sealed}
 use Rattle.shared_api.proofs.Leaving.{delete-item, known-now, later-items, mark-item}
 use Rattle.shared_api.proofs.Results.{seal-shows}

@@ -4,7 +4,7 @@ use Rattle.std.proofs.lemmas.Bool.Decides.{nat_tests}
 use Rattle.std.proofs.lemmas.List.{append-nil}
 use Rattle.api_calls.specs.Calls.{Server, Call, Told, answered, Decides, Converts, Failure, Fails, failure_refusal, Comes}
 use Rattle.api_calls.specs.Ends.{grown}
-use Rattle.api_calls.specs.GrowthLaws.{items-more, items_of-other, items_of-same}
+use Rattle.api_calls.specs.laws.GrowthLaws.{items-more, items_of-other, items_of-same}
 use Rattle.api_calls.specs.Item.{Logged, Item, items, items_of}
 use Rattle.api_calls.specs.Legal.{CountsFrom, IsLegal}
 use Rattle.api_calls.specs.Meaning.{Meaning}
@@ -15,11 +15,11 @@ use Rattle.turn_cell.specs.declared.view.View.{View}
 use Rattle.turn_cell.specs.declared.view.Stage.TheVariants.{Rest, Holds}
 use Rattle.turn_cell.specs.Views.{set_stage, Later}
 use Rattle.turn_cell.specs.Turns.{Enters, Gives, Turned, StandsAfter, addition}
-use Rattle.turn_cell.specs.Laws.{stands_now, turns_join}
+use Rattle.turn_cell.specs.laws.Laws.{stands_now, turns_join}
 use Rattle.call_texts.specs.Told.{Came}
 use Rattle.shared_api.specs.Answered.{CallsOn}
 use Rattle.shared_api.specs.Base.{StandsCell, base_of, server_of}
-use Rattle.shared_api.specs.Turning.{Closes, Reads, Writes}
+use Rattle.shared_api.specs.inner.Turning.{Closes, Reads, Writes}
 use Rattle.shared_api.specs.declared.cell.CoreBase.{CoreBase}
 use Rattle.shared_api.proofs.Turns.{cell_legal, comes, few_entries}
 

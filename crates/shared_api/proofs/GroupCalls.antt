@@ -12,7 +12,7 @@ use Rattle.turn_cell.specs.declared.view.View.{View}
 use Rattle.call_texts.specs.Told.{Came}
 use Rattle.shared_api.specs.Answered.{CallsOn}
 use Rattle.shared_api.specs.Base.{server_of}
-use Rattle.shared_api.specs.Turning.{Settles}
+use Rattle.shared_api.specs.inner.Turning.{Settles}
 use Rattle.shared_api.specs.declared.cell.CoreBase.{CoreBase}
 use Rattle.shared_api.proofs.Turns.{reads_calls}
 

@@ -12,8 +12,8 @@ use Rattle.api_calls.specs.Meaning.{Meaning}
 use Rattle.api_calls.specs.Objects.{Stored, find}
 use Rattle.api_calls.specs.State.{State, served}
 use Rattle.api_calls.specs.Writes.{at_number, delete_commit, if_storage, mark_commit}
-use Rattle.api_core.specs.CoreLaws.{fits-later, known-later}
-use Rattle.api_core.specs.ListLaws.{items-append}
+use Rattle.api_core.specs.laws.CoreLaws.{fits-later, known-later}
+use Rattle.api_core.specs.laws.ListLaws.{items-append}
 use Rattle.api_core.specs.Prepared.{FitsAt, KnownAt}
 use Rattle.api_core.specs.Stands.{Stands}
 use Rattle.api_core.specs.View.{CoreView}

@@ -22,7 +22,7 @@ use Rattle.call_texts.specs.Told.{Came}
 use Rattle.shared_api.specs.Answered.{CallsOn}
 use Rattle.shared_api.specs.Base.{StandsCell, base_of, server_of}
 use Rattle.setting_texts.specs.Migrating.{HaveTargets}
-use Rattle.shared_api.specs.MigrationTurns.{LooksMigrations}
+use Rattle.shared_api.specs.inner.MigrationTurns.{LooksMigrations}
 use Rattle.shared_api.specs.declared.cell.CoreBase.{CoreBase}
 use Rattle.call_texts.proofs.IfOk.{if_ok}
 use Rattle.shared_api.proofs.Turns.{reads, reads_calls}

@@ -6,7 +6,7 @@ use Rattle.kube_meta.specs.Page.{Page as PageOf, listed}
 use Rattle.kube_meta.specs.WindowPairs.{AllPair}
 use Rattle.kube_meta.specs.declared.limits.Limits.{Limits}
 use Rattle.api_calls.specs.Calls.{Told, answered, Failure, no_memory, converter, Fails, failure_refusal, list}
-use Rattle.api_calls.specs.GrowthLaws.{next_number-revision}
+use Rattle.api_calls.specs.laws.GrowthLaws.{next_number-revision}
 use Rattle.api_calls.specs.Item.{Item, entry, note, items}
 use Rattle.api_calls.specs.Legal.{Each, In}
 use Rattle.api_calls.specs.Meaning.{Meaning}
@@ -34,8 +34,8 @@ use Rattle.shared_api.specs.Answered.{CallsOn}
 use Rattle.shared_api.specs.Base.{StandsCell, base_of, server_of}
 use Rattle.call_texts.specs.Cached.{AreCached, Stood, WasSeen}
 use Rattle.call_texts.specs.Listing.{IsSeen}
-use Rattle.shared_api.specs.PageTurns.{LooksPage}
-use Rattle.shared_api.specs.Turning.{Reads}
+use Rattle.shared_api.specs.inner.PageTurns.{LooksPage}
+use Rattle.shared_api.specs.inner.Turning.{Reads}
 use Rattle.shared_api.specs.declared.cell.CoreBase.{CoreBase}
 use Rattle.call_texts.proofs.Born.{BornBelow, born-from, later}
 use Rattle.call_texts.proofs.IfOk.{if_ok}

@@ -21,18 +21,18 @@ use Rattle.api_calls.specs.Room.{lacking_chunks}
 use Rattle.api_calls.specs.State.{State, revision, served, state}
 use Rattle.api_calls.specs.Values.{has_finalizer, is_marked}
 use Rattle.api_calls.specs.Writes.{Takes, at_number, if_storage, with_room, replace_commit, release_commit}
-use Rattle.api_core.specs.CoreLaws.{same-later}
-use Rattle.api_core.specs.ListLaws.{items-append}
+use Rattle.api_core.specs.laws.CoreLaws.{same-later}
+use Rattle.api_core.specs.laws.ListLaws.{items-append}
 use Rattle.api_core.specs.Prepared.{IsEnding, Replacing}
 use Rattle.api_core.specs.declared.seen.Prepared.{Prepared}
 use Rattle.turn_cell.specs.declared.view.View.{View}
 use Rattle.call_texts.specs.Told.{Came, decided}
 use Rattle.shared_api.specs.Answered.{CallsOn}
 use Rattle.write_texts.specs.Readying.{Tells}
-use Rattle.shared_api.specs.WriteTurns.{Commits, Rested, Results, SeenAt, is_done, releases, replaces}
+use Rattle.shared_api.specs.inner.WriteTurns.{Commits, Rested, Results, SeenAt, is_done, releases, replaces}
 use Rattle.write_texts.specs.Replacing.{GoesOver, IsMade, RepliesToReplace, StandsOver}
-use Rattle.shared_api.specs.ReplaceTurns.{Attempts, Settled}
-use Rattle.shared_api.specs.Turning.{Reads, Writes, item_if}
+use Rattle.shared_api.specs.inner.ReplaceTurns.{Attempts, Settled}
+use Rattle.shared_api.specs.inner.Turning.{Reads, Writes, item_if}
 use Rattle.write_texts.specs.declared.change.Change.{Change}
 use Rattle.write_texts.specs.declared.tried.Tried.{Tried}
 use Rattle.write_texts.specs.declared.tried.Tried.TheVariants as tried

@@ -25,14 +25,14 @@ use Rattle.api_calls.specs.declared.versions.ConvFault.{ConvFault}
 use Rattle.api_calls.specs.declared.versions.ConvFault.TheVariants as converts
 use Rattle.api_core.specs.declared.seen.Prepared.{Prepared}
 use Rattle.turn_cell.specs.declared.view.View.{View}
-use Rattle.turn_cell.specs.Laws.{turns_join}
+use Rattle.turn_cell.specs.laws.Laws.{turns_join}
 use Rattle.call_texts.specs.Told.{Came, decided}
 use Rattle.shared_api.specs.Answered.{CallsOn}
 use Rattle.call_texts.specs.Faults.{admission, failed}
 use Rattle.write_texts.specs.Readying.{Tells}
-use Rattle.shared_api.specs.WriteTurns.{Commits, Created, Decided, Rested, Results, Tries, creates, is_done}
+use Rattle.shared_api.specs.inner.WriteTurns.{Commits, Created, Decided, Rested, Results, Tries, creates, is_done}
 use Rattle.write_texts.specs.Sealed.{Seals, opened}
-use Rattle.shared_api.specs.Turning.{Reads, Writes, item_if}
+use Rattle.shared_api.specs.inner.Turning.{Reads, Writes, item_if}
 use Rattle.write_texts.specs.declared.seal.Sealed.{Sealed}
 use Rattle.write_texts.specs.declared.tried.Tried.{Tried}
 use Rattle.write_texts.specs.declared.tried.Tried.TheVariants as tried

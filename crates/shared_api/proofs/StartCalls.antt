@@ -28,8 +28,8 @@ use Rattle.call_texts.specs.Told.{Came}
 use Rattle.shared_api.specs.Answered.{CallsOn}
 use Rattle.shared_api.specs.Base.{StandsCell, base_of, server_of}
 use Rattle.setting_texts.specs.Starting.{HasTarget, IsUnstarted, is_started}
-use Rattle.shared_api.specs.StartTurns.{BeginsStart}
-use Rattle.shared_api.specs.Turning.{Closes, Settles, Writes, item_if}
+use Rattle.shared_api.specs.inner.StartTurns.{BeginsStart}
+use Rattle.shared_api.specs.inner.Turning.{Closes, Settles, Writes, item_if}
 use Rattle.shared_api.specs.declared.cell.CoreBase.{CoreBase}
 use Rattle.shared_api.proofs.Changing.{came-more}
 use Rattle.shared_api.proofs.Entering.{writes, writes_calls}

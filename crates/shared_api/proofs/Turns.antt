@@ -17,17 +17,17 @@ use Rattle.api_calls.specs.Replies.{Answer, GetReply, RawReply, CrdReply}
 use Rattle.api_calls.specs.State.{State, revision, state}
 use Rattle.kube_meta.specs.Key.{KeyView}
 use Rattle.api_core.specs.CoreOf.{CoreOf, StandsFor}
-use Rattle.api_core.specs.ListLaws.{entries-few}
+use Rattle.api_core.specs.laws.ListLaws.{entries-few}
 use Rattle.turn_cell.specs.declared.view.View.{View}
 use Rattle.turn_cell.specs.declared.view.Stage.TheVariants.{Holds}
 use Rattle.turn_cell.specs.Views.{set_stage, Later}
 use Rattle.turn_cell.specs.Turns.{Gives}
-use Rattle.turn_cell.specs.Laws.{turn_reads}
+use Rattle.turn_cell.specs.laws.Laws.{turn_reads}
 use Rattle.call_texts.specs.Told.{Came}
 use Rattle.shared_api.specs.Answered.{CallsOn}
 use Rattle.shared_api.specs.Base.{StandsCell, base_of, server_of}
 use Rattle.shared_api.specs.Passes.{ApiOf, Known, IsOf}
-use Rattle.shared_api.specs.Turning.{Reads, Looks, Settles}
+use Rattle.shared_api.specs.inner.Turning.{Reads, Looks, Settles}
 use Rattle.shared_api.specs.declared.cell.CoreBase.{CoreBase}
 use Rattle.call_texts.specs.Cached.{AreCached}
 use Rattle.call_texts.proofs.IfOk.{if_ok}

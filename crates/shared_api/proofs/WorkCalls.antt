@@ -9,7 +9,7 @@ use Rattle.kube_meta.specs.Key.{KeyView}
 use Rattle.kube_meta.specs.View.{ObjectView}
 use Rattle.api_calls.specs.Calls.{Server, Told, worked, failed, no_memory, converter, work, Comes}
 use Rattle.api_calls.specs.Calls as calls
-use Rattle.api_calls.specs.ObjectLaws.{each-find}
+use Rattle.api_calls.specs.laws.ObjectLaws.{each-find}
 use Rattle.api_calls.specs.Ends.{TurnEnd, prepare}
 use Rattle.api_calls.specs.Item.{Logged, Item, items}
 use Rattle.api_calls.specs.Laws.{IsCounted}
@@ -19,23 +19,23 @@ use Rattle.api_calls.specs.Objects.{Stored, find}
 use Rattle.api_calls.specs.State.{revision, state}
 use Rattle.api_calls.specs.Versions.{IgnoresStamps, IsStored}
 use Rattle.api_calls.specs.Work.{Turn, Work, first_turn, prepare_turn}
-use Rattle.api_calls.specs.WorkGuards.{IsPrepared, turn-prepares}
+use Rattle.api_calls.specs.inner.WorkGuards.{IsPrepared, turn-prepares}
 use Rattle.api_calls.proofs.Generations.{counted-all}
 use Rattle.api_calls.proofs.Sound.{sound-all}
 use Rattle.api_core.specs.Keeps.{IsText}
-use Rattle.api_core.specs.KeptLaws.{find-key, found-keyed}
-use Rattle.api_core.specs.ListLaws.{items-append}
-use Rattle.api_core.specs.PreparedLaws.{work-storage}
-use Rattle.api_core.specs.WorkLaws.{first-step, second-step}
-use Rattle.api_core.specs.WorkRows.{work_of-claim}
+use Rattle.api_core.specs.laws.KeptLaws.{find-key, found-keyed}
+use Rattle.api_core.specs.laws.ListLaws.{items-append}
+use Rattle.api_core.specs.laws.PreparedLaws.{work-storage}
+use Rattle.api_core.specs.laws.WorkLaws.{first-step, second-step}
+use Rattle.api_core.specs.laws.WorkRows.{work_of-claim}
 use Rattle.api_core.specs.declared.seen.Prepared.{Prepared}
 use Rattle.api_core.specs.declared.seen.Seen.{Seen}
 use Rattle.turn_cell.specs.declared.view.View.{View}
 use Rattle.turn_cell.specs.Turns.{Turned}
-use Rattle.turn_cell.specs.Laws.{turns_join}
+use Rattle.turn_cell.specs.laws.Laws.{turns_join}
 use Rattle.shared_api.specs.Answered.{CallsOn}
 use Rattle.shared_api.specs.Steps.{IsStep, IsTold, IsToPrepare, failure_of}
-use Rattle.shared_api.specs.Working.{BeginsTurn, IsCopy, IsReady, Touches, first_of, second_of}
+use Rattle.shared_api.specs.inner.Working.{BeginsTurn, IsCopy, IsReady, Touches, first_of, second_of}
 use Rattle.shared_api.specs.declared.step.Begun.{Begun}
 use Rattle.shared_api.specs.declared.step.Begun.TheVariants as begun
 use Rattle.shared_api.specs.declared.step.TurnStep.{TurnStep}

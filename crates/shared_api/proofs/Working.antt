@@ -14,13 +14,13 @@ use Rattle.api_calls.specs.Objects.{Stored, find, elsewhere}
 use Rattle.api_calls.specs.State.{revision}
 use Rattle.api_calls.specs.Versions.{AreFlags}
 use Rattle.api_calls.specs.Work.{Turn, claim_turn, idle_turn, prepare_turn, first_turn, turn_decision, is_ready, ready_turn, touch_decision}
-use Rattle.api_calls.specs.WorkGuards.{IsPrepared, turn-prepares}
+use Rattle.api_calls.specs.inner.WorkGuards.{IsPrepared, turn-prepares}
 use Rattle.api_calls.specs.declared.flags.Flags.{Flags}
 use Rattle.api_core.specs.Keeps.{IsFound}
 use Rattle.api_core.specs.Prepared.{Sees, seen_item}
 use Rattle.api_core.specs.declared.seen.Peeked.{Peeked}
 use Rattle.api_core.specs.declared.seen.Seen.{Seen}
-use Rattle.shared_api.specs.Working.{item_or, is_entered, first_of, second_of, IsCopy}
+use Rattle.shared_api.specs.inner.Working.{item_or, is_entered, first_of, second_of, IsCopy}
 use Rattle.api_calls.specs.Calls.{give_back, gave_back, Server}
 use Rattle.api_calls.specs.Calls as calls
 use Rattle.api_calls.specs.Ends.{EndsAsDecided, bound, grown}
@@ -29,18 +29,18 @@ use Rattle.api_calls.specs.Meaning.{Meaning}
 use Rattle.api_calls.specs.State.{State, state}
 use Rattle.api_calls.specs.Work.{Work, work_of, give_back_of, give_back_decision}
 use Rattle.api_core.specs.CoreOf.{CoreOf, StandsFor}
-use Rattle.api_core.specs.WorkRows.{work_of-claim}
+use Rattle.api_core.specs.laws.WorkRows.{work_of-claim}
 use Rattle.turn_cell.specs.declared.view.View.{View}
 use Rattle.shared_api.specs.Answered.{CallsOn}
-use Rattle.shared_api.specs.Turning.{Writes, item_if}
-use Rattle.shared_api.specs.Working.{number_of, Tells, BeginsTurn, IsReady, Touches}
+use Rattle.shared_api.specs.inner.Turning.{Writes, item_if}
+use Rattle.shared_api.specs.inner.Working.{number_of, Tells, BeginsTurn, IsReady, Touches}
 use Rattle.shared_api.specs.Steps.{IsStep}
 use Rattle.shared_api.specs.declared.step.TurnStep.{TurnStep}
 use Rattle.migrate_core.specs.Moves as moves
 use Rattle.record_store.specs.ByKey.{find as find_record}
 use Rattle.record_store.specs.View.{item_key}
-use Rattle.api_core.specs.CoreLaws.{fits-later, known-later, next-later}
-use Rattle.api_core.specs.ListLaws.{items-append}
+use Rattle.api_core.specs.laws.CoreLaws.{fits-later, known-later, next-later}
+use Rattle.api_core.specs.laws.ListLaws.{items-append}
 use Rattle.api_core.specs.Prepared.{FitsAt, KnownAt}
 use Rattle.api_core.specs.Ready.{IsNext}
 use Rattle.api_core.specs.Stands.{Stands}
@@ -53,12 +53,12 @@ use Rattle.shared_api.proofs.Turns.{few_entries, items-length}
 use Rattle.shared_api.proofs.Entering.{writes}
 use Rattle.kube_meta.specs.Plan.{Plan}
 use Rattle.api_calls.specs.Legal.{IsLegal}
-use Rattle.api_core.specs.ClaimLaws.{last-few}
+use Rattle.api_core.specs.laws.ClaimLaws.{last-few}
 use Rattle.api_core.specs.CoreOf.{SameBase}
 use Rattle.api_core.specs.Turned.{WorkerTurned}
 use Rattle.turn_cell.specs.declared.view.Stage.TheVariants.{Holds}
 use Rattle.turn_cell.specs.Views.{set_stage, Later}
-use Rattle.shared_api.specs.Turning.{Closes}
+use Rattle.shared_api.specs.inner.Turning.{Closes}
 
 -- ---- giving a claim back
 

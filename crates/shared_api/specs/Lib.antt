@@ -2,14 +2,5 @@ pub mod Base
 pub mod Passes
 pub mod Faults
 pub mod Answered
-pub mod Turning
-pub mod PageTurns
-pub mod MigrationTurns
-pub mod ChangeTurns
-pub mod StartTurns
-pub mod WriteTurns
-pub mod ReplaceTurns
 pub mod Steps
-pub mod Working
-pub mod RemovalTurns
-pub mod DeleteTurns
+pub mod inner

@@ -8,7 +8,7 @@ use Rattle.api_calls.specs.Item.{items}
 use Rattle.api_calls.specs.Legal.{IsLegal}
 use Rattle.api_calls.specs.Meaning.{Meaning}
 use Rattle.turn_cell.specs.declared.view.View.{View}
-use Rattle.turn_cell.specs.ViewCode.{view_code}
+use Rattle.turn_cell.specs.laws.ViewCode.{view_code}
 use Rattle.call_texts.specs.Cached.{AreCached}
 use Rattle.form_cache.specs.Forms.{Form, Forms, forms_of}
 use Rattle.form_cache.specs.Limits.{forms_of_a_pass}

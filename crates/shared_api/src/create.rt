@@ -12,7 +12,7 @@ ghost use Rattle.shared_api.specs.Base.{server_of};
 ghost use Rattle.shared_api.specs.Passes.{IsOf};
 ghost use Rattle.call_texts.specs.Places.{IsPlace};
 ghost use Rattle.write_texts.specs.Readying.{IsFresh};
-ghost use Rattle.shared_api.specs.WriteTurns.{Created, Results, Tries};
+ghost use Rattle.shared_api.specs.inner.WriteTurns.{Created, Results, Tries};
 ghost use Rattle.shared_api.specs.declared.cell.CoreBase.{CoreBase};
 
 use crate::api::{Pass, SharedApi};

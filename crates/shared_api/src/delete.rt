@@ -9,7 +9,7 @@ ghost use Rattle.call_texts.specs.Told.{decided, told};
 ghost use Rattle.shared_api.specs.Answered.{CallsOn};
 ghost use Rattle.shared_api.specs.Base.{server_of};
 ghost use Rattle.write_texts.specs.Leavings.{Deleted};
-ghost use Rattle.shared_api.specs.DeleteTurns.{EndsDelete, TriesDelete};
+ghost use Rattle.shared_api.specs.inner.DeleteTurns.{EndsDelete, TriesDelete};
 ghost use Rattle.shared_api.specs.Passes.{IsOf};
 ghost use Rattle.call_texts.specs.Places.{IsPlace};
 ghost use Rattle.shared_api.specs.declared.cell.CoreBase.{CoreBase};

@@ -6,7 +6,7 @@ ghost use Rattle.api_calls.specs.Legal.{CountsFrom, IsLegal};
 ghost use Rattle.api_core.specs.CoreOf.{StandsFor};
 ghost use Rattle.turn_cell.specs.Turns.{Enters, IsFresh, IsHolding, IsResting};
 ghost use Rattle.shared_api.specs.Base.{base_of};
-ghost use Rattle.shared_api.specs.Turning.{Closes, item_if};
+ghost use Rattle.shared_api.specs.inner.Turning.{Closes, item_if};
 ghost use Rattle.shared_api.specs.declared.cell.CoreBase.{CoreBase};
 
 use crate::cell::{CoreBase, CoreCell};

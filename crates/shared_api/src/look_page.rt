@@ -3,7 +3,7 @@ ghost use Rattle.std.specs.Prelude.{◌≡◌, Some, option_copied, option_map};
 ghost use Rattle.api_core.specs.Pages.{place_of};
 ghost use Rattle.turn_cell.specs.Turns.{IsResting};
 ghost use Rattle.shared_api.specs.Base.{server_of};
-ghost use Rattle.shared_api.specs.PageTurns.{LooksPage};
+ghost use Rattle.shared_api.specs.inner.PageTurns.{LooksPage};
 ghost use Rattle.shared_api.specs.declared.cell.CoreBase.{CoreBase};
 
 use crate::cell::{CoreBase, CoreCell};

@@ -6,9 +6,9 @@ ghost use Rattle.api_core.specs.Ends.{delete_end};
 ghost use Rattle.api_core.specs.Prepared.{IsFree, IsSized, PreparesValue};
 ghost use Rattle.turn_cell.specs.Turns.{IsResting};
 ghost use Rattle.shared_api.specs.Base.{server_of};
-ghost use Rattle.shared_api.specs.WriteTurns.{Commits, is_done};
+ghost use Rattle.shared_api.specs.inner.WriteTurns.{Commits, is_done};
 ghost use Rattle.write_texts.specs.Removing.{IsToMark, WasAt};
-ghost use Rattle.shared_api.specs.RemovalTurns.{marks, removes};
+ghost use Rattle.shared_api.specs.inner.RemovalTurns.{marks, removes};
 ghost use Rattle.shared_api.specs.declared.cell.CoreBase.{CoreBase};
 
 use crate::cell::{CoreBase, CoreCell};

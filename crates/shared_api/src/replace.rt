@@ -13,9 +13,9 @@ ghost use Rattle.shared_api.specs.Answered.{CallsOn};
 ghost use Rattle.shared_api.specs.Base.{server_of};
 ghost use Rattle.shared_api.specs.Passes.{IsOf};
 ghost use Rattle.call_texts.specs.Places.{IsPlace};
-ghost use Rattle.shared_api.specs.WriteTurns.{Results};
+ghost use Rattle.shared_api.specs.inner.WriteTurns.{Results};
 ghost use Rattle.write_texts.specs.Replacing.{GoesOver, RepliesToReplace};
-ghost use Rattle.shared_api.specs.ReplaceTurns.{Attempts, Settled};
+ghost use Rattle.shared_api.specs.inner.ReplaceTurns.{Attempts, Settled};
 ghost use Rattle.shared_api.specs.declared.cell.CoreBase.{CoreBase};
 
 use crate::api::{Pass, SharedApi};

@@ -7,7 +7,7 @@ ghost use Rattle.turn_cell.specs.Turns.{IsResting};
 ghost use Rattle.call_texts.specs.Told.{told};
 ghost use Rattle.shared_api.specs.Answered.{CallsOn};
 ghost use Rattle.shared_api.specs.Base.{server_of};
-ghost use Rattle.shared_api.specs.ChangeTurns.{Sets, is_set};
+ghost use Rattle.shared_api.specs.inner.ChangeTurns.{Sets, is_set};
 ghost use Rattle.shared_api.specs.Passes.{IsOf};
 ghost use Rattle.shared_api.specs.declared.cell.CoreBase.{CoreBase};
 

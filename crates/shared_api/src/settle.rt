@@ -2,7 +2,7 @@
 ghost use Rattle.std.specs.Prelude.{◌≡◌, Some};
 ghost use Rattle.turn_cell.specs.Turns.{IsResting};
 ghost use Rattle.shared_api.specs.Base.{server_of};
-ghost use Rattle.shared_api.specs.Turning.{Settles};
+ghost use Rattle.shared_api.specs.inner.Turning.{Settles};
 ghost use Rattle.shared_api.specs.declared.cell.CoreBase.{CoreBase};
 
 use crate::cell::{CoreBase, CoreCell};

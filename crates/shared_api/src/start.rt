@@ -11,7 +11,7 @@ ghost use Rattle.shared_api.specs.Answered.{CallsOn};
 ghost use Rattle.shared_api.specs.Base.{server_of};
 ghost use Rattle.shared_api.specs.Passes.{IsOf};
 ghost use Rattle.setting_texts.specs.Starting.{is_started};
-ghost use Rattle.shared_api.specs.StartTurns.{BeginsStart};
+ghost use Rattle.shared_api.specs.inner.StartTurns.{BeginsStart};
 ghost use Rattle.shared_api.specs.declared.cell.CoreBase.{CoreBase};
 
 use crate::api::{Pass, SharedApi};

@@ -8,7 +8,7 @@ ghost use Rattle.call_texts.specs.Told.{told};
 ghost use Rattle.shared_api.specs.Answered.{CallsOn};
 ghost use Rattle.shared_api.specs.Base.{server_of};
 ghost use Rattle.setting_texts.specs.Changing.{is_trimmed};
-ghost use Rattle.shared_api.specs.ChangeTurns.{Trims};
+ghost use Rattle.shared_api.specs.inner.ChangeTurns.{Trims};
 ghost use Rattle.shared_api.specs.Passes.{IsOf};
 ghost use Rattle.shared_api.specs.declared.cell.CoreBase.{CoreBase};
 

@@ -13,7 +13,7 @@ ghost use Rattle.shared_api.specs.Answered.{CallsOn};
 ghost use Rattle.shared_api.specs.Base.{server_of};
 ghost use Rattle.shared_api.specs.Passes.{IsOf};
 ghost use Rattle.shared_api.specs.Steps.{IsStep, IsTold, IsToPrepare};
-ghost use Rattle.shared_api.specs.Working.{BeginsTurn, IsReady, Tells, Touches, first_of, is_entered};
+ghost use Rattle.shared_api.specs.inner.Working.{BeginsTurn, IsReady, Tells, Touches, first_of, is_entered};
 ghost use Rattle.shared_api.specs.declared.cell.CoreBase.{CoreBase};
 
 use crate::api::{Pass, SharedApi};

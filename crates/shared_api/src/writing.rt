@@ -8,7 +8,7 @@ ghost use Rattle.api_calls.specs.Legal.{IsNew};
 ghost use Rattle.api_core.specs.Ends.{create_end, release_end, replace_end};
 ghost use Rattle.api_core.specs.Prepared.{IsEnding, IsSized, PreparesValue, Replacing};
 ghost use Rattle.shared_api.specs.Base.{server_of};
-ghost use Rattle.shared_api.specs.WriteTurns.{Commits, SeenAt, creates, is_done, releases, replaces};
+ghost use Rattle.shared_api.specs.inner.WriteTurns.{Commits, SeenAt, creates, is_done, releases, replaces};
 ghost use Rattle.shared_api.specs.declared.cell.CoreBase.{CoreBase};
 
 use crate::cell::{CoreBase, CoreCell};

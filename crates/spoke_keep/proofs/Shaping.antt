@@ -14,7 +14,7 @@ use Rattle.keep_laws.specs.Judging.{Carries}
 use Rattle.keep_laws.specs.Over.{GoesOver}
 use Rattle.keep_laws.specs.Given.{Laws}
 use Rattle.keep_laws.proofs.Made.{goes_over}
-use Rattle.spoke_keep.specs.Shaping.{IsShapeOf, ShapesOver}
+use Rattle.spoke_keep.specs.inner.Shaping.{IsShapeOf, ShapesOver}
 
 pub shapes : Laws → (all : Spokes) (v : ℕ) (s : Spoke) → IsDefinition all → slice_get all.items v ≡ Some s → (body fields : Pairs) (ns notes : Texts) (es eh : List Entry) (p : Shape) → Spells (field hub_key ns) es
     → with_entries fields eh ≡ completed_over (fills_at all s) s.fit.level (with_entries body es) → Carries all (Some s.name) fields ns notes → IsShapeOf all s fields eh notes p → ShapesOver all s body ns p

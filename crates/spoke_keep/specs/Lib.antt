@@ -1,4 +1,3 @@
-pub mod SpokesCode
-pub mod Seen
 pub mod Fault
-pub mod Shaping
+pub mod inner
+pub mod laws

@@ -8,7 +8,7 @@ ghost use Rattle.keep_laws.specs.Notes.{with_note};
 ghost use Rattle.keep_laws.specs.WholeHub.{IsHubBody};
 ghost use Rattle.keep_laws.specs.Judging.{IsJudged, is_own, SpokeNote, OtherNote, Carries};
 ghost use Rattle.keep_laws.specs.Over.{HubIsRead};
-ghost use Rattle.spoke_keep.specs.Seen.{own_name, fate_note};
+ghost use Rattle.spoke_keep.specs.inner.Seen.{own_name, fate_note};
 ghost use Rattle.spoke_keep.specs.Fault.{IsBadText, IsBadOther, IsBadRead, IsFaultOf};
 
 use crate::fault::KeepFault;

@@ -16,7 +16,7 @@ ghost use Rattle.keep_laws.specs.Settling.{SettlesAtSpoke};
 ghost use Rattle.keep_laws.specs.Over.{GoesOver};
 ghost use Rattle.keep_laws.specs.Place.{StandsAt};
 ghost use Rattle.spoke_keep.specs.Fault.{IsFaultOf};
-ghost use Rattle.spoke_keep.specs.Shaping.{IsShapeOf, ShapesOver};
+ghost use Rattle.spoke_keep.specs.inner.Shaping.{IsShapeOf, ShapesOver};
 
 use crate::carrying::carried_over;
 use crate::fault::KeepFault;

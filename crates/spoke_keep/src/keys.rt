@@ -4,7 +4,7 @@ ghost use Rattle.std.specs.List.{starts_with};
 ghost use Rattle.keep_laws.specs.Spokes.{api_version};
 ghost use Rattle.keep_laws.specs.Keys.{hub_key, spoke_prefix, spoke_key, kind_among, key_kind};
 ghost use Rattle.keep_laws.specs.Judging.{is_own};
-ghost use Rattle.spoke_keep.specs.Seen.{kind_seen, kind_found, own_name};
+ghost use Rattle.spoke_keep.specs.inner.Seen.{kind_seen, kind_found, own_name};
 
 use crate::spokes::{Spoke, Spokes};
 use kj_value::{NoMemory, Txt};

@@ -18,7 +18,7 @@ impl Model for Spoke {
     ghost use Rattle.std.specs.Prelude.{◌≡◌};
     ghost use Rattle.keep_laws.specs.Spokes as laws;
     ghost use Rattle.keep_laws.specs.Keys.{spoke_key};
-    ghost use Rattle.spoke_keep.specs.SpokesCode.{spoke_code};
+    ghost use Rattle.spoke_keep.specs.laws.SpokesCode.{spoke_code};
 
     ghost Value = { laws.Spoke };
 
@@ -77,7 +77,7 @@ pub struct Spokes {
 
 impl Model for Spokes {
     ghost use Rattle.keep_laws.specs.Spokes as laws;
-    ghost use Rattle.spoke_keep.specs.SpokesCode.{spokes_code};
+    ghost use Rattle.spoke_keep.specs.laws.SpokesCode.{spokes_code};
 
     ghost Value = { laws.Spokes };
 

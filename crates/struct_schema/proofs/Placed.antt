@@ -11,7 +11,7 @@ use Rattle.std.proofs.lemmas.Map.Text.{hash_map_updates_text}
 use Rattle.std.proofs.lemmas.Slice.Eq.{bytes_eq-Decides}
 use Rattle.kj_value.specs.Json.{Json, null, boolean, whole, text, list, object, Items, Members}
 use Rattle.kj_value.specs.Same.{json_same}
-use Rattle.struct_schema.specs.LookupLaws.{one_test}
+use Rattle.struct_schema.specs.laws.LookupLaws.{one_test}
 use Rattle.struct_schema.specs.Places.{first_from, ArePlaces}
 use Rattle.struct_schema.specs.declared.places.Places.{Places}
 

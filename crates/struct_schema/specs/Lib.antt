@@ -1,8 +1,6 @@
 pub mod Shape
 pub mod KindLaws
-pub mod ShapeCode
 pub mod ShapeOf
-pub mod ShapeFalls
 pub mod Names
 pub mod Keywords
 pub mod Valid
@@ -15,11 +13,8 @@ pub mod OwnDefaults
 pub mod Stays
 pub mod ShapeSame
 pub mod ShapeInside
-pub mod LookupLaws
-pub mod NameLaws
-pub mod Own
-pub mod SameLaws
 pub mod Below
-pub mod BelowLaws
 pub mod Places
 pub mod Defaults
+pub mod laws
+pub mod inner

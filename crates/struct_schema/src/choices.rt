@@ -22,7 +22,7 @@ impl Model for Listed {
     ghost use Rattle.std.specs.Prelude.{List, IfSome};
     ghost use Rattle.std.specs.Coded.{coded_list};
     ghost use Rattle.kj_value.specs.Json.{Json};
-    ghost use Rattle.kj_value.specs.JsonCode.{json_code};
+    ghost use Rattle.kj_value.specs.laws.JsonCode.{json_code};
     ghost use Rattle.struct_schema.specs.Places.{ArePlaces};
 
     ghost Value = { List Json };
@@ -71,7 +71,7 @@ impl Model for Choices {
     ghost use Rattle.std.specs.Arc.{arc_value};
     ghost use Rattle.std.specs.Coded.{coded_list};
     ghost use Rattle.kj_value.specs.Json.{Json};
-    ghost use Rattle.kj_value.specs.JsonCode.{json_code};
+    ghost use Rattle.kj_value.specs.laws.JsonCode.{json_code};
 
     ghost Value = { List Json };
 

@@ -72,7 +72,7 @@ impl Model for SchemaMap {
     ghost use Rattle.std.specs.Coded.{coded_list, coded_ℕ, coded×};
     ghost use Rattle.kj_value.specs.Fields.{AreInOrder};
     ghost use Rattle.struct_schema.specs.Shape.{Shape, shapes_of, shapes_depth};
-    ghost use Rattle.struct_schema.specs.ShapeCode.{shape_code};
+    ghost use Rattle.struct_schema.specs.laws.ShapeCode.{shape_code};
 
     ghost Value = { List (List ℕ × Shape) };
 
@@ -90,14 +90,14 @@ impl Model for SchemaMap {
 
     ghost size = { λ ss. shapes_depth (shapes_of ss) };
 
-    ghost use Rattle.struct_schema.specs.ShapeFalls.{most-schemas};
+    ghost use Rattle.struct_schema.specs.inner.ShapeFalls.{most-schemas};
 
     ghost size_decreases = { λ a h. most-schemas a.fields.items };
 }
 
 impl Model for SchemaBox {
     ghost use Rattle.struct_schema.specs.Shape.{Shape, shape_depth};
-    ghost use Rattle.struct_schema.specs.ShapeCode.{shape_code};
+    ghost use Rattle.struct_schema.specs.laws.ShapeCode.{shape_code};
 
     ghost Value = { Shape };
 
@@ -109,7 +109,7 @@ impl Model for SchemaBox {
 
     ghost size = { shape_depth };
 
-    ghost use Rattle.struct_schema.specs.ShapeFalls.{deep-box};
+    ghost use Rattle.struct_schema.specs.inner.ShapeFalls.{deep-box};
 
     ghost size_decreases = { λ a h. deep-box a.node.value };
 }

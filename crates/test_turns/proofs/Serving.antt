@@ -7,7 +7,7 @@ use Rattle.turn_cell.specs.declared.view.View.{View}
 use Rattle.turn_cell.specs.declared.view.Stage.TheVariants.{Rest}
 use Rattle.turn_cell.specs.Views.{numbers_of, set_stage}
 use Rattle.turn_cell.specs.Turns.{addition}
-use Rattle.turn_cell.specs.Laws.{items_of-append}
+use Rattle.turn_cell.specs.laws.Laws.{items_of-append}
 use Rattle.test_turns.specs.declared.counter.AddEnd.{AddEnd}
 use Rattle.test_turns.specs.Counts.{IsReply, entered_by}
 use Rattle.test_turns.specs.Calls.{ServesAsCounter, AnswersAsCounter}

@@ -10,7 +10,7 @@ use Rattle.turn_cell.specs.declared.view.View.{View}
 use Rattle.turn_cell.specs.declared.view.Stage.TheVariants.{Rest, Holds}
 use Rattle.turn_cell.specs.Views.{numbers_of, numbers_or, number_or, set_stage, stamped, IsAlone, Later, opening_view, halved, newcomer, named, met_with}
 use Rattle.turn_cell.specs.Turns.{is_numbered, Appends, Gives, Meets}
-use Rattle.turn_cell.specs.Laws.{items_of-append, prefix_self, prefix_trans}
+use Rattle.turn_cell.specs.laws.Laws.{items_of-append, prefix_self, prefix_trans}
 use Rattle.test_turns.specs.Ticks.{Ticked}
 
 one_item : (n : ℕ) (x : Logged) → x.by ≡ n → length (items_of n (x ∷ [])) ≡ 1

@@ -3,7 +3,7 @@ use Rattle.std.specs.Prelude.{ℕ, refl}
 use Rattle.std.specs.Coded.{Coded, code_by, coded_ℕ, coded×}
 use Rattle.atomic_table.specs.Seated.{TableId, table_id_coded}
 use Rattle.turn_cell.specs.declared.view.View.{View}
-use Rattle.turn_cell.specs.ViewCode.{view_code}
+use Rattle.turn_cell.specs.laws.ViewCode.{view_code}
 use Rattle.test_turns.specs.declared.generic.cell.CoreBase.{CoreBase}
 
 pub record Known (B A : Type 0) : Type 0 where

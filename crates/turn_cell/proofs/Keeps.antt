@@ -20,8 +20,8 @@ use Rattle.turn_cell.specs.Turns.{is_numbered}
 use Rattle.turn_cell.specs.Rule.{CellPlan, AtStage, HasAll, Fits, Kept, total, view_parts, parts_of}
 use Rattle.turn_cell.specs.Steps.{drew, saw, Sees, appended, passed_on, rang}
 use Rattle.turn_cell.proofs.Lists.{put, put_here, put_else, prefix_snoc, prefix_whole, at_here, same_at, total_set, total_two, items_of-other, zero_factor, none_in}
-use Rattle.turn_cell.specs.ShareLaws.{parts_whole}
-use Rattle.turn_cell.specs.Laws.{prefix_self, items_of-append}
+use Rattle.turn_cell.specs.laws.ShareLaws.{parts_whole}
+use Rattle.turn_cell.specs.laws.Laws.{prefix_self, items_of-append}
 use Rattle.std.proofs.lemmas.Nat.{pow_pos}
 
 -- what others know stays, where one seat steps

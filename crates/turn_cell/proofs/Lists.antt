@@ -17,7 +17,7 @@ use Rattle.turn_cell.specs.Rule.{total}
 use Rattle.turn_cell.specs.declared.view.Stage.{Stage}
 use Rattle.turn_cell.specs.declared.view.Stage.TheVariants.{Rest, Waits, Holds, Met}
 use Rattle.turn_cell.specs.Turns.{is_resting}
-use Rattle.turn_cell.specs.Laws.{prefix_trans, items_of-append}
+use Rattle.turn_cell.specs.laws.Laws.{prefix_trans, items_of-append}
 
 abbrev pub pick : {P A : Type 0} → Dec P → A → A → A
 pick (yes _) a b = a

@@ -19,7 +19,7 @@ use Rattle.turn_cell.specs.Views.{numbers_of, numbers_or, set_stage, halved, new
 use Rattle.turn_cell.specs.Rule.{CellPlan, AtStage, HasAll, Fits, Kept, total, view_parts}
 use Rattle.turn_cell.specs.Steps.{got_number, looked}
 use Rattle.turn_cell.proofs.Lists.{pick, put, put_here, put_else, prefix_shorter, prefix_whole, prefix_length, at_here, same_at, total_set, total_snoc, none_in, nothing_before, items_between, longer_cases, in_left, in_right, in_cases, differ_append, zero_factor}
-use Rattle.turn_cell.specs.ShareLaws.{parts_double, parts_half, parts_both}
+use Rattle.turn_cell.specs.laws.ShareLaws.{parts_double, parts_half, parts_both}
 use Rattle.std.proofs.lemmas.Nat.{pow_pos}
 use Rattle.turn_cell.proofs.Keeps.{words_of, at_after, unmoved, later, moves}
 

@@ -3,6 +3,4 @@ pub mod Views
 pub mod Rule
 pub mod Steps
 pub mod Turns
-pub mod Laws
-pub mod ShareLaws
-pub mod ViewCode
+pub mod laws

@@ -4,7 +4,7 @@ use Rattle.kj_value.specs.Seen.{json}
 use Rattle.kj_value.specs.declared.value.JVal.{JVal}
 use Rattle.wire_client.specs.Far.{Server, Told, Made}
 use Rattle.wire_client.specs.Answers.{Answer, IsAnswer, Reply, given, reply_by_code}
-use Rattle.wire_client.specs.Seen.{Asked, AskedEnd, JudgedEnd}
+use Rattle.wire_client.specs.inner.Seen.{Asked, AskedEnd, JudgedEnd}
 use Rattle.wire_client.specs.declared.end.WireEnd.{WireEnd}
 use Rattle.wire_client.specs.declared.end.WireEnd.TheVariants as wire
 

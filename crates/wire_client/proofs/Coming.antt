@@ -6,12 +6,12 @@ use Rattle.kj_value.specs.declared.value.JVal.{JVal}
 use Rattle.object_reading.specs.Fields.{text_at}
 use Rattle.place.specs.Place.{Names}
 use Rattle.wire_client.specs.Far.{Server, Told, Made}
-use Rattle.wire_client.specs.FarLaws.{made_nothing}
+use Rattle.wire_client.specs.laws.FarLaws.{made_nothing}
 use Rattle.wire_client.specs.Calls.{Call, posts, request_of}
 use Rattle.wire_client.specs.Forms.{Path, Wanted, api_version, fields_of, meta_field, object_fault}
 use Rattle.wire_client.specs.Answers.{Answer, IsAnswer, Reply, given, broken, long, gone, code, shape, success_of, reply_by_code, form_fault, wanted_of, shaped, formed, Replies}
 use Rattle.wire_client.specs.Ends.{Came, Lacked, Ended, OnLinkFault}
-use Rattle.wire_client.specs.Seen.{ByCode, Asked, Starved, AskedEnd, OnShape}
+use Rattle.wire_client.specs.inner.Seen.{ByCode, Asked, Starved, AskedEnd, OnShape}
 use Rattle.wire_client.specs.declared.end.WireEnd.{WireEnd}
 use Rattle.wire_client.specs.declared.end.WireEnd.TheVariants as wire
 

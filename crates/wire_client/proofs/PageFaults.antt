@@ -4,10 +4,10 @@ use Rattle.kj_value.specs.Json.{Json, depth, items_depth, items_of}
 use Rattle.kj_value.specs.Fields.{Pairs, field}
 use Rattle.kj_value.specs.Kinds.{as_object, as_list}
 use Rattle.kj_value.specs.KindLaws.{object_known, list_known}
-use Rattle.kj_value.specs.Inside.{depth_field}
+use Rattle.kj_value.specs.laws.Inside.{depth_field}
 use Rattle.object_reading.specs.Fields.{given}
 use Rattle.wire_client.specs.Forms.{Path, told_if, first_told, meta_field, has_version, has_number, is_token, items_in, items_fault, page_fields_fault}
-use Rattle.wire_client.specs.Seen.{OnShape}
+use Rattle.wire_client.specs.inner.Seen.{OnShape}
 use Rattle.wire_client.specs.declared.end.WireEnd.{WireEnd}
 use Rattle.wire_client.specs.declared.end.WireEnd.TheVariants as wire
 

@@ -7,7 +7,7 @@ use Rattle.wire_client.specs.Calls.{lists, request_of}
 use Rattle.wire_client.specs.Forms.{Path, api_version, page_fault}
 use Rattle.wire_client.specs.Answers.{given}
 use Rattle.wire_client.specs.Ends.{Came, Ended, IsPage}
-use Rattle.wire_client.specs.Seen.{Asked, OnShape}
+use Rattle.wire_client.specs.inner.Seen.{Asked, OnShape}
 use Rattle.wire_client.specs.declared.end.ListPage.{ListPage}
 use Rattle.wire_client.specs.declared.end.WireEnd.{WireEnd}
 use Rattle.wire_client.specs.declared.end.WireEnd.TheVariants as wire

@@ -5,7 +5,7 @@ ghost use Rattle.kj_value.specs.Seen.{json};
 ghost use Rattle.edge_io.specs.Causes.{Rose};
 ghost use Rattle.wire_client.specs.Answers.{given, reply_by_code};
 ghost use Rattle.wire_client.specs.Ends.{OnLinkFault};
-ghost use Rattle.wire_client.specs.Seen.{answer_of, IsLow, value_of, Asked, AskedEnd, IsRefusal, JudgedEnd};
+ghost use Rattle.wire_client.specs.inner.Seen.{answer_of, IsLow, value_of, Asked, AskedEnd, IsRefusal, JudgedEnd};
 
 use crate::answer::Answer;
 use crate::buffer::{ANSWER_LEVELS, ResponseBuffer};

@@ -3,7 +3,7 @@ ghost use Rattle.std.specs.Prelude.{◌≡◌, ◌≤◌, [], IfOk, IfSome};
 ghost use Rattle.kj_value.specs.Json.{depth};
 ghost use Rattle.kj_value.specs.Seen.{json};
 ghost use Rattle.wire_client.specs.Answers.{IsAnswer, IsValue};
-ghost use Rattle.wire_client.specs.Seen.{answer_of, value_of, IsLow};
+ghost use Rattle.wire_client.specs.inner.Seen.{answer_of, value_of, IsLow};
 
 use crate::answer::Answer;
 use edge_io::SureSource;

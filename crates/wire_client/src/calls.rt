@@ -10,7 +10,7 @@ ghost use Rattle.wire_client.specs.Calls.{lists, gets, puts, posts, request_of};
 ghost use Rattle.wire_client.specs.Ends.{Came, Ended, OnLinkFault, IsPage};
 ghost use Rattle.wire_client.specs.Forms.{this_one, object_fault as object_fault_of};
 ghost use Rattle.wire_client.specs.Keys.{AreKeyed};
-ghost use Rattle.wire_client.specs.Seen.{OnShape, wanted_view};
+ghost use Rattle.wire_client.specs.inner.Seen.{OnShape, wanted_view};
 
 use crate::asking::ask;
 use crate::buffer::{ANSWER_LEVELS, ResponseBuffer};

@@ -2,7 +2,7 @@
 ghost use Rattle.std.specs.Prelude.{◌≡◌, Some};
 ghost use Rattle.kj_value.specs.Seen.{json};
 ghost use Rattle.wire_client.specs.Answers.{has_details as has_details_of};
-ghost use Rattle.wire_client.specs.Seen.{value_of};
+ghost use Rattle.wire_client.specs.inner.Seen.{value_of};
 
 use crate::fields::has_field;
 use kj_value::JVal;

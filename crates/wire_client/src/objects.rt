@@ -2,7 +2,7 @@
 ghost use Rattle.std.specs.Prelude.{◌≡◌, option_copied};
 ghost use Rattle.kj_value.specs.Seen.{json};
 ghost use Rattle.wire_client.specs.Forms.{fields_fault as fields_fault_of, object_fault as object_fault_of};
-ghost use Rattle.wire_client.specs.Seen.{wanted_view};
+ghost use Rattle.wire_client.specs.inner.Seen.{wanted_view};
 
 use crate::fields::{has_name, has_namespace, has_version, number_in};
 use kj_value::{JFields, JVal};

@@ -5,7 +5,7 @@ ghost use Rattle.kj_value.specs.Seen.{json};
 ghost use Rattle.wire_client.specs.Ends.{IsPage};
 ghost use Rattle.wire_client.specs.Forms.{fields_of, page_fault, page_fields_fault, items_fault as items_fault_of, item_path as item_path_of};
 ghost use Rattle.wire_client.specs.Keys.{AreKeyed};
-ghost use Rattle.wire_client.specs.Seen.{HasHead, OnShape};
+ghost use Rattle.wire_client.specs.inner.Seen.{HasHead, OnShape};
 
 use crate::end::{ListPage, WireEnd};
 use crate::fields::{has_version, items_in, number_in, take_items, token_in};

@@ -14,7 +14,7 @@ use Rattle.http_wire.specs.declared.limits.TheConstants.{MOST_BODY_BYTES, MOST_H
 use Rattle.http_wire.specs.declared.RequestParts.{RequestParts}
 use Rattle.http_wire.specs.declared.WireFault.{WireFault}
 use Rattle.http_wire.specs.declared.WireFault.TheVariants.{BadHead, BodyTooLong, Closed, HeadTooLong, LengthRequired, ReadFault, Torn}
-use Rattle.http_wire.specs.Asking.{asks_last}
+use Rattle.http_wire.specs.laws.Asking.{asks_last}
 use Rattle.http_wire.specs.Fields.{Fields, absent_length, asks_closing, body_by, body_or, has_close, length_in, values, within_most}
 use Rattle.http_wire.specs.Head.{Faulty, IsHead, Reads, Request, body_after, closes, request_of}
 use Rattle.http_wire.specs.Inboxes.{Asked, EndsBy, Held, request_at}

@@ -11,7 +11,7 @@ use Rattle.api_calls.specs.Bodies.{IsServedDelete}
 use Rattle.api_calls.specs.Calls.{IsKept}
 use Rattle.api_calls.specs.Cause.{bad_options}
 use Rattle.api_calls.specs.Documents.{deleted_status}
-use Rattle.api_calls.specs.ObjectLaws.{each-find}
+use Rattle.api_calls.specs.laws.ObjectLaws.{each-find}
 use Rattle.api_calls.specs.Ends.{Decision, WriteEnd, done, kept, gone, unserved, says, enters}
 use Rattle.api_calls.specs.Item.{Item, entry, Delete, Mark}
 use Rattle.api_calls.specs.Legal.{HasFinalizer, key_of, legal}
@@ -32,7 +32,7 @@ use Rattle.api_calls.specs.declared.versions.ConvFault.{ConvFault}
 use Rattle.api_calls.specs.declared.versions.ConvFault.TheVariants as converts
 use Rattle.api_calls.proofs.Generations.{counted-all}
 use Rattle.api_core.specs.Keeps.{IsFound, KeepsObject}
-use Rattle.api_core.specs.KeptLaws.{found-keyed}
+use Rattle.api_core.specs.laws.KeptLaws.{found-keyed}
 use Rattle.api_core.specs.Prepared.{PreparesValue, Sees, seen_item}
 use Rattle.api_core.specs.declared.seen.Peeked.{Peeked}
 use Rattle.api_core.specs.declared.seen.Prepared.{Prepared}
@@ -40,7 +40,7 @@ use Rattle.api_core.specs.declared.seen.Seen.{Seen}
 use Rattle.call_texts.specs.Told.{Came}
 use Rattle.call_texts.specs.Faults.{failed}
 use Rattle.write_texts.specs.Leavings.{Deleted, IsLeaving, IsSaid, LeavesSeen, MarksSeen}
-use Rattle.write_texts.specs.Marking.{HoldsAs}
+use Rattle.write_texts.specs.inner.Marking.{HoldsAs}
 use Rattle.write_texts.specs.Readying.{IsReady}
 use Rattle.write_texts.specs.Sealed.{Seals}
 use Rattle.write_texts.specs.declared.delete.Leaving.{Leaving}

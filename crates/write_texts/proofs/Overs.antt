@@ -6,7 +6,7 @@ use Rattle.kube_meta.specs.Key.{KeyView}
 use Rattle.kube_meta.specs.View.{ObjectView, object_of}
 use Rattle.api_calls.specs.Calls.{Server}
 use Rattle.api_calls.specs.Cause.{cause_of, why_of}
-use Rattle.api_calls.specs.ObjectLaws.{each-find}
+use Rattle.api_calls.specs.laws.ObjectLaws.{each-find}
 use Rattle.api_calls.specs.Ends.{says, forbidden, gone, newer, Decision, WriteEnd}
 use Rattle.api_calls.specs.Item.{Item}
 use Rattle.api_calls.specs.Laws.{IsCounted}

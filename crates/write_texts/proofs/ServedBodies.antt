@@ -7,7 +7,7 @@ use Rattle.kj_value.specs.KindLaws.{pairs_members}
 use Rattle.kj_value.specs.Reading.{Reads}
 use Rattle.kj_value.specs.declared.reading.JsonFault.TheVariants.{NotJson, TooDeep, NotWhole}
 use Rattle.api_calls.specs.Bodies.{IsServedDelete, IsUnset, fields_in}
-use Rattle.write_texts.specs.Deleting.{HasUnset}
+use Rattle.write_texts.specs.inner.Deleting.{HasUnset}
 use Rattle.api_calls.proofs.Texts.{never_not_json, never_not_whole, never_too_deep}
 
 -- an object has one list of fields

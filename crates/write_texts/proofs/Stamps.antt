@@ -6,7 +6,7 @@ use Rattle.api_calls.specs.Meaning.{Meaning, stamped}
 use Rattle.api_calls.specs.Objects.{marked}
 use Rattle.api_calls.specs.Values.{has_finalizer, is_marked}
 use Rattle.api_calls.specs.Versions.{IgnoresStamps, IsOneToOne, IsStamp, IsStored, KeepsFinalizers, Stand}
-use Rattle.write_texts.specs.Marking.{HoldsAs}
+use Rattle.write_texts.specs.inner.Marking.{HoldsAs}
 
 same-deleted : (m : Meaning) (v : ℕ) (h x : ObjectView) → IsOneToOne m → IgnoresStamps m → v < m.count → m.whole h → m.pair v h x → x.meta.deleted ≡ h.meta.deleted
 same-deleted m v h x one ignores known whole pair =

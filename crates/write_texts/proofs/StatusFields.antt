@@ -5,7 +5,7 @@ use Rattle.kj_value.specs.Fields.{Pairs, with_field}
 use Rattle.kj_value.specs.Json.{Json, depth, members_of, no_members, object, text}
 use Rattle.api_calls.specs.Documents.{deleted_status}
 use Rattle.api_calls.specs.Meaning.{Meaning}
-use Rattle.write_texts.specs.Deleting.{deleted_details}
+use Rattle.write_texts.specs.inner.Deleting.{deleted_details}
 
 pub put_next : (before after made : Pairs) (name : List ℕ) (v w : Json) → after ≡ with_field name v before → v ≡ w → before ≡ made → after ≡ with_field name w made
 put_next before after made name v w e f g = rw (e, f, g) refl

@@ -23,7 +23,7 @@ use Rattle.api_core.specs.Prepared.{IsSized, PreparesValue}
 use Rattle.api_core.specs.declared.seen.Prepared.{Prepared}
 use Rattle.api_core.specs.declared.seen.Seen.{Seen}
 use Rattle.call_texts.specs.Told.{Came, decided}
-use Rattle.write_texts.specs.Marking.{HoldsAs}
+use Rattle.write_texts.specs.inner.Marking.{HoldsAs}
 use Rattle.write_texts.specs.Removing.{IsToMark, WasAt}
 use Rattle.write_texts.specs.Sealed.{Seals, opened}
 use Rattle.write_texts.specs.declared.delete.DeleteTry.{DeleteTry}

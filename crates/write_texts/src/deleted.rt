@@ -6,7 +6,7 @@ ghost use Rattle.kj_value.specs.Seen.{json};
 ghost use Rattle.kj_value.specs.Text.{text_of};
 ghost use Rattle.api_calls.specs.Documents.{deleted_status};
 ghost use Rattle.api_calls.specs.Uid.{uid};
-ghost use Rattle.write_texts.specs.Deleting.{deleted_details};
+ghost use Rattle.write_texts.specs.inner.Deleting.{deleted_details};
 
 use api_calls::{BORN_END, Versions, uid_of};
 use call_texts::Given;

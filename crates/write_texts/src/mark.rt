@@ -6,7 +6,7 @@ ghost use Rattle.api_calls.specs.Meaning.{Weighs};
 ghost use Rattle.api_calls.specs.Objects.{marked};
 ghost use Rattle.api_calls.specs.Values.{has_finalizer, is_marked};
 ghost use Rattle.api_calls.specs.Versions.{IsStamp, IsStored};
-ghost use Rattle.write_texts.specs.Marking.{HoldsAs};
+ghost use Rattle.write_texts.specs.inner.Marking.{HoldsAs};
 ghost use Rattle.write_texts.specs.Readying.{IsReady};
 
 use crate::prepare::prepare_write;

@@ -3,7 +3,7 @@ ghost use Rattle.std.specs.Prelude.{◌≡◌, ◌↔◌, IfOk, IsTrue};
 ghost use Rattle.kj_value.specs.Json.{object};
 ghost use Rattle.kj_value.specs.Seen.{json};
 ghost use Rattle.api_calls.specs.Bodies.{IsServedDelete, IsUnset};
-ghost use Rattle.write_texts.specs.Deleting.{HasUnset};
+ghost use Rattle.write_texts.specs.inner.Deleting.{HasUnset};
 
 use api_calls::OBJECT_LEVELS;
 use kj_value::{JFields, JVal, JsonFault, NoMemory, one_reading, read};

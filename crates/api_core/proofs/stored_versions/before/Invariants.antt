@@ -1,5 +1,5 @@
 use Rattle.std.proofs.Common.{◌≡◌, ◌++◌, take, drop}
-use Rattle.api_core.specs.TrimLaws.{until}
+use Rattle.api_core.specs.inner.TrimLaws.{until}
 use Rattle.api_core.proofs.stored_versions.before.Given as goal
 
 abbrev pub invariant-loop-i : goal.invariant-loop-i

@@ -1,6 +1,6 @@
 use Rattle.std.proofs.Common.{◌≡◌, ◌≤◌, length, take}
 use Rattle.api_calls.specs.Versions.{versions_of}
-use Rattle.api_core.specs.TrimLaws.{unkept}
+use Rattle.api_core.specs.inner.TrimLaws.{unkept}
 use Rattle.api_core.proofs.stored_versions.unkept_of.Given as goal
 
 abbrev pub invariant-loop-v : goal.invariant-loop-v

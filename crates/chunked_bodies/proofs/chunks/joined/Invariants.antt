@@ -1,5 +1,5 @@
 use Rattle.std.proofs.Common.{◌≤◌, ◌-◌, length, drop}
-use Rattle.chunked_bodies.specs.Walk.{GoesOn}
+use Rattle.chunked_bodies.specs.inner.Walk.{GoesOn}
 use Rattle.chunked_bodies.proofs.chunks.joined.Given as goal
 
 -- the chunks that were passed stand before

@@ -2,7 +2,7 @@ use Rattle.std.proofs.Common.{arith, ap, sym, ◌∙◌, map, subst, Option, ℕ
 use Rattle.std.proofs.lemmas.List.{length-map}
 use Rattle.httparse.specs.Spans.{header_bytes}
 use Rattle.chunked_bodies.specs.Response.{frames, is_chunked}
-use Rattle.chunked_bodies.specs.Walk.{Found}
+use Rattle.chunked_bodies.specs.inner.Walk.{Found}
 use Rattle.chunked_bodies.proofs.Codings.{seen, inside_map, nowhere_second, nowhere_other, found_first, found_more, answer}
 use Rattle.chunked_bodies.proofs.coding.coding_of.Goals.{then-frames+else-is_some+else-not-is_chunked, else-frames}
 use Rattle.chunked_bodies.proofs.coding.coding_of.Goals as goal

@@ -1,6 +1,6 @@
 use Rattle.std.proofs.Common.{map}
 use Rattle.httparse.specs.Spans.{header_bytes}
-use Rattle.chunked_bodies.specs.Walk.{Found}
+use Rattle.chunked_bodies.specs.inner.Walk.{Found}
 use Rattle.chunked_bodies.proofs.coding.coding_of.Given as goal
 
 -- of the fields that were passed one alone, or none, says how the body ends

@@ -1,5 +1,5 @@
 use Rattle.std.proofs.Common.{◌≡◌, ◌∙◌, ℕ, ap, length, arith}
-use Rattle.chunked_bodies.specs.Walk.{before_field}
+use Rattle.chunked_bodies.specs.inner.Walk.{before_field}
 use Rattle.chunked_bodies.proofs.Heads.{first_field, next_field}
 use Rattle.chunked_bodies.proofs.lines.field_line.Goals as goal
 

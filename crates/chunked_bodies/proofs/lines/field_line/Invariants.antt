@@ -1,6 +1,6 @@
 use Rattle.std.proofs.Common.{◌≡◌, ◌≤◌, ℕ, List, [], length}
 use Rattle.httparse.specs.Grammar.{ResponseHead, ReadsResponse}
-use Rattle.chunked_bodies.specs.Walk.{before_field}
+use Rattle.chunked_bodies.specs.inner.Walk.{before_field}
 use Rattle.chunked_bodies.proofs.lines.field_line.Given as goal
 
 -- the field of the place that was come to stands there

@@ -4,7 +4,7 @@ use Rattle.kube_meta.specs.Key.{KeyView}
 use Rattle.api_calls.specs.Item.{Item}
 use Rattle.api_calls.specs.Objects.{find}
 use Rattle.api_calls.specs.State.{state}
-use Rattle.api_core.specs.PairLaws.{find-key}
+use Rattle.api_core.specs.laws.PairLaws.{find-key}
 use Rattle.core_laws.proofs.laws.seen_stays.Goals as goal
 
 pub returns : goal.returns

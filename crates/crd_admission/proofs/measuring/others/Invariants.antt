@@ -1,6 +1,6 @@
 use Rattle.std.proofs.Common.{◌≡◌, ◌+◌, drop, map}
 use Rattle.kj_value.specs.Pair.{pair_of}
-use Rattle.crd_admission.specs.Count.{other_bytes, total}
+use Rattle.crd_admission.specs.inner.Count.{other_bytes, total}
 use Rattle.crd_admission.proofs.measuring.others.Given as goal
 
 abbrev pub invariant-loop-f : goal.invariant-loop-f

@@ -1,7 +1,7 @@
 use Rattle.std.proofs.Common.{◌≡◌, ℕ, ◌+◌, ◌<◌, Option, Some, sym, subst, arith}
 use Rattle.kube_meta.specs.View.{ObjectView, object_of}
 use Rattle.crd_meaning.specs.Definition.{count_of}
-use Rattle.crd_admission.specs.Weighing.{AreWeighed, IsMeasure, form_of}
+use Rattle.crd_admission.specs.inner.Weighing.{AreWeighed, IsMeasure, form_of}
 use Rattle.crd_admission.proofs.Weights.{weighed_next, weighed_all}
 use Rattle.crd_admission.proofs.weighing.weigh.Goals as goal
 

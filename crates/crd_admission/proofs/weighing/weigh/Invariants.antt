@@ -1,5 +1,5 @@
 use Rattle.kube_meta.specs.View.{object_of}
-use Rattle.crd_admission.specs.Weighing.{AreWeighed, IsKept}
+use Rattle.crd_admission.specs.inner.Weighing.{AreWeighed, IsKept}
 use Rattle.crd_admission.proofs.weighing.weigh.Given as goal
 
 abbrev pub invariant-loop-v : goal.invariant-loop-v

@@ -10,7 +10,7 @@ use Rattle.keep_laws.specs.WholeHub.{IsWholeHub}
 use Rattle.spoke_keep.specs.Fault.{IsFaultOf}
 use Rattle.crd_meaning.specs.Definition.{Seat, seat}
 use Rattle.crd_meaning.specs.Admission.{own_name}
-use Rattle.crd_documents.specs.Steps.{HasHub}
+use Rattle.crd_documents.specs.inner.Steps.{HasHub}
 use Rattle.crd_documents.proofs.Crossed.{if_ok, if_both, settled_hub, gone_over}
 use Rattle.crd_documents.proofs.Standing.{stands_at_hub, stands_at_spoke}
 use Rattle.crd_documents.proofs.crossing.hub_of.Goals as goal

@@ -5,7 +5,7 @@ use Rattle.object_reading.specs.Fields.{given}
 use Rattle.object_reading.specs.Refusal.{first_holding}
 use Rattle.crd_meaning.specs.Request.{metadata_fault}
 use Rattle.crd_meaning.specs.Document.{judged_metadata}
-use Rattle.crd_documents.specs.Steps.{IsBadMetadata}
+use Rattle.crd_documents.specs.inner.Steps.{IsBadMetadata}
 use Rattle.crd_documents.proofs.Refusing.{refused_more}
 use Rattle.crd_documents.proofs.Rows.{told_alike}
 use Rattle.crd_documents.proofs.reading.submitted.Goals as goal

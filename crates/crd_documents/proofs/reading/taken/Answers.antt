@@ -6,7 +6,7 @@ use Rattle.kj_value.specs.Seen.{json}
 use Rattle.kube_meta.specs.View.{meta_of, object_of}
 use Rattle.crd_meaning.specs.Document.{rows, early}
 use Rattle.crd_admission.specs.Steps.{IsFirst}
-use Rattle.crd_documents.specs.Steps.{IsBadMetadata}
+use Rattle.crd_documents.specs.inner.Steps.{IsBadMetadata}
 use Rattle.crd_documents.proofs.Refusing.{refused_more}
 use Rattle.crd_documents.proofs.Rows.{early_first, bad_metadata}
 use Rattle.crd_documents.proofs.Submitted.{with_meta, is_given, same_metadata}

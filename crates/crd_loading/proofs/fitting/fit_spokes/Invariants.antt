@@ -2,7 +2,7 @@ use Rattle.std.proofs.Common.{◌≡◌, ◌++◌, drop, map}
 use Rattle.struct_schema.specs.ShapeOf.{shape_of}
 use Rattle.crd_reading.specs.Seen.{version_of}
 use Rattle.crd_loading.specs.Fits.{spokes_from, fits_blame, fits_of}
-use Rattle.crd_loading.specs.AllFitted.{AllFitted}
+use Rattle.crd_loading.specs.inner.AllFitted.{AllFitted}
 use Rattle.crd_loading.proofs.fitting.fit_spokes.Given as goal
 
 abbrev pub invariant-loop-i : goal.invariant-loop-i

@@ -1,7 +1,7 @@
 use Rattle.std.proofs.Common.{ap, sym, ◌∙◌}
 use Rattle.kj_value.specs.Seen.{json}
 use Rattle.kj_value.specs.declared.value.JVal.{JVal}
-use Rattle.struct_schema.specs.LookupLaws.{item_count-items_of}
+use Rattle.struct_schema.specs.laws.LookupLaws.{item_count-items_of}
 use Rattle.crd_reading.specs.Allowed.{are_few, is_few}
 use Rattle.crd_reading.proofs.values.is_few.Goals as goal
 

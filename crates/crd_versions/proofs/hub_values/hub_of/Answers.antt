@@ -1,5 +1,5 @@
 use Rattle.kube_meta.specs.View.{object_of}
-use Rattle.api_calls.specs.SpelledLaws.{stored-text}
+use Rattle.api_calls.specs.laws.SpelledLaws.{stored-text}
 use Rattle.crd_meaning.specs.Meant.{meant}
 use Rattle.crd_versions.proofs.StoredForms.{form_back, hub_back, is_stored, stored_of, whole_levels, stored_levels}
 use Rattle.crd_versions.proofs.hub_values.hub_of.Goals as goal

@@ -1,5 +1,5 @@
 use Rattle.std.proofs.Common.{◌≡◌, ◌∙◌, ℕ, ◌+◌, List, ◌∷◌, ap, sym, arith, drop, get_or}
-use Rattle.document_text.specs.Ending.{ending}
+use Rattle.document_text.specs.inner.Ending.{ending}
 use Rattle.document_text.proofs.Scanning.{reading, here, at_escaped, at_backslash, at_quote_inside, at_byte_inside, at_quote, at_opening, at_other, at_closing, at_deeper}
 use Rattle.document_text.proofs.ends.ending.Goals.{then-escaped, else-escaped+then-inside+then-x-eq92, else-escaped+then-inside+else-x-eq92+then-x-eq34, else-escaped+then-inside+else-x-eq92+else-x-eq34, else-escaped+else-inside+then-x-eq34-2, else-escaped+else-inside+else-x-eq34-2+then-is_opening, else-escaped+else-inside+else-x-eq34-2+else-is_opening+then-level-eq0+else-is_end, else-escaped+else-inside+else-x-eq34-2+else-is_opening+else-level-eq0+then-is_closing, else-escaped+else-inside+else-x-eq34-2+else-is_opening+else-level-eq0+else-is_closing}
 use Rattle.document_text.proofs.ends.ending.Goals as goal

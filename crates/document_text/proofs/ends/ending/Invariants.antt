@@ -1,5 +1,5 @@
 use Rattle.std.proofs.Common.{◌≡◌, ◌≤◌, true, drop}
-use Rattle.document_text.specs.Ending.{ending}
+use Rattle.document_text.specs.inner.Ending.{ending}
 use Rattle.document_text.proofs.Scanning.{reading}
 use Rattle.document_text.proofs.ends.ending.Given as goal
 

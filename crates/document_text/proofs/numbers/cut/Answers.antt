@@ -1,7 +1,7 @@
 use Rattle.std.proofs.Common.{◌∙◌, ◌-◌, sym, subst, arith, length, List, ℕ, nat_lt}
 use Rattle.std.proofs.lemmas.Bool.Decides.{nat_tests}
 use Rattle.document_text.specs.FieldLaws.{before, after, around_meta, others}
-use Rattle.document_text.specs.Cut.{IsCut}
+use Rattle.document_text.specs.inner.Cut.{IsCut}
 use Rattle.document_text.specs.Numbered.{IsBare, metadata_name}
 use Rattle.document_text.proofs.Putting.{parted_at, never-empty, inside-is, rest-fits, cut-is}
 use Rattle.document_text.proofs.numbers.cut.Goals as goal

@@ -1,5 +1,5 @@
 use Rattle.api_calls.specs.Item.{items}
-use Rattle.drill_steps.specs.Drilled.{point_of}
+use Rattle.drill_steps.specs.inner.Drilled.{point_of}
 use Rattle.drill_steps.specs.Steps.{no_step, one_more_step}
 use Rattle.drill_steps.proofs.drilling.take_steps.Goals as goal
 

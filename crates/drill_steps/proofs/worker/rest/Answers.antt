@@ -1,7 +1,7 @@
 use Rattle.std.proofs.Common.{sym, subst}
 use Rattle.api_calls.specs.Item.{items}
 use Rattle.shared_api.specs.Base.{server_of}
-use Rattle.drill_steps.specs.Drilled.{point_of}
+use Rattle.drill_steps.specs.inner.Drilled.{point_of}
 use Rattle.drill_steps.specs.Steps.{Point, Rests, last_turn, one_more_turn, turn_at}
 use Rattle.drill_steps.proofs.Opened.{is_idle, not_idle}
 use Rattle.drill_steps.proofs.worker.rest.Goals as goal

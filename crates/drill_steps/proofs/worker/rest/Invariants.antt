@@ -2,7 +2,7 @@ use Rattle.api_calls.specs.Item.{items}
 use Rattle.turn_cell.specs.Views.{IsAlone}
 use Rattle.shared_api.specs.Base.{server_of}
 use Rattle.shared_api.specs.Passes.{IsOf}
-use Rattle.drill_steps.specs.Drilled.{point_of}
+use Rattle.drill_steps.specs.inner.Drilled.{point_of}
 use Rattle.drill_steps.specs.Steps.{Point, Rests}
 use Rattle.drill_steps.proofs.worker.rest.Given as goal
 

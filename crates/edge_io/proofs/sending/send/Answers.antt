@@ -1,6 +1,6 @@
 use Rattle.std.proofs.Common.{arith, ◌∙◌}
 use Rattle.std.proofs.lemmas.Result.{err_from_is_err_and}
-use Rattle.edge_io.specs.Sending.{added_further, adds_front}
+use Rattle.edge_io.specs.laws.Sending.{added_further, adds_front}
 use Rattle.edge_io.proofs.sending.send.Goals as goal
 
 pub returns-in_err-count-clause-sent : goal.returns-in_err-count-clause-sent

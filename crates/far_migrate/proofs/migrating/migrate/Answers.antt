@@ -1,5 +1,5 @@
 use Rattle.std.proofs.Common.{[], refl, sym, ◌∙◌, subst, arith}
-use Rattle.wire_client.specs.FarLaws.{made_nothing}
+use Rattle.wire_client.specs.laws.FarLaws.{made_nothing}
 use Rattle.far_migrate.specs.Counts.{counts_of, fault_of}
 use Rattle.far_migrate.specs.Puts.{all, failed}
 use Rattle.far_migrate.specs.Pages.{Run, at_first, first_limit}

@@ -3,7 +3,7 @@ use Rattle.edge_io.specs.Exchanges.{Exchange}
 use Rattle.place.specs.Place.{place_of}
 use Rattle.wire_client.specs.Far.{Made}
 use Rattle.far_migrate.specs.Pages.{at_first, first_limit}
-use Rattle.far_migrate.specs.Runs.{run_of, IsRunning, left_in}
+use Rattle.far_migrate.specs.inner.Runs.{run_of, IsRunning, left_in}
 use Rattle.far_migrate.proofs.Going.{RunsOn}
 use Rattle.far_migrate.proofs.migrating.migrate.Given as goal
 

@@ -1,9 +1,9 @@
 use Rattle.std.proofs.Common.{◌+◌, ◌-◌, [], map, length, refl, ◌∙◌, arith}
 use Rattle.kj_value.specs.Seen.{json}
-use Rattle.wire_client.specs.FarLaws.{made_nothing}
+use Rattle.wire_client.specs.laws.FarLaws.{made_nothing}
 use Rattle.wire_client.specs.declared.buffer.TheConstants.{ANSWER_LEVELS}
 use Rattle.far_migrate.specs.Counts.{counts_of, fault_of}
-use Rattle.far_migrate.specs.Ends.{kind_of}
+use Rattle.far_migrate.specs.inner.Ends.{kind_of}
 use Rattle.far_migrate.proofs.Going.{goes_start, page_fails, page_goes, page_ends, listed_kept}
 use Rattle.far_migrate.proofs.Objects.{depth_at, keyed_at}
 use Rattle.far_migrate.proofs.paging.put_all.Goals as goal

@@ -4,7 +4,7 @@ use Rattle.edge_io.specs.Exchanges.{Exchange}
 use Rattle.place.specs.Place.{place_of}
 use Rattle.wire_client.specs.Far.{Made}
 use Rattle.far_migrate.specs.Counts.{counts_of}
-use Rattle.far_migrate.specs.Runs.{Owes}
+use Rattle.far_migrate.specs.inner.Runs.{Owes}
 use Rattle.far_migrate.proofs.Going.{Goes}
 use Rattle.far_migrate.proofs.paging.put_all.Given as goal
 

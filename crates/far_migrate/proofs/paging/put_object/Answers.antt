@@ -1,6 +1,6 @@
 use Rattle.std.proofs.Common.{[]}
 use Rattle.kj_value.specs.Seen.{json}
-use Rattle.wire_client.specs.FarLaws.{made_nothing}
+use Rattle.wire_client.specs.laws.FarLaws.{made_nothing}
 use Rattle.far_migrate.specs.Puts as puts
 use Rattle.far_migrate.proofs.paging.put_object.Goals as goal
 

@@ -1,11 +1,11 @@
 use Rattle.std.proofs.Common.{◌+◌, true, false, ℕ, List, [], None, map, ap, ◌∙◌, refl}
 use Rattle.kj_value.specs.Json.{Json}
 use Rattle.kj_value.specs.Seen.{json}
-use Rattle.wire_client.specs.FarLaws.{made_nothing}
+use Rattle.wire_client.specs.laws.FarLaws.{made_nothing}
 use Rattle.far_migrate.specs.Counts.{counts_of, fault_of}
 use Rattle.far_migrate.specs.Puts.{all, failed}
 use Rattle.far_migrate.specs.Pages.{last_key}
-use Rattle.far_migrate.specs.Runs.{run_of}
+use Rattle.far_migrate.specs.inner.Runs.{run_of}
 use Rattle.far_migrate.proofs.Turning.{goes_as, empty_as, back_as, few_as, takes_other, takes_starved, takes_fault, takes_last, takes_more}
 use Rattle.far_migrate.proofs.paging.take_page.Goals as goal
 

@@ -1,4 +1,4 @@
-use Rattle.far_migrate.specs.Runs.{run_of}
+use Rattle.far_migrate.specs.inner.Runs.{run_of}
 use Rattle.far_migrate.specs.declared.ending.Unlisted.TheVariants as unlisted
 use Rattle.far_migrate.proofs.Paged.{list_ended_at}
 use Rattle.far_migrate.proofs.Turning.{page_turn, fault_turn, halved_turn, short_turn, again_turn, often_turn}

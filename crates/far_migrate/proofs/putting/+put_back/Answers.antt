@@ -1,6 +1,6 @@
 use Rattle.std.proofs.Common.{◌<◌, refl, arith}
 use Rattle.kj_value.specs.Seen.{json}
-use Rattle.far_migrate.specs.Ends.{became}
+use Rattle.far_migrate.specs.inner.Ends.{became}
 use Rattle.far_migrate.proofs.OnePut.{put_done, put_failed, put_contested, got_gone, got_failed, put_again}
 use Rattle.far_migrate.proofs.putting.+put_back.Goals as goal
 

@@ -1,5 +1,5 @@
 use Rattle.http_wire.specs.Inboxes.{request_at}
-use Rattle.http_wire.specs.PhraseLaws.{phrase-503}
+use Rattle.http_wire.specs.laws.PhraseLaws.{phrase-503}
 use Rattle.http_routes.specs.Views.{route_of}
 use Rattle.http_front.specs.Going.{answer_of}
 use Rattle.http_front.proofs.Calling.{answers, answers_wanting, may_route}

@@ -1,5 +1,5 @@
 use Rattle.std.proofs.Common.{refl, inl}
-use Rattle.http_wire.specs.PhraseLaws.{phrase-405}
+use Rattle.http_wire.specs.laws.PhraseLaws.{phrase-405}
 use Rattle.http_routes.specs.Routes as route
 use Rattle.http_routes.specs.Views.{call_view}
 use Rattle.api_calls.specs.Cause.{why_of}

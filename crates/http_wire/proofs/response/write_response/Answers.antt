@@ -1,6 +1,6 @@
 use Rattle.std.proofs.lemmas.Result.{err_from_is_err_and}
 use Rattle.http_wire.specs.Response.{says}
-use Rattle.edge_io.specs.Sending.{adds_more, adds_fewer, sends_more}
+use Rattle.edge_io.specs.laws.Sending.{adds_more, adds_fewer, sends_more}
 use Rattle.http_wire.proofs.response.write_response.Goals as goal
 
 pub returns-in_err-write_status_line-clause-sent : goal.returns-in_err-write_status_line-clause-sent

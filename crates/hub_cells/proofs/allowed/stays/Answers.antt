@@ -1,7 +1,7 @@
 use Rattle.kj_value.specs.Seen.{json}
 use Rattle.struct_schema.specs.ShapeOf.{shape_of}
-use Rattle.struct_schema.specs.Own.{stays_filled, filled_stays}
-use Rattle.struct_schema.specs.LookupLaws.{one_test}
+use Rattle.struct_schema.specs.laws.Own.{stays_filled, filled_stays}
+use Rattle.struct_schema.specs.laws.LookupLaws.{one_test}
 use Rattle.hub_cells.proofs.allowed.stays.Goals as goal
 
 pub returns : goal.returns

@@ -1,4 +1,4 @@
-use Rattle.hub_cells.specs.OneToOne.{matched_is, is_matched_from}
+use Rattle.hub_cells.specs.laws.OneToOne.{matched_is, is_matched_from}
 use Rattle.hub_cells.proofs.laws.matching.Goals as goal
 
 pub returns : goal.returns

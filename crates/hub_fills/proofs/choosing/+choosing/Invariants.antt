@@ -4,7 +4,7 @@ use Rattle.hub_cells.specs.LevelDepth.{level_depth, inners_depth}
 use Rattle.hub_cells.specs.SeenFit.{inners_of}
 use Rattle.hub_fills.specs.Fills.{fills_within}
 use Rattle.hub_fills.specs.SeenFills.{within_of}
-use Rattle.hub_fills.specs.UnderLaws.{levels_under}
+use Rattle.hub_fills.specs.inner.UnderLaws.{levels_under}
 use Rattle.hub_fills.proofs.choosing.+choosing.Given as goal
 
 abbrev pub decreases-level_fills : goal.decreases-level_fills

@@ -4,7 +4,7 @@ use Rattle.kj_value.specs.Seen.{json}
 use Rattle.kj_value.specs.Texts.{bytes_of}
 use Rattle.hub_cells.specs.Seen.{cell}
 use Rattle.hub_fills.specs.Fills.{fill_of}
-use Rattle.hub_fills.specs.UnderLaws.{levels_under}
+use Rattle.hub_fills.specs.inner.UnderLaws.{levels_under}
 use Rattle.hub_fills.proofs.choosing.fill_cells.Given as goal
 
 abbrev pub invariant-loop-c : goal.invariant-loop-c

@@ -1,7 +1,7 @@
 use Rattle.std.proofs.Common.{map, ap}
 use Rattle.kj_value.specs.Texts.{bytes_of}
 use Rattle.hub_cells.specs.Seen.{cell, place, place_list}
-use Rattle.hub_fills.specs.UnderLaws.{levels_under}
+use Rattle.hub_fills.specs.inner.UnderLaws.{levels_under}
 use Rattle.hub_fills.proofs.Chosen.{fill_none, fill_two}
 use Rattle.hub_fills.proofs.choosing.fill_of.Goals as goal
 

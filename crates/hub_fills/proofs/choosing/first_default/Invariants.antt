@@ -3,7 +3,7 @@ use Rattle.kj_value.specs.Texts.{bytes_of}
 use Rattle.hub_cells.specs.Seen.{place}
 use Rattle.hub_fills.specs.Fills.{first_default}
 use Rattle.hub_fills.specs.EachFit.{EachAllows}
-use Rattle.hub_fills.specs.UnderLaws.{levels_under}
+use Rattle.hub_fills.specs.inner.UnderLaws.{levels_under}
 use Rattle.hub_fills.proofs.choosing.first_default.Given as goal
 
 abbrev pub invariant-loop-f : goal.invariant-loop-f

@@ -4,7 +4,7 @@ use Rattle.struct_schema.specs.Fault.{lesser}
 use Rattle.hub_cells.specs.LevelDepth.{level_depth, inners_depth}
 use Rattle.hub_cells.specs.SeenFit.{inners_of}
 use Rattle.hub_fills.specs.LateNames.{joined, late_within}
-use Rattle.hub_fills.specs.UnderLaws.{levels_under}
+use Rattle.hub_fills.specs.inner.UnderLaws.{levels_under}
 use Rattle.hub_fills.proofs.lateness.+late.Given as goal
 
 abbrev pub decreases-late_level : goal.decreases-late_level

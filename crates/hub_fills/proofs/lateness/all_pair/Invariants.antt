@@ -1,7 +1,7 @@
 use Rattle.std.proofs.Common.{◌≡◌, map, drop}
 use Rattle.kj_value.specs.Texts.{bytes_of}
 use Rattle.hub_fills.specs.Late.{all_pair}
-use Rattle.hub_fills.specs.UnderLaws.{levels_under}
+use Rattle.hub_fills.specs.inner.UnderLaws.{levels_under}
 use Rattle.hub_fills.proofs.lateness.all_pair.Given as goal
 
 abbrev pub invariant-loop-f : goal.invariant-loop-f

@@ -3,7 +3,7 @@ use Rattle.kj_value.specs.Texts.{bytes_of}
 use Rattle.struct_schema.specs.Fault.{lesser}
 use Rattle.hub_cells.specs.Seen.{cell}
 use Rattle.hub_fills.specs.LateNames.{joined, late_cells}
-use Rattle.hub_fills.specs.UnderLaws.{levels_under}
+use Rattle.hub_fills.specs.inner.UnderLaws.{levels_under}
 use Rattle.hub_fills.proofs.lateness.late_cells.Given as goal
 
 abbrev pub invariant-loop-c : goal.invariant-loop-c

@@ -1,4 +1,4 @@
-use Rattle.hub_fills.specs.LateLaws.{none_late}
+use Rattle.hub_fills.specs.inner.LateLaws.{none_late}
 use Rattle.hub_fills.proofs.laws.none_late.Goals as goal
 
 pub returns : goal.returns

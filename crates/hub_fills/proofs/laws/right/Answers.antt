@@ -1,4 +1,4 @@
-use Rattle.hub_fills.specs.RightLaws.{level_right}
+use Rattle.hub_fills.specs.laws.RightLaws.{level_right}
 use Rattle.hub_fills.proofs.laws.right.Goals as goal
 
 pub returns : goal.returns

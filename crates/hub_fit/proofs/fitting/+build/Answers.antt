@@ -6,11 +6,11 @@ use Rattle.hub_cells.specs.Fit.{Fit, IsFitted}
 use Rattle.hub_cells.specs.declared.fitted.Inner.{Inner}
 use Rattle.hub_rules.specs.Rule.{Rule, within, rules_of, inner_depth, rule_depth}
 use Rattle.hub_rules.specs.Seen.{rule}
-use Rattle.hub_rules.specs.Inside.{line_depth}
+use Rattle.hub_rules.specs.laws.Inside.{line_depth}
 use Rattle.hub_rules.specs.declared.rules.Line.{Line}
 use Rattle.hub_rules.specs.Refusal.{is_closed, fault, inner_fault, within_fault, refused, schema_differs, schema_passes, node_at}
 use Rattle.hub_fit.specs.Chosen.{cells_of, fit_of, with_inner, inners_of}
-use Rattle.hub_fit.specs.InnerFits.{AllInnerFit, joined}
+use Rattle.hub_fit.specs.inner.InnerFits.{AllInnerFit, joined}
 use Rattle.hub_fit.proofs.Holds.{none_left, none_right}
 use Rattle.hub_fit.proofs.LevelFits.{level_fits}
 use Rattle.hub_fit.proofs.Building.{built, inner_same, level_same, no_level, no_within, closed_spoke, closed_hub, here_passes, later_pass, joined_push, joined_all}

@@ -4,7 +4,7 @@ use Rattle.hub_rules.specs.Rule.{rules_of, rule_depth, inner_depth}
 use Rattle.hub_rules.specs.Seen.{rule}
 use Rattle.hub_rules.specs.Refusal.{refused, schema_differs, inner_fault}
 use Rattle.hub_fit.specs.Chosen.{inners_of}
-use Rattle.hub_fit.specs.InnerFits.{AllInnerFit, joined}
+use Rattle.hub_fit.specs.inner.InnerFits.{AllInnerFit, joined}
 use Rattle.hub_fit.proofs.fitting.+build.Given as goal
 
 abbrev pub decreases-build : goal.decreases-build

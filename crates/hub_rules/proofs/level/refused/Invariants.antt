@@ -3,7 +3,7 @@ use Rattle.hub_rules.specs.Rule.{rules_of}
 use Rattle.hub_rules.specs.Seen.{rule}
 use Rattle.struct_schema.specs.ShapeOf.{shape_of}
 use Rattle.hub_rules.specs.Sound.{AreSoundRules}
-use Rattle.hub_rules.specs.Spots.{why}
+use Rattle.hub_rules.specs.inner.Spots.{why}
 use Rattle.hub_rules.specs.Refusal.{refused}
 use Rattle.hub_rules.proofs.level.refused.Given as goal
 

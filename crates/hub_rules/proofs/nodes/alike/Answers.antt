@@ -1,6 +1,6 @@
-use Rattle.kj_value.specs.SameLaws.{json_same-Decides}
+use Rattle.kj_value.specs.laws.SameLaws.{json_same-Decides}
 use Rattle.kj_value.specs.Seen.{json}
-use Rattle.struct_schema.specs.LookupLaws.{one_test}
+use Rattle.struct_schema.specs.laws.LookupLaws.{one_test}
 use Rattle.hub_rules.proofs.nodes.alike.Goals as goal
 
 pub returns : goal.returns

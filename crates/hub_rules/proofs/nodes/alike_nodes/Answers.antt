@@ -1,6 +1,6 @@
 use Rattle.struct_schema.specs.ShapeOf.{shape_of}
-use Rattle.struct_schema.specs.LookupLaws.{one_test}
-use Rattle.struct_schema.specs.SameLaws.{shape_same-Decides}
+use Rattle.struct_schema.specs.laws.LookupLaws.{one_test}
+use Rattle.struct_schema.specs.laws.SameLaws.{shape_same-Decides}
 use Rattle.hub_rules.proofs.nodes.alike_nodes.Goals as goal
 
 pub returns : goal.returns

@@ -1,5 +1,5 @@
 use Rattle.std.proofs.Common.{sym, ◌∙◌, arith}
-use Rattle.keep_bodies.specs.Filling.{fill_level}
+use Rattle.keep_bodies.specs.inner.Filling.{fill_level}
 use Rattle.keep_bodies.proofs.Lacking.{inners_fill_all, put_is}
 use Rattle.keep_bodies.proofs.completing.+filling.Goals as goal
 

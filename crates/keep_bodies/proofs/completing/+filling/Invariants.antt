@@ -2,7 +2,7 @@ use Rattle.std.proofs.Common.{◌≡◌, ◌+◌, ◌*◌, drop}
 use Rattle.hub_cells.specs.LevelDepth.{level_depth, inners_depth}
 use Rattle.hub_cells.specs.SeenFit.{inners_of}
 use Rattle.hub_fills.specs.SeenFills.{within_of}
-use Rattle.keep_bodies.specs.Filling.{fill_inners}
+use Rattle.keep_bodies.specs.inner.Filling.{fill_inners}
 use Rattle.keep_bodies.proofs.completing.+filling.Given as goal
 
 abbrev pub decreases-fill_level : goal.decreases-fill_level

@@ -2,7 +2,7 @@ use Rattle.std.proofs.Common.{◌≡◌, ◌+◌, ◌*◌, drop}
 use Rattle.hub_cells.specs.LevelDepth.{level_depth, inners_depth}
 use Rattle.hub_cells.specs.SeenFit.{inners_of}
 use Rattle.hub_fills.specs.SeenFills.{within_of}
-use Rattle.keep_bodies.specs.Filling.{inners_lack}
+use Rattle.keep_bodies.specs.inner.Filling.{inners_lack}
 use Rattle.keep_bodies.proofs.completing.+lacking.Given as goal
 
 abbrev pub decreases-level_lacks : goal.decreases-level_lacks

@@ -2,7 +2,7 @@ use Rattle.std.proofs.Common.{◌≡◌, map, drop}
 use Rattle.std.specs.Prelude.{option_map}
 use Rattle.kj_value.specs.Seen.{json}
 use Rattle.hub_cells.specs.Seen.{cell}
-use Rattle.keep_bodies.specs.Filling.{cells_lack}
+use Rattle.keep_bodies.specs.inner.Filling.{cells_lack}
 use Rattle.keep_bodies.proofs.completing.cells_lack.Given as goal
 
 abbrev pub invariant-loop-i : goal.invariant-loop-i

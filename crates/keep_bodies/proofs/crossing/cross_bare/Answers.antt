@@ -2,8 +2,8 @@ use Rattle.std.proofs.Common.{◌∷◌, [], Some, map, ap, ◌∙◌}
 use Rattle.kj_value.specs.Seen.{json}
 use Rattle.hub_cells.specs.Seen.{side, cell}
 use Rattle.hub_cells.specs.Level.{allows}
-use Rattle.keep_bodies.specs.Names.{name_list}
-use Rattle.keep_bodies.specs.Turned.{turned}
+use Rattle.keep_bodies.specs.inner.Names.{name_list}
+use Rattle.keep_bodies.specs.inner.Turned.{turned}
 use Rattle.keep_bodies.proofs.Tests.{one_here, one_absent, none_absent, absent_fields, absent_entries}
 use Rattle.keep_bodies.proofs.crossing.cross_bare.Goals as goal
 

@@ -1,8 +1,8 @@
 use Rattle.std.proofs.Common.{map, refl}
 use Rattle.hub_cells.specs.Seen.{side, cell}
-use Rattle.keep_bodies.specs.Left.{entries_left}
-use Rattle.keep_bodies.specs.Names.{name_list}
-use Rattle.keep_bodies.specs.Turned.{turned}
+use Rattle.keep_bodies.specs.inner.Left.{entries_left}
+use Rattle.keep_bodies.specs.inner.Names.{name_list}
+use Rattle.keep_bodies.specs.inner.Turned.{turned}
 use Rattle.keep_bodies.proofs.Tests.{same_fields, same_entries}
 use Rattle.keep_bodies.proofs.crossing.cross_cell.Goals as goal
 

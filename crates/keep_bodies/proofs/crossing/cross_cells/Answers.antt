@@ -3,9 +3,9 @@ use Rattle.kept_entries.specs.declared.entry.Entry.{Entry}
 use Rattle.hub_cells.specs.Level as levels
 use Rattle.hub_cells.specs.Level.{names}
 use Rattle.hub_cells.specs.Seen.{side, cell}
-use Rattle.keep_bodies.specs.Left.{entries_left}
-use Rattle.keep_bodies.specs.Turned.{turned}
-use Rattle.keep_bodies.specs.Over.{mark_over, cell_fields, cell_kept}
+use Rattle.keep_bodies.specs.inner.Left.{entries_left}
+use Rattle.keep_bodies.specs.inner.Turned.{turned}
+use Rattle.keep_bodies.specs.inner.Over.{mark_over, cell_fields, cell_kept}
 use Rattle.keep_bodies.proofs.Cells.{cells_from, first_allowed, first_fits, entry_append}
 use Rattle.keep_bodies.proofs.crossing.cross_cells.Goals as goal
 

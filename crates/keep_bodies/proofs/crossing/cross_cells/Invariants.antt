@@ -3,9 +3,9 @@ use Rattle.hub_cells.specs.Level.{CellsFit}
 use Rattle.hub_cells.specs.Seen.{side, cell}
 use Rattle.keep_laws.specs.Body.{read_cells}
 use Rattle.keep_laws.specs.Settle.{CellsAllowed}
-use Rattle.keep_bodies.specs.Left.{entries_left}
-use Rattle.keep_bodies.specs.Turned.{turned}
-use Rattle.keep_bodies.specs.Over.{cell_fields, cell_kept}
+use Rattle.keep_bodies.specs.inner.Left.{entries_left}
+use Rattle.keep_bodies.specs.inner.Turned.{turned}
+use Rattle.keep_bodies.specs.inner.Over.{cell_fields, cell_kept}
 use Rattle.keep_bodies.proofs.crossing.cross_cells.Given as goal
 
 abbrev pub invariant-loop-c : goal.invariant-loop-c

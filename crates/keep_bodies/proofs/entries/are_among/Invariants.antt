@@ -1,7 +1,7 @@
 use Rattle.std.proofs.Common.{◌≡◌, map, drop}
 use Rattle.kj_value.specs.Pair.{pair_of}
 use Rattle.keep_laws.specs.Entry.{all_named}
-use Rattle.keep_bodies.specs.Names.{name_list}
+use Rattle.keep_bodies.specs.inner.Names.{name_list}
 use Rattle.keep_bodies.proofs.entries.are_among.Given as goal
 
 abbrev pub invariant-loop-f : goal.invariant-loop-f

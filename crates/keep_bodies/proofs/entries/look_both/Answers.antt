@@ -1,8 +1,8 @@
 use Rattle.std.proofs.Common.{◌≡◌, None, Option, MatchOption, subst}
 use Rattle.hub_cells.specs.Cell.{Tuple}
-use Rattle.keep_bodies.specs.Left.{left_entry, entries_left}
-use Rattle.keep_bodies.specs.Lookup.{IsFound}
-use Rattle.keep_bodies.specs.Names.{name_list}
+use Rattle.keep_bodies.specs.inner.Left.{left_entry, entries_left}
+use Rattle.keep_bodies.specs.inner.Lookup.{IsFound}
+use Rattle.keep_bodies.specs.inner.Names.{name_list}
 use Rattle.keep_bodies.proofs.Lookups.{kept_first, kept_second, found_again}
 use Rattle.keep_bodies.proofs.entries.look_both.Goals as goal
 

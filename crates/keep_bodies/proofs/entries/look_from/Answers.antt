@@ -2,9 +2,9 @@ use Rattle.std.proofs.Common.{false, ap, sym, ◌∙◌}
 use Rattle.std.specs.Ordering.{is_eq}
 use Rattle.std.proofs.lemmas.Option.{slice_get_past}
 use Rattle.hub_cells.specs.Level.{Name}
-use Rattle.keep_bodies.specs.Left.{left_entry, entries_left}
-use Rattle.keep_bodies.specs.Names.{name_list}
-use Rattle.keep_bodies.specs.Spots.{spot, spot_cmp, comes_first, leading}
+use Rattle.keep_bodies.specs.inner.Left.{left_entry, entries_left}
+use Rattle.keep_bodies.specs.inner.Names.{name_list}
+use Rattle.keep_bodies.specs.inner.Spots.{spot, spot_cmp, comes_first, leading}
 use Rattle.keep_bodies.proofs.Lookups.{got, found_past, found_other, found_mixed, found_hit}
 use Rattle.keep_bodies.proofs.entries.look_from.Goals as goal
 

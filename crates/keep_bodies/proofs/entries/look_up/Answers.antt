@@ -4,9 +4,9 @@ use Rattle.std.specs.Cmp.Lexicographic.{slice_cmp}
 use Rattle.hub_cells.specs.Cell.{Tuple}
 use Rattle.hub_cells.specs.declared.cell.Names.{Names}
 use Rattle.keep_laws.specs.Entry.{kept_of}
-use Rattle.keep_bodies.specs.Left.{left_entry, entries_left}
-use Rattle.keep_bodies.specs.Lookup.{IsFound, find, part_of}
-use Rattle.keep_bodies.specs.Names.{name_list}
+use Rattle.keep_bodies.specs.inner.Left.{left_entry, entries_left}
+use Rattle.keep_bodies.specs.inner.Lookup.{IsFound, find, part_of}
+use Rattle.keep_bodies.specs.inner.Names.{name_list}
 use Rattle.keep_bodies.proofs.Lookups.{kept_of_none, kept_of_one, turned_le}
 use Rattle.keep_bodies.proofs.entries.look_up.Goals as goal
 

@@ -3,14 +3,14 @@ use Rattle.kj_value.specs.Fields.{field}
 use Rattle.kept_entries.specs.declared.entry.Entry.{Entry}
 use Rattle.hub_cells.specs.Side.{Side, other}
 use Rattle.hub_cells.specs.Level.{Name, Inners, named}
-use Rattle.hub_cells.specs.Inside.{inner_depth}
+use Rattle.hub_cells.specs.laws.Inside.{inner_depth}
 use Rattle.hub_cells.specs.Seen.{side, cell}
 use Rattle.hub_cells.specs.SeenFit.{inners_of}
 use Rattle.keep_laws.specs.Entry.{inside}
 use Rattle.keep_laws.specs.Body.{object_in, all_entries}
-use Rattle.keep_bodies.specs.Left.{entries_left}
-use Rattle.keep_bodies.specs.Turned.{turned}
-use Rattle.keep_bodies.specs.Over.{cell_fields, cell_kept, inner_marks, inner_fields, inner_kept}
+use Rattle.keep_bodies.specs.inner.Left.{entries_left}
+use Rattle.keep_bodies.specs.inner.Turned.{turned}
+use Rattle.keep_bodies.specs.inner.Over.{cell_fields, cell_kept, inner_marks, inner_fields, inner_kept}
 use Rattle.keep_bodies.proofs.Objects.{object_allowed, renamed_allowed, inners_from, first_inner, inside_append}
 use Rattle.keep_bodies.proofs.Levels.{level_fields, level_entries, cells_allowed, inners_allowed, depth_is}
 use Rattle.keep_bodies.proofs.Standing.{inside_is_order}

@@ -4,9 +4,9 @@ use Rattle.hub_cells.specs.Seen.{side}
 use Rattle.hub_cells.specs.SeenFit.{inners_of}
 use Rattle.keep_laws.specs.Body.{read_inners}
 use Rattle.keep_laws.specs.Settle.{InnersAllowed}
-use Rattle.keep_bodies.specs.Left.{entries_left}
-use Rattle.keep_bodies.specs.Turned.{turned}
-use Rattle.keep_bodies.specs.Over.{inner_fields, inner_kept}
+use Rattle.keep_bodies.specs.inner.Left.{entries_left}
+use Rattle.keep_bodies.specs.inner.Turned.{turned}
+use Rattle.keep_bodies.specs.inner.Over.{inner_fields, inner_kept}
 use Rattle.keep_bodies.proofs.level.+over.Given as goal
 
 abbrev pub decreases-level_over : goal.decreases-level_over

@@ -1,6 +1,6 @@
 use Rattle.std.proofs.Common.{◌≤◌, ◌-◌, length}
-use Rattle.keep_bodies.specs.Left.{entries_left}
-use Rattle.keep_bodies.specs.Spots.{comes_first, leading}
+use Rattle.keep_bodies.specs.inner.Left.{entries_left}
+use Rattle.keep_bodies.specs.inner.Spots.{comes_first, leading}
 use Rattle.keep_bodies.proofs.spots.count_first.Given as goal
 
 abbrev pub invariant-loop-low : goal.invariant-loop-low

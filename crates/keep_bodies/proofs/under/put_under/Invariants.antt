@@ -1,7 +1,7 @@
 use Rattle.std.proofs.Common.{◌≡◌, ◌++◌, map}
 use Rattle.std.specs.Vec.Iter.{into_iter_items}
 use Rattle.keep_laws.specs.Entry.{under}
-use Rattle.keep_bodies.specs.Turned.{turned}
+use Rattle.keep_bodies.specs.inner.Turned.{turned}
 use Rattle.keep_bodies.proofs.under.put_under.Given as goal
 
 abbrev pub invariant-loop-e : goal.invariant-loop-e

@@ -7,7 +7,7 @@ use Rattle.crd_loading.specs.declared.loading.Which.{Which}
 use Rattle.crd_loading.specs.Set.{set_of}
 use Rattle.crd_versions.specs.Set.{definition_of}
 use Rattle.kubeconv_cmd.specs.Refusal.{IsText, DontLoad, file_of}
-use Rattle.kubeconv_cmd.specs.Ends.{OnRefused}
+use Rattle.kubeconv_cmd.specs.inner.Ends.{OnRefused}
 use Rattle.kubeconv_cmd.proofs.Taking.{both, crd_unfit, rules_unfit, unloaded}
 use Rattle.kubeconv_cmd.proofs.loading.load_files.Goals as goal
 

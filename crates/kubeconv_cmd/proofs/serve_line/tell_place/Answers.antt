@@ -1,6 +1,6 @@
 use Rattle.std.specs.Prelude.{codes}
 use Rattle.std.proofs.lemmas.Result.{err_from_is_err_and}
-use Rattle.edge_io.specs.Sending.{adds_fewer, sends_more}
+use Rattle.edge_io.specs.laws.Sending.{adds_fewer, sends_more}
 use Rattle.kubeconv_cmd.specs.Tasks.{ended_line}
 use Rattle.kubeconv_cmd.proofs.serve_line.tell_place.Goals as goal
 

@@ -1,7 +1,7 @@
 use Rattle.std.proofs.Common.{◌++◌}
 use Rattle.std.specs.Prelude.{codes}
 use Rattle.std.proofs.lemmas.Result.{err_from_is_err_and}
-use Rattle.edge_io.specs.Sending.{adds_more, adds_fewer, sends_more}
+use Rattle.edge_io.specs.laws.Sending.{adds_more, adds_fewer, sends_more}
 use Rattle.kubeconv_cmd.proofs.status.send_reason.Goals as goal
 
 pub returns-in_err-send-clause-sent : goal.returns-in_err-send-clause-sent

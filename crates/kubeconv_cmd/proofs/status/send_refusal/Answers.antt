@@ -1,5 +1,5 @@
 use Rattle.std.proofs.lemmas.Result.{err_from_is_err_and}
-use Rattle.edge_io.specs.Sending.{adds_more, adds_fewer, sends_more}
+use Rattle.edge_io.specs.laws.Sending.{adds_more, adds_fewer, sends_more}
 use Rattle.kubeconv_cmd.specs.Status.{refusal_line}
 use Rattle.kubeconv_cmd.proofs.status.send_refusal.Goals as goal
 

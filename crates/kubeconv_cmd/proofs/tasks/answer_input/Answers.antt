@@ -3,7 +3,7 @@ use Rattle.edge_io.specs.Causes.{Rose}
 use Rattle.crd_versions.specs.Set.{definition_of}
 use Rattle.command_lines.specs.Lines.{convert, review}
 use Rattle.kubeconv_cmd.specs.Tasks.{IsVersionNamed, RefusesDocument, no_version}
-use Rattle.kubeconv_cmd.specs.Halts.{NoValue, NoAnswer}
+use Rattle.kubeconv_cmd.specs.inner.Halts.{NoValue, NoAnswer}
 use Rattle.kubeconv_cmd.proofs.TaskLemmas.{on_halt, on_err, no_value, unknown_version, converts, no_answer, answers}
 use Rattle.kubeconv_cmd.proofs.tasks.answer_input.Goals as goal
 

@@ -1,6 +1,6 @@
 use Rattle.std.proofs.Common.{sym, ◌∙◌}
 use Rattle.kube_meta.specs.Plan.{is_loose}
-use Rattle.migrate_core.specs.Slots.{held_as}
+use Rattle.migrate_core.specs.inner.Slots.{held_as}
 use Rattle.migrate_core.proofs.Changes.{changes, stays, none_has, some_has, hold_loose-first}
 use Rattle.migrate_core.proofs.slots.hold_loose.Goals as goal
 

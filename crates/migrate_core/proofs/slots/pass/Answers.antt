@@ -1,6 +1,6 @@
 use Rattle.std.proofs.Common.{sym, ◌∙◌}
 use Rattle.kube_meta.specs.Plan.{Held, After}
-use Rattle.migrate_core.specs.Slots.{is_held_by, turned}
+use Rattle.migrate_core.specs.inner.Slots.{is_held_by, turned}
 use Rattle.migrate_core.proofs.Changes.{changes, stays, changed-first}
 use Rattle.migrate_core.proofs.slots.pass.Goals as goal
 

@@ -1,5 +1,5 @@
 use Rattle.std.proofs.Common.{sym, ◌∙◌, ap}
-use Rattle.migrate_core.specs.Slots.{is_held_by, held_span}
+use Rattle.migrate_core.specs.inner.Slots.{is_held_by, held_span}
 use Rattle.migrate_core.proofs.Changes.{none_has, span_of-none, span_at}
 use Rattle.migrate_core.proofs.slots.range_of.Goals as goal
 

@@ -9,8 +9,8 @@ use Rattle.kj_value.specs.declared.value.Field.{Field}
 use Rattle.struct_schema.specs.Shape.{shapes_of}
 use Rattle.struct_schema.specs.ShapeOf.{named_shape}
 use Rattle.struct_schema.specs.Names.{value_at}
-use Rattle.struct_schema.specs.NameLaws.{gone}
-use Rattle.prune_default.specs.Missing.{first_default, or_value}
+use Rattle.struct_schema.specs.laws.NameLaws.{gone}
+use Rattle.prune_default.specs.inner.Missing.{first_default, or_value}
 use Rattle.prune_default.proofs.Lookup.{rising_end, value_at-with}
 use Rattle.prune_default.specs.Size.{size, members_size}
 use Rattle.prune_default.proofs.Missing.{merge_turn}

@@ -5,7 +5,7 @@ use Rattle.struct_schema.specs.Shape.{shapes_of}
 use Rattle.struct_schema.specs.ShapeOf.{named_shape}
 use Rattle.struct_schema.specs.Names.{value_at}
 use Rattle.struct_schema.specs.declared.schema.SchemaField.{SchemaField}
-use Rattle.prune_default.specs.Missing.{first_default, or_value}
+use Rattle.prune_default.specs.inner.Missing.{first_default, or_value}
 use Rattle.prune_default.proofs.Missing.{missing_turn}
 use Rattle.prune_default.proofs.defaults.set_before.Goals as goal
 

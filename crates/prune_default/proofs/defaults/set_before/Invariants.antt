@@ -3,7 +3,7 @@ use Rattle.kj_value.specs.Json.{members_of}
 use Rattle.struct_schema.specs.Shape.{shapes_of}
 use Rattle.struct_schema.specs.ShapeOf.{named_shape}
 use Rattle.struct_schema.specs.Names.{value_at}
-use Rattle.prune_default.specs.Missing.{first_default, or_value}
+use Rattle.prune_default.specs.inner.Missing.{first_default, or_value}
 use Rattle.prune_default.specs.Size.{members_size}
 use Rattle.prune_default.proofs.defaults.set_before.Given as goal
 

@@ -2,7 +2,7 @@ use Rattle.std.proofs.Common.{ap, sym, ◌∙◌}
 use Rattle.std.proofs.lemmas.Result.{IfOk-weaker}
 use Rattle.kj_value.specs.Json.{members_of}
 use Rattle.struct_schema.specs.Names.{value_at}
-use Rattle.prune_default.specs.Missing.{or_value}
+use Rattle.prune_default.specs.inner.Missing.{or_value}
 use Rattle.prune_default.proofs.Missing.{property_default, map_default, none_missing}
 use Rattle.prune_default.proofs.defaults.set_defaults.Goals as goal
 

@@ -8,15 +8,15 @@ use Rattle.kj_value.specs.Seen.{json}
 use Rattle.kj_value.specs.Pair.{pair_of}
 use Rattle.kj_value.specs.Fields.{Pairs}
 use Rattle.kj_value.specs.Sound.{AreRising}
-use Rattle.kj_value.specs.Inside.{depth_middle, depth_middle_field}
+use Rattle.kj_value.specs.laws.Inside.{depth_middle, depth_middle_field}
 use Rattle.kj_value.specs.declared.value.JVal.{JVal}
 use Rattle.kj_value.specs.declared.value.Field.{Field}
 use Rattle.struct_schema.specs.Shape.{Shape, MaybeShape, some_shape, map_of, maybe_of}
 use Rattle.struct_schema.specs.ShapeOf.{shape_of}
 use Rattle.struct_schema.specs.Names.{value_at, shape_for}
 use Rattle.struct_schema.specs.Filled.{EachItem, ItemFilled, RestFilled}
-use Rattle.struct_schema.specs.NameLaws.{gone}
-use Rattle.prune_default.specs.Missing.{or_value}
+use Rattle.struct_schema.specs.laws.NameLaws.{gone}
+use Rattle.prune_default.specs.inner.Missing.{or_value}
 use Rattle.prune_default.specs.Size.{size, items_size, members_size}
 use Rattle.prune_default.proofs.Lookup.{rising_end}
 use Rattle.prune_default.proofs.Sizes.{items_size-push}

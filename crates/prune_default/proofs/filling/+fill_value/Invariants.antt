@@ -8,7 +8,7 @@ use Rattle.struct_schema.specs.Shape.{some_shape}
 use Rattle.struct_schema.specs.ShapeOf.{shape_of}
 use Rattle.struct_schema.specs.Names.{shape_for, value_at}
 use Rattle.struct_schema.specs.Filled.{RestFilled, ItemFilled, EachItem}
-use Rattle.prune_default.specs.Missing.{or_value}
+use Rattle.prune_default.specs.inner.Missing.{or_value}
 use Rattle.prune_default.specs.Size.{items_size, members_size}
 use Rattle.prune_default.proofs.filling.+fill_value.Given as goal
 

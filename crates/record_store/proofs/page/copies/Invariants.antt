@@ -1,7 +1,7 @@
 use Rattle.std.proofs.Common.{◌≡◌, ◌++◌, map, drop}
 use Rattle.record_store.specs.Copies.{copied}
 use Rattle.record_store.specs.Inside.{AreKept, item_of}
-use Rattle.record_store.specs.Picked.{rows_in}
+use Rattle.record_store.specs.inner.Picked.{rows_in}
 use Rattle.record_store.proofs.page.copies.Given as goal
 
 abbrev pub invariant-loop-pick : goal.invariant-loop-pick

@@ -1,6 +1,6 @@
 use Rattle.std.proofs.Common.{sym, ap, ◌∙◌}
 use Rattle.std.specs.Prelude.{option_copied}
-use Rattle.record_store.specs.Picked.{rows_in}
+use Rattle.record_store.specs.inner.Picked.{rows_in}
 use Rattle.record_store.proofs.Steps.{kept_in, kept_out}
 use Rattle.record_store.proofs.page.keep_asked.Goals as goal
 

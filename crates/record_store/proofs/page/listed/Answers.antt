@@ -4,7 +4,7 @@ use Rattle.std.specs.Prelude.{option_copied}
 use Rattle.record_store.specs.Rows.{row_key}
 use Rattle.record_store.specs.declared.row.Row.{Row}
 use Rattle.record_store.specs.declared.page.Pick.{Pick}
-use Rattle.record_store.specs.Picked.{ends, merged, no_rows, rows_in, shown_in, standing, with_more}
+use Rattle.record_store.specs.inner.Picked.{ends, merged, no_rows, rows_in, shown_in, standing, with_more}
 use Rattle.record_store.proofs.Among.{among-merged}
 use Rattle.record_store.proofs.Steps.{cut-run, rows-rise, with_more-nothing}
 use Rattle.record_store.proofs.page.listed.Goals as goal

@@ -2,7 +2,7 @@ use Rattle.std.proofs.Common.{◌≡◌, ◌+◌, ◌-◌, ◌≤◌, length, ta
 use Rattle.std.specs.Prelude.{option_copied}
 use Rattle.kube_meta.specs.Page.{listed}
 use Rattle.record_store.specs.Rows.{row_key}
-use Rattle.record_store.specs.Picked.{ends, merged, no_rows, rows_in, standing, with_more}
+use Rattle.record_store.specs.inner.Picked.{ends, merged, no_rows, rows_in, standing, with_more}
 use Rattle.record_store.proofs.page.listed.Given as goal
 
 abbrev pub invariant-loop-place : goal.invariant-loop-place

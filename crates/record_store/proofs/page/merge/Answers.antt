@@ -1,5 +1,5 @@
 use Rattle.std.proofs.Common.{sym, arith, length}
-use Rattle.record_store.specs.Picked.{ends}
+use Rattle.record_store.specs.inner.Picked.{ends}
 use Rattle.record_store.proofs.Steps.{merged_before, merged_instead, merged_behind, merged_last}
 use Rattle.record_store.proofs.page.merge.Goals as goal
 

@@ -1,7 +1,7 @@
 use Rattle.std.proofs.Common.{◌≡◌, ◌+◌, ◌≤◌, List, drop}
 use Rattle.record_store.specs.Rows.{row_key}
 use Rattle.record_store.specs.declared.row.Row.{Row}
-use Rattle.record_store.specs.Picked.{ends, merge_into, rows_in}
+use Rattle.record_store.specs.inner.Picked.{ends, merge_into, rows_in}
 use Rattle.record_store.proofs.page.merge.Given as goal
 
 abbrev pub invariant-loop-place : goal.invariant-loop-place

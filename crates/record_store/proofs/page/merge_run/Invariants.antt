@@ -1,7 +1,7 @@
 use Rattle.std.proofs.Common.{◌≡◌, ◌+◌, ◌≤◌, ◌++◌, List, length, drop}
 use Rattle.record_store.specs.Rows.{row_key}
 use Rattle.record_store.specs.declared.row.Row.{Row}
-use Rattle.record_store.specs.Picked.{ends, merged, rows_in, standing}
+use Rattle.record_store.specs.inner.Picked.{ends, merged, rows_in, standing}
 use Rattle.record_store.proofs.page.merge_run.Given as goal
 
 abbrev pub invariant-loop-row : goal.invariant-loop-row

@@ -2,7 +2,7 @@ use Rattle.std.proofs.Common.{sym, ap, List, ◌∙◌}
 use Rattle.std.specs.Prelude.{drop}
 use Rattle.record_store.specs.Rows.{row_key}
 use Rattle.record_store.specs.declared.row.Row.{Row}
-use Rattle.record_store.specs.Picked.{ends, rows_in, merged, standing}
+use Rattle.record_store.specs.inner.Picked.{ends, rows_in, merged, standing}
 use Rattle.record_store.proofs.Steps.{standing_in, standing_out}
 use Rattle.record_store.proofs.page.merge_standing.Goals as goal
 

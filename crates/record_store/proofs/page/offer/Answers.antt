@@ -2,7 +2,7 @@ use Rattle.std.proofs.Common.{ℕ, List, [], ◌∷◌, ap, sym, ◌∙◌}
 use Rattle.std.proofs.lemmas.List.{length-map, map-append}
 use Rattle.std.specs.Prelude.{◌&&◌, not, nat_eq, nat_le}
 use Rattle.record_store.specs.declared.row.Row.{Row}
-use Rattle.record_store.specs.Picked.{pick_row, rows_in, shown_in, with_more}
+use Rattle.record_store.specs.inner.Picked.{pick_row, rows_in, shown_in, with_more}
 use Rattle.record_store.proofs.Steps.{more-full, more-open}
 use Rattle.record_store.proofs.page.offer.Goals as goal
 

@@ -1,5 +1,5 @@
 use Rattle.std.proofs.Common.{arith}
-use Rattle.record_store.specs.Picked.{ends}
+use Rattle.record_store.specs.inner.Picked.{ends}
 use Rattle.record_store.proofs.Steps.{offered_at, offered_all}
 use Rattle.record_store.proofs.page.offer_all.Goals as goal
 

@@ -1,5 +1,5 @@
 use Rattle.std.proofs.Common.{◌≡◌, ◌+◌, ◌≤◌, drop}
-use Rattle.record_store.specs.Picked.{ends, rows_in}
+use Rattle.record_store.specs.inner.Picked.{ends, rows_in}
 use Rattle.record_store.proofs.page.offer_all.Given as goal
 
 abbrev pub invariant-loop-place : goal.invariant-loop-place

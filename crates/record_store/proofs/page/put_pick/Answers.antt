@@ -1,7 +1,7 @@
 use Rattle.std.proofs.Common.{List, map, sym, subst, ◌∙◌, refl, arith}
 use Rattle.record_store.specs.ByKey.{KeysRise}
 use Rattle.record_store.specs.declared.page.Pick.{Pick}
-use Rattle.record_store.specs.Picked.{pick_key}
+use Rattle.record_store.specs.inner.Picked.{pick_key}
 use Rattle.record_store.proofs.Sorted.{hit_of, miss_of, rise-put}
 use Rattle.record_store.proofs.page.put_pick.Goals as goal
 

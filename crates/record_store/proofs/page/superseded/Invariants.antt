@@ -1,6 +1,6 @@
 use Rattle.std.proofs.Common.{◌≡◌, ◌≤◌, length, map, drop}
 use Rattle.record_store.specs.ByKey.{KeysRise}
-use Rattle.record_store.specs.Picked.{pick_key, rows_in, superseded}
+use Rattle.record_store.specs.inner.Picked.{pick_key, rows_in, superseded}
 use Rattle.record_store.proofs.page.superseded.Given as goal
 
 abbrev pub invariant-loop-place : goal.invariant-loop-place

@@ -2,7 +2,7 @@ use Rattle.std.proofs.Common.{◌≡◌, ◌∙◌, ◌++◌, ℕ, List, ap}
 use Rattle.kj_value.specs.Text.{quoted}
 use Rattle.review_forms.specs.Page.{PageView}
 use Rattle.review_forms.specs.Spelling.{review_end}
-use Rattle.review_batch.specs.Spelling.{failure_front, failure_middle}
+use Rattle.review_batch.specs.inner.Spelling.{failure_front, failure_middle}
 use Rattle.review_batch.proofs.answering.failure.Goals as goal
 
 pub returns-clause-text : goal.returns-clause-text

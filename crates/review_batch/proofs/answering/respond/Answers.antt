@@ -4,8 +4,8 @@ use Rattle.kj_value.specs.Txt.{Bytes}
 use Rattle.review_forms.specs.Page.{PageView}
 use Rattle.review_batch.specs.Answer.{IsGroupVersion, IsFirstWithout, ComesOfReview, failure, unknown, without, unknown_version}
 use Rattle.review_forms.specs.Seen.{view_of}
-use Rattle.review_batch.specs.Spelling.{success_front}
-use Rattle.review_batch.specs.Steps.{GoesOn}
+use Rattle.review_batch.specs.inner.Spelling.{success_front}
+use Rattle.review_batch.specs.inner.Steps.{GoesOn}
 use Rattle.review_forms.proofs.Facts.{when_none, when_some}
 use Rattle.review_batch.proofs.Respond.{failed, succeeded}
 use Rattle.review_batch.proofs.answering.respond.Goals as goal

@@ -1,14 +1,14 @@
 use Rattle.std.proofs.Common.{◌≡◌, ◌∙◌, ◌++◌, ◌+◌, ◌≤◌, ℕ, suc, List, length, drop, Some, ap, subst, arith}
 use Rattle.std.specs.Prelude.{slice_get, is_none}
 use Rattle.kj_value.specs.Json.{Json, null}
-use Rattle.kj_value.specs.Inside.{depth_at}
+use Rattle.kj_value.specs.laws.Inside.{depth_at}
 use Rattle.kj_value.specs.Kinds.{as_object}
 use Rattle.kj_value.specs.Seen.{json}
 use Rattle.kj_value.specs.Txt.{Bytes}
 use Rattle.crd_versions.specs.Set.{definition_of}
 use Rattle.review_forms.specs.Page.{PageView}
 use Rattle.review_forms.specs.Spelling.{comma_before}
-use Rattle.review_batch.specs.Steps.{HasValue, HasNone}
+use Rattle.review_batch.specs.inner.Steps.{HasValue, HasNone}
 use Rattle.review_forms.proofs.Facts.{none_mapped, when_ok, when_err}
 use Rattle.review_forms.proofs.Places.{none_there}
 use Rattle.review_forms.proofs.Snoc.{same_item, drop-put, drop-more, length-put}

@@ -1,6 +1,6 @@
 use Rattle.std.proofs.Common.{◌≡◌, ◌∙◌, ◌≤◌, ◌+◌, suc, length, map, refl, arith}
 use Rattle.std.proofs.lemmas.List.{length-map}
-use Rattle.kj_value.specs.Inside.{item_depth}
+use Rattle.kj_value.specs.laws.Inside.{item_depth}
 use Rattle.kj_value.specs.Seen.{json}
 use Rattle.review_forms.proofs.Snoc.{item_added, read_at}
 use Rattle.review_forms.proofs.asking.add_items.Goals as goal

@@ -3,7 +3,7 @@ use Rattle.std.specs.Prelude.{◌↔◌, IsTrue}
 use Rattle.std.proofs.lemmas.Bool.{false≢true}
 use Rattle.kj_value.specs.Json.{Json}
 use Rattle.kj_value.specs.Same.{json_same}
-use Rattle.kj_value.specs.SameLaws.{json_same-Decides}
+use Rattle.kj_value.specs.laws.SameLaws.{json_same-Decides}
 use Rattle.kj_value.specs.Seen.{json}
 use Rattle.review_forms.proofs.sameness.same_there.Goals as goal
 

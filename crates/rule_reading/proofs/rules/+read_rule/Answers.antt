@@ -1,7 +1,7 @@
 use Rattle.std.proofs.Common.{rules, ◌≡◌, ◌≤◌, Some, true, map, refl, ap, sym, ◌∙◌, arith}
 use Rattle.kj_value.specs.Json.{depth, members_depth, members_of, items_depth, items_of}
 use Rattle.kj_value.specs.Seen.{json}
-use Rattle.kj_value.specs.Inside.{item_depth}
+use Rattle.kj_value.specs.laws.Inside.{item_depth}
 use Rattle.hub_rules.specs.Seen.{rule}
 use Rattle.std.specs.Str.{bytes_eq}
 use Rattle.rule_reading.specs.RuleRead.{one_field}

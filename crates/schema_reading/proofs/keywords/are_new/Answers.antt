@@ -9,7 +9,7 @@ use Rattle.kj_value.specs.Seen.{json}
 use Rattle.kj_value.specs.declared.txt.Txt.{Txt}
 use Rattle.kj_value.specs.declared.value.JVal.{JVal}
 use Rattle.kj_value.specs.declared.value.JVal.TheVariants.{Text}
-use Rattle.struct_schema.specs.LookupLaws.{one_test}
+use Rattle.struct_schema.specs.laws.LookupLaws.{one_test}
 use Rattle.schema_reading.specs.Allowed.{are_new}
 use Rattle.schema_reading.proofs.keywords.are_new.Goals as goal
 

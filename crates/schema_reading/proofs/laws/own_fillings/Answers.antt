@@ -1,4 +1,4 @@
-use Rattle.struct_schema.specs.Own.{stays_filled, filled_stays}
+use Rattle.struct_schema.specs.laws.Own.{stays_filled, filled_stays}
 use Rattle.schema_reading.proofs.laws.own_fillings.Goals as goal
 
 pub returns : goal.returns

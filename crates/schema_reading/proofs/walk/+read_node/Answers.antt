@@ -18,7 +18,7 @@ use Rattle.schema_reading.proofs.Found.{kept_in_order, pushed, skipped, shapes-k
 use Rattle.schema_reading.proofs.Inner.{stops_inner, passes_inner, passes_none, stops_map, passes_map, stopped_node, stopped_meta, goes_node, goes_meta, GoesOn, From}
 use Rattle.schema_reading.proofs.Whole.{object_by, Last, pass_1, pass_2, stop_additional, stop_inner, stop_items, stop_element, stop_type, stop_map, stop_default, pass_all, same_parts}
 use Rattle.struct_schema.specs.declared.kind.NodeKind.{NodeKind}
-use Rattle.kj_value.specs.Inside.{field_depth}
+use Rattle.kj_value.specs.laws.Inside.{field_depth}
 use Rattle.schema_reading.proofs.walk.+read_node.Goals as goal
 use Rattle.schema_reading.proofs.walk.+read_node.Goals.{read_map-in-Some+in-Ok, read_map-in-None+in-Ok-read_node+in_ok-of-in-Ok-read_node+in_ok-push-in-Ok-read_node}
 

@@ -1,6 +1,6 @@
 use Rattle.std.proofs.Common.{rules, ℕ, ◌≡◌, ◌≢◌, ◌+◌, ◌≤◌, Some, List, map, arith}
 use Rattle.shared_api.specs.declared.cell.CoreBase.{CoreBase}
-use Rattle.serve_spans.specs.Keeping.{Job}
+use Rattle.serve_spans.specs.inner.Keeping.{Job}
 use Rattle.serve_many.proofs.Counting.{left_first, left_less, left_done, left_some, rose_since}
 use Rattle.serve_many.proofs.accepting.accept_all.Goals as goal
 

@@ -2,7 +2,7 @@ use Rattle.std.proofs.lemmas.Result.{err_from_is_err_and}
 use Rattle.std.proofs.Common.{rules, ◌≡◌, ◌+◌, List, Option, map, sym, ◌∙◌, subst}
 use Rattle.edge_io.specs.Connections.{Origin, Ending, HandsOut}
 use Rattle.shared_api.specs.declared.cell.CoreBase.{CoreBase}
-use Rattle.serve_spans.specs.Keeping.{Going, Job}
+use Rattle.serve_spans.specs.inner.Keeping.{Going, Job}
 use Rattle.serve_many.specs.Answered.{IsAnswered, front_of}
 use Rattle.serve_many.specs.Jobs.{IsUntouched}
 use Rattle.serve_many.proofs.Counting.{at_err}

@@ -3,7 +3,7 @@ use Rattle.edge_io.specs.Connections.{Origin, Ending}
 use Rattle.shared_api.specs.Passes.{IsOf}
 use Rattle.shared_api.specs.declared.cell.CoreBase.{CoreBase}
 use Rattle.turn_cell.specs.declared.view.View.{View}
-use Rattle.serve_spans.specs.Keeping.{Going, Job}
+use Rattle.serve_spans.specs.inner.Keeping.{Going, Job}
 use Rattle.serve_many.specs.Answered.{IsAnswered, front_of}
 use Rattle.serve_many.proofs.accepting.help_out.Given as goal
 

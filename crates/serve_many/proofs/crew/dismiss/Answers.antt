@@ -2,7 +2,7 @@ use Rattle.std.proofs.Common.{rules, ◌≡◌, All, map, List, ◌++◌, ◌∷
 use Rattle.shared_api.specs.Passes.{IsOf}
 use Rattle.shared_api.specs.declared.cell.CoreBase.{CoreBase}
 use Rattle.turn_cell.specs.declared.view.View.{View}
-use Rattle.serve_spans.specs.Keeping.{Going}
+use Rattle.serve_spans.specs.inner.Keeping.{Going}
 use Rattle.serve_spans.proofs.Going.{going_dismissed}
 use Rattle.serve_spans.proofs.Lists.{map_snoc}
 use Rattle.serve_many.specs.Answered.{IsAnswered, front_of}

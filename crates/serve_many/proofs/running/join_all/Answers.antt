@@ -1,7 +1,7 @@
 use Rattle.std.proofs.Common.{rules, ◌≡◌, ℕ, All, map, List, ◌∷◌, ◌++◌, [], Option, Some, ap, sym, ◌∙◌, subst}
 use Rattle.shared_api.specs.Passes.{IsOf}
 use Rattle.shared_api.specs.declared.cell.CoreBase.{CoreBase}
-use Rattle.serve_spans.specs.Keeping.{Going, Job}
+use Rattle.serve_spans.specs.inner.Keeping.{Going, Job}
 use Rattle.serve_spans.specs.Spans.{Linked}
 use Rattle.serve_spans.proofs.Going.{going_last}
 use Rattle.serve_spans.proofs.Lists.{map_snoc}

@@ -1,7 +1,7 @@
 use Rattle.std.proofs.Common.{rules, ◌≡◌, ◌<◌, ℕ, ◌++◌, ◌∷◌, [], suc, All, List, map, take, drop, length, Option, ap, sym, subst}
 use Rattle.shared_api.specs.Passes.{IsOf}
 use Rattle.shared_api.specs.declared.cell.CoreBase.{CoreBase}
-use Rattle.serve_spans.specs.Keeping.{Going, Job}
+use Rattle.serve_spans.specs.inner.Keeping.{Going, Job}
 use Rattle.serve_spans.proofs.Going.{going_removed}
 use Rattle.serve_many.specs.Answered.{IsAnswered, front_of}
 use Rattle.serve_many.specs.Jobs.{Serves}

@@ -2,7 +2,7 @@ use Rattle.std.proofs.Common.{rules, ◌≡◌, [], map, List, Option, ap, sym, 
 use Rattle.edge_io.specs.Connections.{Origin}
 use Rattle.shared_api.specs.declared.cell.CoreBase.{CoreBase}
 use Rattle.turn_cell.specs.declared.view.View.{View}
-use Rattle.serve_spans.specs.Keeping.{Going, Job}
+use Rattle.serve_spans.specs.inner.Keeping.{Going, Job}
 use Rattle.serve_spans.proofs.Going.{going_starts, going_ends}
 use Rattle.serve_many.specs.Answered.{IsAnswered, front_of}
 use Rattle.serve_many.proofs.serving.serve_in.Goals as goal

@@ -1,7 +1,7 @@
 use Rattle.std.proofs.Common.{◌∙◌, ap, List, ℕ}
 use Rattle.kj_value.specs.Text.{quoted}
 use Rattle.api_calls.specs.Documents.{group_version}
-use Rattle.setting_texts.specs.SettingTexts.{before_group_version, before_name_alone, one_end}
+use Rattle.setting_texts.specs.inner.SettingTexts.{before_group_version, before_name_alone, one_end}
 use Rattle.call_texts.proofs.Pieces.{known, onward}
 use Rattle.setting_texts.proofs.groups.add_member.Goals as goal
 

@@ -1,7 +1,7 @@
 use Rattle.std.proofs.Common.{◌≡◌, ◌++◌, drop}
 use Rattle.std.specs.Prelude.{string_bytes}
 use Rattle.call_texts.specs.PageTexts.{joined_from}
-use Rattle.setting_texts.specs.SettingTexts.{member_text}
+use Rattle.setting_texts.specs.inner.SettingTexts.{member_text}
 use Rattle.setting_texts.proofs.groups.add_members.Given as goal
 
 abbrev pub invariant-loop-i : goal.invariant-loop-i

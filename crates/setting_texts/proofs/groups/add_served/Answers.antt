@@ -1,7 +1,7 @@
 use Rattle.std.proofs.Common.{◌≡◌, ◌∙◌, ap, sym, subst, List, ℕ, Bool}
 use Rattle.std.specs.Prelude.{if◌then◌else◌}
 use Rattle.std.specs.List.{insert}
-use Rattle.setting_texts.specs.Offered.{rank_of, ranked_with}
+use Rattle.setting_texts.specs.inner.Offered.{rank_of, ranked_with}
 use Rattle.setting_texts.proofs.Offering.{insert-rank}
 use Rattle.setting_texts.proofs.groups.add_served.Goals as goal
 

@@ -1,7 +1,7 @@
 use Rattle.std.proofs.Common.{◌∙◌, ◌++◌, ◌∷◌, ap, sym, List, ℕ}
 use Rattle.kj_value.specs.Text.{quoted}
 use Rattle.call_texts.specs.PageTexts.{joined_from}
-use Rattle.setting_texts.specs.SettingTexts.{before_group_name, before_preferred, before_versions, behind_versions, group_text, member_text}
+use Rattle.setting_texts.specs.inner.SettingTexts.{before_group_name, before_preferred, before_versions, behind_versions, group_text, member_text}
 use Rattle.setting_texts.proofs.Joined.{text_of-group}
 use Rattle.setting_texts.proofs.Offering.{first-known}
 use Rattle.call_texts.proofs.Pieces.{known, onward}

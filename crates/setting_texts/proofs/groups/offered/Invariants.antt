@@ -1,5 +1,5 @@
 use Rattle.std.proofs.Common.{◌≡◌}
-use Rattle.setting_texts.specs.Offered.{ranked_below}
+use Rattle.setting_texts.specs.inner.Offered.{ranked_below}
 use Rattle.setting_texts.proofs.groups.offered.Given as goal
 
 abbrev pub invariant-loop-v : goal.invariant-loop-v

@@ -1,5 +1,5 @@
 use Rattle.std.proofs.Common.{◌≡◌, ◌+◌, drop}
-use Rattle.setting_texts.specs.Offered.{rank_of}
+use Rattle.setting_texts.specs.inner.Offered.{rank_of}
 use Rattle.setting_texts.proofs.groups.rank_of.Given as goal
 
 abbrev pub invariant-loop-i : goal.invariant-loop-i

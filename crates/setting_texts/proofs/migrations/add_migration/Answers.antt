@@ -1,5 +1,5 @@
 use Rattle.std.proofs.Common.{◌≡◌, ◌∙◌, ◌++◌}
-use Rattle.setting_texts.specs.SettingTexts.{migration_text, target_text, untargeted_text}
+use Rattle.setting_texts.specs.inner.SettingTexts.{migration_text, target_text, untargeted_text}
 use Rattle.call_texts.proofs.Pieces.{known, onward}
 use Rattle.setting_texts.proofs.Starting.{targeted}
 use Rattle.setting_texts.proofs.migrations.add_migration.Goals as goal

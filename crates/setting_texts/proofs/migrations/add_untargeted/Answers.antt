@@ -1,7 +1,7 @@
 use Rattle.std.proofs.Common.{◌∙◌}
 use Rattle.kj_value.specs.Text.{quoted}
 use Rattle.api_calls.specs.Documents.{condition_word}
-use Rattle.setting_texts.specs.SettingTexts.{before_name, before_storage, resource_text}
+use Rattle.setting_texts.specs.inner.SettingTexts.{before_name, before_storage, resource_text}
 use Rattle.call_texts.proofs.Pieces.{known, onward}
 use Rattle.setting_texts.proofs.migrations.add_untargeted.Goals as goal
 

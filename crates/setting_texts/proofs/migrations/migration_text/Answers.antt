@@ -1,5 +1,5 @@
 use Rattle.std.proofs.Common.{◌∙◌, ◌++◌, ap, sym, List, ℕ}
-use Rattle.setting_texts.specs.SettingTexts.{migration_text}
+use Rattle.setting_texts.specs.inner.SettingTexts.{migration_text}
 use Rattle.setting_texts.proofs.Joined.{text_of-migration}
 use Rattle.setting_texts.proofs.migrations.migration_text.Goals as goal
 

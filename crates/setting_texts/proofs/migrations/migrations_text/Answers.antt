@@ -3,7 +3,7 @@ use Rattle.kube_meta.specs.Plan.{Migration}
 use Rattle.api_calls.specs.Documents.{by_name}
 use Rattle.setting_texts.specs.Migrating.{HaveTargets}
 use Rattle.call_texts.specs.PageTexts.{joined_from}
-use Rattle.setting_texts.specs.SettingTexts.{before_migrations, behind_migrations, migration_text}
+use Rattle.setting_texts.specs.inner.SettingTexts.{before_migrations, behind_migrations, migration_text}
 use Rattle.setting_texts.proofs.Joined.{text_of-migrations}
 use Rattle.call_texts.proofs.Pieces.{known, onward}
 use Rattle.setting_texts.proofs.Sorting.{each-by_name}

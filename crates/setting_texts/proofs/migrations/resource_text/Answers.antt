@@ -1,6 +1,6 @@
 use Rattle.std.proofs.Common.{◌∙◌, ap, List, ℕ, ◌++◌}
 use Rattle.kj_value.specs.Text.{quoted}
-use Rattle.setting_texts.specs.SettingTexts.{before_condition, before_group, before_resource, resource_text}
+use Rattle.setting_texts.specs.inner.SettingTexts.{before_condition, before_group, before_resource, resource_text}
 use Rattle.call_texts.proofs.Pieces.{known, onward}
 use Rattle.setting_texts.proofs.migrations.resource_text.Goals as goal
 

@@ -1,5 +1,5 @@
 use Rattle.std.proofs.Common.{◌∙◌, ◌++◌, ap, List, ℕ}
-use Rattle.setting_texts.specs.SettingTexts.{target_text}
+use Rattle.setting_texts.specs.inner.SettingTexts.{target_text}
 use Rattle.call_texts.proofs.Pieces.{onward}
 use Rattle.setting_texts.proofs.Starting.{running-text}
 use Rattle.setting_texts.proofs.start.running_text.Goals as goal

@@ -1,6 +1,6 @@
 use Rattle.std.proofs.Common.{◌∙◌, ◌++◌, ap, List, ℕ}
 use Rattle.kube_meta.specs.declared.limits.Condition.TheVariants.{Running}
-use Rattle.setting_texts.specs.SettingTexts.{untargeted_text}
+use Rattle.setting_texts.specs.inner.SettingTexts.{untargeted_text}
 use Rattle.setting_texts.proofs.start.untargeted.Goals as goal
 
 pub returns : goal.returns

@@ -18,7 +18,7 @@ use Rattle.call_texts.specs.Told.{decided}
 use Rattle.shared_api.specs.Answered.{CallsOn}
 use Rattle.shared_api.specs.Base.{server_of}
 use Rattle.call_texts.specs.Faults.{admission}
-use Rattle.shared_api.specs.WriteTurns.{Created, Results}
+use Rattle.shared_api.specs.inner.WriteTurns.{Created, Results}
 use Rattle.shared_api.specs.declared.cell.CoreBase.{CoreBase}
 use Rattle.call_texts.specs.declared.refused.Refused as made
 use Rattle.shared_api.proofs.Results.{admitted_calls, create_calls, reads-writes, refused_came, results-join, unserved_calls}

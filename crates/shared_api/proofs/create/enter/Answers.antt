@@ -2,7 +2,7 @@ use Rattle.std.proofs.Common.{◌≡◌, ◌<◌, Some, ◌∙◌, arith}
 use Rattle.kube_meta.specs.View.{object_of}
 use Rattle.call_texts.specs.Told.{decided}
 use Rattle.shared_api.specs.Base.{server_of}
-use Rattle.shared_api.specs.WriteTurns.{Created}
+use Rattle.shared_api.specs.inner.WriteTurns.{Created}
 use Rattle.shared_api.proofs.Results.{rested-base, rested-join, results-join}
 use Rattle.shared_api.proofs.create.enter.Goals as goal
 

@@ -4,7 +4,7 @@ use Rattle.kube_meta.specs.Shapes.{shaped}
 use Rattle.kube_meta.specs.View.{object_of}
 use Rattle.turn_cell.specs.Turns.{IsResting}
 use Rattle.shared_api.specs.Base.{server_of}
-use Rattle.shared_api.specs.WriteTurns.{Rested}
+use Rattle.shared_api.specs.inner.WriteTurns.{Rested}
 use Rattle.shared_api.specs.declared.cell.CoreBase.{CoreBase}
 use Rattle.shared_api.proofs.create.enter.Given as goal
 

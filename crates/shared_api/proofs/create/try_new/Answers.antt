@@ -9,7 +9,7 @@ use Rattle.api_core.specs.Ends.{create_end}
 use Rattle.api_core.specs.Prepared.{PreparesValue}
 use Rattle.shared_api.specs.Base.{server_of}
 use Rattle.write_texts.specs.Readying.{Tells}
-use Rattle.shared_api.specs.WriteTurns.{Commits, Created, creates}
+use Rattle.shared_api.specs.inner.WriteTurns.{Commits, Created, creates}
 use Rattle.shared_api.specs.declared.cell.CoreBase.{CoreBase}
 use Rattle.shared_api.proofs.Committing.{created-number}
 use Rattle.shared_api.proofs.Results.{created-tries, failed-results}

@@ -1,7 +1,7 @@
 use Rattle.std.proofs.Common.{◌≡◌, ◌≤◌, Some}
 use Rattle.turn_cell.specs.Turns.{IsResting}
 use Rattle.shared_api.specs.Base.{server_of}
-use Rattle.shared_api.specs.WriteTurns.{Rested}
+use Rattle.shared_api.specs.inner.WriteTurns.{Rested}
 use Rattle.shared_api.specs.declared.cell.CoreBase.{CoreBase}
 use Rattle.shared_api.proofs.delete.delete_with.Given as goal
 

@@ -2,7 +2,7 @@ use Rattle.std.proofs.Common.{◌∙◌, List, ap, sym, subst}
 use Rattle.api_calls.specs.Item.{Logged}
 use Rattle.api_calls.specs.Legal.{IsLegal}
 use Rattle.turn_cell.specs.declared.view.View.{View}
-use Rattle.shared_api.specs.Turning.{item_if}
+use Rattle.shared_api.specs.inner.Turning.{item_if}
 use Rattle.shared_api.specs.declared.cell.CoreBase.{CoreBase}
 use Rattle.shared_api.proofs.Entering.{base-stays, cell_stands}
 use Rattle.shared_api.proofs.Turns.{cell_legal}

@@ -3,8 +3,8 @@ use Rattle.api_calls.specs.Item.{Item, note, GiveBack, items}
 use Rattle.api_calls.specs.State.{state}
 use Rattle.api_calls.specs.Work.{give_back_decision}
 use Rattle.shared_api.specs.Base.{base_of, server_of}
-use Rattle.shared_api.specs.Turning.{item_if}
-use Rattle.shared_api.specs.Working.{number_of}
+use Rattle.shared_api.specs.inner.Turning.{item_if}
+use Rattle.shared_api.specs.inner.Working.{number_of}
 use Rattle.shared_api.specs.declared.cell.CoreBase.{CoreBase}
 use Rattle.shared_api.proofs.Entering.{writes}
 use Rattle.shared_api.proofs.Working.{give_back_calls}

@@ -1,5 +1,5 @@
 use Rattle.api_calls.specs.Item.{note, GiveBack}
-use Rattle.shared_api.specs.Working.{number_of}
+use Rattle.shared_api.specs.inner.Working.{number_of}
 use Rattle.shared_api.proofs.give_back.give_claim.Given as goal
 
 abbrev pub ghosts-finish : goal.ghosts-finish

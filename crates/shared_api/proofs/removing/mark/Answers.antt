@@ -6,7 +6,7 @@ use Rattle.api_core.specs.Ends.{delete_end}
 use Rattle.api_core.specs.Prepared.{Marking, PreparesValue}
 use Rattle.shared_api.specs.Base.{base_of}
 use Rattle.write_texts.specs.Removing.{IsToMark}
-use Rattle.shared_api.specs.RemovalTurns.{marks}
+use Rattle.shared_api.specs.inner.RemovalTurns.{marks}
 use Rattle.shared_api.specs.declared.cell.CoreBase.{CoreBase}
 use Rattle.shared_api.proofs.Committing.{EntersIt, commits, committed-stands, few-revision}
 use Rattle.shared_api.proofs.Leaving.{fits-now, known-now, mark-item}

@@ -6,7 +6,7 @@ use Rattle.api_core.specs.Ends.{delete_end}
 use Rattle.api_core.specs.Prepared.{IsFree}
 use Rattle.shared_api.specs.Base.{base_of}
 use Rattle.write_texts.specs.Removing.{WasAt}
-use Rattle.shared_api.specs.RemovalTurns.{removes}
+use Rattle.shared_api.specs.inner.RemovalTurns.{removes}
 use Rattle.shared_api.specs.declared.cell.CoreBase.{CoreBase}
 use Rattle.shared_api.proofs.Committing.{EntersIt, commits, committed-stands, few-revision}
 use Rattle.shared_api.proofs.Leaving.{delete-item, known-now}

@@ -6,7 +6,7 @@ use Rattle.turn_cell.specs.Turns.{IsResting}
 use Rattle.api_calls.specs.Item.{items}
 use Rattle.api_calls.specs.Meaning.{Request}
 use Rattle.shared_api.specs.Base.{server_of}
-use Rattle.shared_api.specs.WriteTurns.{Rested}
+use Rattle.shared_api.specs.inner.WriteTurns.{Rested}
 use Rattle.write_texts.specs.Replacing.{GoesOver}
 use Rattle.shared_api.specs.declared.cell.CoreBase.{CoreBase}
 use Rattle.shared_api.proofs.replace.enter.Given as goal

@@ -9,7 +9,7 @@ use Rattle.api_core.specs.Ends.{replace_end}
 use Rattle.api_core.specs.Prepared.{PreparesValue, Replacing}
 use Rattle.shared_api.specs.Base.{server_of}
 use Rattle.write_texts.specs.Readying.{Tells}
-use Rattle.shared_api.specs.WriteTurns.{Commits, SeenAt, replaces}
+use Rattle.shared_api.specs.inner.WriteTurns.{Commits, SeenAt, replaces}
 use Rattle.write_texts.specs.Replacing.{RepliesToReplace}
 use Rattle.shared_api.specs.declared.cell.CoreBase.{CoreBase}
 use Rattle.shared_api.proofs.Replaces.{over-attempts, over-born, over-seen}

@@ -9,7 +9,7 @@ use Rattle.api_core.specs.Ends.{release_end}
 use Rattle.api_core.specs.Prepared.{IsEnding}
 use Rattle.call_texts.specs.Told.{decided}
 use Rattle.shared_api.specs.Base.{server_of}
-use Rattle.shared_api.specs.WriteTurns.{Commits, SeenAt, releases}
+use Rattle.shared_api.specs.inner.WriteTurns.{Commits, SeenAt, releases}
 use Rattle.write_texts.specs.Replacing.{RepliesToReplace}
 use Rattle.shared_api.specs.declared.cell.CoreBase.{CoreBase}
 use Rattle.shared_api.proofs.Replaces.{ending-seen, release-born, release-results}

@@ -5,7 +5,7 @@ use Rattle.api_calls.specs.State.{State, state}
 use Rattle.api_core.specs.CoreOf.{StandsFor}
 use Rattle.api_core.specs.Ends.{set_end}
 use Rattle.shared_api.specs.Base.{base_of}
-use Rattle.shared_api.specs.Turning.{item_if}
+use Rattle.shared_api.specs.inner.Turning.{item_if}
 use Rattle.shared_api.proofs.Changing.{set-item, sets}
 use Rattle.shared_api.proofs.Turns.{few_entries}
 use Rattle.shared_api.proofs.set.set.Goals as goal

@@ -5,7 +5,7 @@ use Rattle.api_calls.specs.Settings.{start_decision}
 use Rattle.api_calls.specs.State.{State, state}
 use Rattle.api_core.specs.CoreOf.{StandsFor}
 use Rattle.api_core.specs.Ends.{start_end}
-use Rattle.shared_api.specs.Turning.{item_if}
+use Rattle.shared_api.specs.inner.Turning.{item_if}
 use Rattle.shared_api.proofs.StartCalls.{begins, start-item}
 use Rattle.shared_api.proofs.Turns.{few_entries}
 use Rattle.shared_api.proofs.start.start.Goals as goal

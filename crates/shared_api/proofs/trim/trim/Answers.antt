@@ -5,7 +5,7 @@ use Rattle.api_calls.specs.State.{State, state}
 use Rattle.api_calls.specs.Versions.{versions_of}
 use Rattle.api_core.specs.CoreOf.{StandsFor}
 use Rattle.api_core.specs.Ends.{trim_end}
-use Rattle.shared_api.specs.Turning.{item_if}
+use Rattle.shared_api.specs.inner.Turning.{item_if}
 use Rattle.shared_api.proofs.Trimming.{trim-item, turn-shows, turn-version, trims}
 use Rattle.shared_api.proofs.Turns.{few_entries}
 use Rattle.shared_api.proofs.trim.trim.Goals as goal

@@ -5,8 +5,8 @@ use Rattle.api_core.specs.Ends.{turn_end}
 use Rattle.api_core.specs.Prepared.{KnownAt}
 use Rattle.api_calls.specs.Ends.{grown}
 use Rattle.api_core.specs.declared.seen.Prepared.{Prepared}
-use Rattle.shared_api.specs.Turning.{Closes, item_if}
-use Rattle.shared_api.specs.Working.{item_or, second_of}
+use Rattle.shared_api.specs.inner.Turning.{Closes, item_if}
+use Rattle.shared_api.specs.inner.Working.{item_or, second_of}
 use Rattle.shared_api.proofs.Working.{few-claims, few-revision, later-items, ready-fits, ready-known, ready-here, ready-next, second-stands, stands-later, touches}
 use Rattle.shared_api.proofs.worker.touch.Goals as goal
 

@@ -1,5 +1,5 @@
 use Rattle.api_calls.specs.Item.{items}
-use Rattle.shared_api.specs.Working.{second_of, item_or}
+use Rattle.shared_api.specs.inner.Working.{second_of, item_or}
 use Rattle.shared_api.proofs.worker.touch.Given as goal
 
 abbrev pub ghosts-finish : goal.ghosts-finish

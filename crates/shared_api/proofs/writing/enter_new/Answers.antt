@@ -8,7 +8,7 @@ use Rattle.api_core.specs.Ends.{create_end}
 use Rattle.api_core.specs.Prepared.{PreparesValue}
 use Rattle.api_core.specs.declared.seen.Prepared.{Prepared}
 use Rattle.shared_api.specs.Base.{base_of}
-use Rattle.shared_api.specs.WriteTurns.{creates}
+use Rattle.shared_api.specs.inner.WriteTurns.{creates}
 use Rattle.shared_api.specs.declared.cell.CoreBase.{CoreBase}
 use Rattle.shared_api.proofs.Committing.{EntersIt, commits, committed-stands, create-item, create-storage, few-revision}
 use Rattle.shared_api.proofs.writing.enter_new.Goals as goal

@@ -9,7 +9,7 @@ use Rattle.api_core.specs.Ends.{replace_end}
 use Rattle.api_core.specs.Prepared.{PreparesValue, Replacing}
 use Rattle.api_core.specs.declared.seen.Prepared.{Prepared}
 use Rattle.shared_api.specs.Base.{base_of}
-use Rattle.shared_api.specs.WriteTurns.{SeenAt, replaces}
+use Rattle.shared_api.specs.inner.WriteTurns.{SeenAt, replaces}
 use Rattle.shared_api.specs.declared.cell.CoreBase.{CoreBase}
 use Rattle.shared_api.proofs.Committing.{EntersIt, commits, committed-stands, few-revision, replace-item, seen-later}
 use Rattle.shared_api.proofs.writing.enter_over.Goals as goal

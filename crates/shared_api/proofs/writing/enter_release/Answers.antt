@@ -5,7 +5,7 @@ use Rattle.api_calls.specs.State.{revision, state}
 use Rattle.api_core.specs.Ends.{release_end}
 use Rattle.api_core.specs.Prepared.{IsEnding}
 use Rattle.shared_api.specs.Base.{base_of}
-use Rattle.shared_api.specs.WriteTurns.{SeenAt, releases}
+use Rattle.shared_api.specs.inner.WriteTurns.{SeenAt, releases}
 use Rattle.shared_api.specs.declared.cell.CoreBase.{CoreBase}
 use Rattle.shared_api.proofs.Committing.{EntersIt, commits, committed-stands, few-revision, release-item, seen-later}
 use Rattle.shared_api.proofs.writing.enter_release.Goals as goal

@@ -3,7 +3,7 @@ use Rattle.std.proofs.lemmas.Result.{err_from_is_err_and}
 use Rattle.std.proofs.lemmas.List.{nil_from_length}
 use Rattle.std.specs.Vec.Iter.{into_iter_items}
 use Rattle.kj_value.specs.Texts.{text_pair}
-use Rattle.spoke_keep.specs.Seen.{own_name, fate_note}
+use Rattle.spoke_keep.specs.inner.Seen.{own_name, fate_note}
 use Rattle.spoke_keep.proofs.Loops.{move_start, move_next, move_all, move_bad}
 use Rattle.spoke_keep.proofs.carrying.carried_over.Goals as goal
 

@@ -1,7 +1,7 @@
 use Rattle.std.proofs.Common.{map}
 use Rattle.std.specs.Vec.Iter.{into_iter_items}
 use Rattle.kj_value.specs.Texts.{text_pair}
-use Rattle.spoke_keep.specs.Seen.{own_name}
+use Rattle.spoke_keep.specs.inner.Seen.{own_name}
 use Rattle.spoke_keep.proofs.Loops.{Carrying}
 use Rattle.spoke_keep.proofs.carrying.carried_over.Given as goal
 

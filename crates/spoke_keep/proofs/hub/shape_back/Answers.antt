@@ -15,7 +15,7 @@ use Rattle.keep_laws.proofs.Judged.{allowed}
 use Rattle.keep_laws.specs.Complete.{completed_over}
 use Rattle.keep_laws.specs.Spokes.{fills_at}
 use Rattle.keep_laws.proofs.Made.{back_made, hub_made_writable}
-use Rattle.spoke_keep.specs.Shaping.{IsShapeOf, ShapesOver}
+use Rattle.spoke_keep.specs.inner.Shaping.{IsShapeOf, ShapesOver}
 use Rattle.spoke_keep.proofs.Alive.{carried_as_is}
 use Rattle.spoke_keep.proofs.Shaping.{shapes}
 use Rattle.spoke_keep.proofs.Steps.{spells_order, if_ok}

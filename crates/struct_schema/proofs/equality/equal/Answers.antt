@@ -1,6 +1,6 @@
 use Rattle.std.proofs.Common.{sym, ◌∙◌}
 use Rattle.struct_schema.specs.ShapeOf.{shape_of}
-use Rattle.struct_schema.specs.SameLaws.{shape_same-Decides}
+use Rattle.struct_schema.specs.laws.SameLaws.{shape_same-Decides}
 use Rattle.struct_schema.proofs.equality.equal.Goals as goal
 
 pub returns : goal.returns

@@ -1,7 +1,7 @@
 use Rattle.std.proofs.Common.{sym, ◌∙◌}
 use Rattle.struct_schema.specs.Below.{below}
 use Rattle.struct_schema.specs.ShapeOf.{shape_of}
-use Rattle.struct_schema.specs.SameLaws.{shape_same-Decides}
+use Rattle.struct_schema.specs.laws.SameLaws.{shape_same-Decides}
 use Rattle.struct_schema.proofs.equality.equal_below.Goals as goal
 
 pub returns : goal.returns

@@ -2,7 +2,7 @@ use Rattle.std.proofs.Common.{List, ℕ, Option, ap, sym, ◌∙◌}
 use Rattle.kj_value.specs.Json.{members_of}
 use Rattle.struct_schema.specs.Shape.{Shape, map_of}
 use Rattle.struct_schema.specs.Stays.{defaults_there}
-use Rattle.struct_schema.specs.NameLaws.{each_default-is}
+use Rattle.struct_schema.specs.laws.NameLaws.{each_default-is}
 use Rattle.struct_schema.proofs.filling.defaults_there.Goals as goal
 
 pub returns-in-Some : goal.returns-in-Some

@@ -1,7 +1,7 @@
 use Rattle.std.proofs.Common.{sym, ◌∙◌}
 use Rattle.kj_value.specs.Seen.{json}
 use Rattle.struct_schema.specs.ShapeOf.{shape_of}
-use Rattle.struct_schema.specs.Own.{stays_filled, filled_stays}
+use Rattle.struct_schema.specs.laws.Own.{stays_filled, filled_stays}
 use Rattle.struct_schema.proofs.filling.is_filled.Goals as goal
 
 pub returns : goal.returns

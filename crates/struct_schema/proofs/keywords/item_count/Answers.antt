@@ -1,5 +1,5 @@
 use Rattle.std.proofs.Common.{sym, ◌∙◌}
-use Rattle.struct_schema.specs.LookupLaws.{item_count-items_of}
+use Rattle.struct_schema.specs.laws.LookupLaws.{item_count-items_of}
 use Rattle.struct_schema.proofs.keywords.item_count.Goals as goal
 
 pub returns : goal.returns

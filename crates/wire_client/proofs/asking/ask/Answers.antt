@@ -1,8 +1,8 @@
 use Rattle.std.proofs.Common.{◌≡◌, None, Some, refl, inl, inr}
 use Rattle.std.proofs.lemmas.Result.{err_from_is_err_and}
 use Rattle.edge_io.specs.declared.link.LinkFault.TheVariants.{Failed, NoMemory}
-use Rattle.wire_client.specs.FarLaws.{made_one, made_failed, made_starved}
-use Rattle.wire_client.specs.Seen.{answer_of}
+use Rattle.wire_client.specs.laws.FarLaws.{made_one, made_failed, made_starved}
+use Rattle.wire_client.specs.inner.Seen.{answer_of}
 use Rattle.wire_client.proofs.ByCode.{asked_given, asked_end}
 use Rattle.wire_client.proofs.asking.ask.Goals as goal
 

@@ -2,7 +2,7 @@ use Rattle.std.proofs.Common.{◌∙◌, refl}
 use Rattle.std.proofs.lemmas.Result.{err_from_is_err_and}
 use Rattle.kj_value.specs.Seen.{json}
 use Rattle.wire_client.specs.Calls.{puts}
-use Rattle.wire_client.specs.Seen.{wanted_view}
+use Rattle.wire_client.specs.inner.Seen.{wanted_view}
 use Rattle.wire_client.proofs.Coming.{lacked, came_end, object_ended}
 use Rattle.wire_client.proofs.calls.put_one.Goals as goal
 

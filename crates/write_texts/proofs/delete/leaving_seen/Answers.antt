@@ -14,7 +14,7 @@ use Rattle.api_calls.specs.declared.refusal.Refusal.{Refusal}
 use Rattle.api_calls.specs.declared.versions.ConvFault.{ConvFault}
 use Rattle.api_core.specs.declared.seen.Prepared.{Prepared}
 use Rattle.write_texts.specs.Leavings.{LeavesSeen, MarksSeen}
-use Rattle.write_texts.specs.Marking.{HoldsAs}
+use Rattle.write_texts.specs.inner.Marking.{HoldsAs}
 use Rattle.write_texts.specs.declared.delete.Leaving.{Leaving}
 use Rattle.write_texts.specs.declared.mark.Holding.{Holding}
 use Rattle.call_texts.specs.declared.refused.Refused as made

@@ -4,7 +4,7 @@ use Rattle.kj_value.specs.declared.error.NoMemory.{NoMemory}
 use Rattle.kube_meta.specs.View.{object_of}
 use Rattle.kube_meta.specs.declared.object.Object.{Object}
 use Rattle.api_calls.specs.Values.{has_finalizer, is_marked}
-use Rattle.api_calls.specs.SpelledLaws.{stored-text}
+use Rattle.api_calls.specs.laws.SpelledLaws.{stored-text}
 use Rattle.write_texts.proofs.Stamps.{holds-as}
 use Rattle.write_texts.proofs.mark.holding_of.Goals as goal
 

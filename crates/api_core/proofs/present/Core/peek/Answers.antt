@@ -1,4 +1,4 @@
-use Rattle.api_core.specs.PairLaws.{pairs-find}
+use Rattle.api_core.specs.laws.PairLaws.{pairs-find}
 use Rattle.api_core.proofs.present.Core.peek.Goals as goal
 
 pub returns-clause-sees : goal.returns-clause-sees

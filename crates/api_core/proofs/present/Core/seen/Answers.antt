@@ -2,7 +2,7 @@ use Rattle.std.proofs.Common.{ap, sym, ◌∙◌}
 use Rattle.std.specs.Prelude.{option_map}
 use Rattle.record_store.specs.ByKey.{find}
 use Rattle.record_store.specs.View.{item_key}
-use Rattle.api_core.specs.PairLaws.{record-key, record-told}
+use Rattle.api_core.specs.laws.PairLaws.{record-key, record-told}
 use Rattle.api_core.proofs.present.Core.seen.Goals as goal
 
 pub returns : goal.returns

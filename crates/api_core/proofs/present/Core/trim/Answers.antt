@@ -3,7 +3,7 @@ use Rattle.std.specs.Arc.{arc_value}
 use Rattle.api_calls.specs.Settings.{first_unknown}
 use Rattle.api_calls.specs.State.{has}
 use Rattle.api_calls.specs.Versions.{versions_of}
-use Rattle.api_core.specs.TrimLaws.{unkept}
+use Rattle.api_core.specs.inner.TrimLaws.{unkept}
 use Rattle.api_core.proofs.SettingTurns.{shown, trim-kept, trim-turn_held, trim-turn_same, trim-turn_done}
 use Rattle.api_core.proofs.present.Core.trim.Goals as goal
 

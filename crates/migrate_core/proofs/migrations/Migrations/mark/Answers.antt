@@ -2,7 +2,7 @@ use Rattle.std.proofs.Common.{rules, ◌≡◌, true, ap, ◌∙◌, List, lengt
 use Rattle.std.proofs.lemmas.List.{with_items_is}
 use Rattle.kube_meta.specs.declared.limits.Condition.TheVariants.{Succeeded}
 use Rattle.kube_meta.specs.Plan.{Migration, is_done, ended}
-use Rattle.migrate_core.specs.Slots.{plan_of}
+use Rattle.migrate_core.specs.inner.Slots.{plan_of}
 use Rattle.migrate_core.proofs.Plans.{seen, marked}
 use Rattle.migrate_core.proofs.migrations.Migrations.mark.Goals as goal
 

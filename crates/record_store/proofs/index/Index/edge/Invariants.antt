@@ -1,6 +1,6 @@
 use Rattle.std.proofs.Common.{◌≡◌, ◌-◌, ◌<◌, ◌≤◌, ℕ, length, get_or, true, false}
 use Rattle.record_store.specs.Rows.{row_key}
-use Rattle.record_store.specs.Stretches.{comes_before}
+use Rattle.record_store.specs.inner.Stretches.{comes_before}
 use Rattle.record_store.specs.declared.row.Row.{Row}
 use Rattle.record_store.proofs.index.Index.edge.Given as goal
 

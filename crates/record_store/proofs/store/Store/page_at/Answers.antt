@@ -9,7 +9,7 @@ use Rattle.record_store.specs.Inside.{AreKept, IsKept, item_of}
 use Rattle.record_store.specs.Copies.{ShowsCopies}
 use Rattle.record_store.specs.declared.page.Pick.{Pick}
 use Rattle.record_store.specs.declared.record.StorePage.{StorePage}
-use Rattle.record_store.specs.Picked.{Shown, merged, no_rows, pick_key, rows_in, standing, superseded, with_more}
+use Rattle.record_store.specs.inner.Picked.{Shown, merged, no_rows, pick_key, rows_in, standing, superseded, with_more}
 use Rattle.record_store.proofs.Paged.{present_seen, page_seen, picks_kept}
 use Rattle.record_store.proofs.Pieces.{rows-weigh}
 use Rattle.record_store.proofs.Steps.{each-shown, page-items, page-behind}

@@ -1,6 +1,6 @@
 use Rattle.std.proofs.Common.{◌≡◌, ◌<◌, Some, None, ap, sym, subst, ◌∙◌, arith}
 use Rattle.std.specs.Prelude.{option_map}
-use Rattle.kube_meta.specs.WindowLaws.{fits-bounds}
+use Rattle.kube_meta.specs.laws.WindowLaws.{fits-bounds}
 use Rattle.record_store.specs.ByKey.{find}
 use Rattle.record_store.specs.Rows.{row_key}
 use Rattle.record_store.specs.Held.{holders}

@@ -1,6 +1,6 @@
 use Rattle.std.proofs.Common.{◌≡◌, ◌+◌, ◌-◌, ◌<◌, ℕ, List, Option, Some, Ok, length, map, ap, refl, sym, subst, ◌∙◌, arith}
 use Rattle.std.specs.Prelude.{option_map, slice_set, IsUtf8}
-use Rattle.kube_meta.specs.WindowLaws.{fits-bounds}
+use Rattle.kube_meta.specs.laws.WindowLaws.{fits-bounds}
 use Rattle.record_region.specs.Places.{Places}
 use Rattle.record_store.specs.ByKey.{KeysRise, find, put}
 use Rattle.record_store.specs.ByKey.{place as place_of}

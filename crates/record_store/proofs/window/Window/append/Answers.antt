@@ -1,6 +1,6 @@
 use Rattle.std.proofs.Common.{◌≡◌, [], ◌∷◌, ◌++◌, length, length-append, arith, ap, rules}
 use Rattle.kube_meta.specs.Window.{weights}
-use Rattle.kube_meta.specs.WindowLaws.{weights-append}
+use Rattle.kube_meta.specs.laws.WindowLaws.{weights-append}
 use Rattle.record_store.specs.Pasts.{Pasts, past_by, past_weight}
 use Rattle.record_store.proofs.window.Window.append.Goals as goal
 

@@ -1,6 +1,6 @@
 use Rattle.std.proofs.Common.{◌≡◌, true, sym, ap, ◌∙◌}
 use Rattle.kube_meta.specs.Window.{fits}
-use Rattle.kube_meta.specs.WindowLaws.{newest-fitting, floor-fitting}
+use Rattle.kube_meta.specs.laws.WindowLaws.{newest-fitting, floor-fitting}
 use Rattle.kube_meta.specs.declared.limits.Limits.{Limits}
 use Rattle.record_store.specs.Pasts.{past_by, past_weight}
 use Rattle.record_store.proofs.WindowPieces.{trimmed-fitting}

@@ -11,7 +11,7 @@ use Rattle.turn_cell.specs.declared.view.View.{View}
 use Rattle.shared_api.specs.Answered.{CallsOn}
 use Rattle.shared_api.specs.Base.{server_of}
 use Rattle.shared_api.specs.Passes.{IsOf, Known}
-use Rattle.shared_api.specs.Working.{first_of, second_of}
+use Rattle.shared_api.specs.inner.Working.{first_of, second_of}
 use Rattle.shared_api.specs.Steps.{IsTold, IsToPrepare}
 use Rattle.shared_api.specs.declared.cell.CoreBase.{CoreBase}
 use Rattle.shared_api.specs.declared.step.Begun.TheVariants as begun

@@ -1,7 +1,7 @@
 use Rattle.std.proofs.Common.{List, ℕ, Option, ap, sym, ◌∙◌}
 use Rattle.struct_schema.specs.Shape.{Shape, maybe_of, map_of}
 use Rattle.struct_schema.specs.Names.{property}
-use Rattle.struct_schema.specs.LookupLaws.{shape_named-field}
+use Rattle.struct_schema.specs.laws.LookupLaws.{shape_named-field}
 use Rattle.struct_schema.proofs.schema.Schema.property.Goals as goal
 
 pub returns-in-Some : goal.returns-in-Some

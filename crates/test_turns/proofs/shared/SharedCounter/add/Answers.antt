@@ -1,7 +1,7 @@
 use Rattle.std.proofs.Common.{ℕ, ◌≡◌, List, ap, sym, ◌∙◌, subst}
 use Rattle.api_calls.specs.Item.{Logged}
 use Rattle.turn_cell.specs.declared.view.View.{View}
-use Rattle.turn_cell.specs.Laws.{turn_ends, stands_now}
+use Rattle.turn_cell.specs.laws.Laws.{turn_ends, stands_now}
 use Rattle.test_turns.specs.Counts.{IsLegal, IsReply, Counts, entered_by}
 use Rattle.test_turns.proofs.shared.SharedCounter.add.Goals as goal
 

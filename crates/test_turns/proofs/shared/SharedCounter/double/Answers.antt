@@ -4,8 +4,8 @@ use mathlib.Core.List.{IsPrefix}
 use Rattle.api_calls.specs.Item.{Logged}
 use Rattle.turn_cell.specs.declared.view.View.{View}
 use Rattle.turn_cell.specs.Turns.{addition}
-use Rattle.turn_cell.specs.Laws.{prefix_trans}
-use Rattle.turn_cell.specs.Laws.{turns_join}
+use Rattle.turn_cell.specs.laws.Laws.{prefix_trans}
+use Rattle.turn_cell.specs.laws.Laws.{turns_join}
 use Rattle.test_turns.specs.Counts.{entered_by}
 use Rattle.test_turns.specs.Calls.{AnswersAsCounter}
 use Rattle.test_turns.proofs.shared.SharedCounter.double.Goals as goal

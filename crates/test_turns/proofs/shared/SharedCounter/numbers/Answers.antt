@@ -1,4 +1,4 @@
-use Rattle.turn_cell.specs.Laws.{turn_reads}
+use Rattle.turn_cell.specs.laws.Laws.{turn_reads}
 use Rattle.test_turns.proofs.Adding.{ok_gives}
 use Rattle.test_turns.proofs.shared.SharedCounter.numbers.Goals as goal
 

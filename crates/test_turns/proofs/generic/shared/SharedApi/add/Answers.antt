@@ -3,7 +3,7 @@ use Rattle.std.specs.Arc.{arc_value}
 use Rattle.api_calls.specs.Item.{Logged, Item}
 use Rattle.turn_cell.specs.declared.view.View.{View}
 use Rattle.turn_cell.specs.Turns.{Turned}
-use Rattle.turn_cell.specs.Laws.{turn_ends, stands_now}
+use Rattle.turn_cell.specs.laws.Laws.{turn_ends, stands_now}
 use Rattle.test_turns.specs.Passes.{Known}
 use Rattle.test_turns.specs.declared.generic.cell.CoreBase.{CoreBase}
 use Rattle.test_turns.specs.Worth.{Counts, is_legal, IsReply, entered_by}

@@ -1,0 +1,9 @@
+pub mod ClaimLaws
+pub mod CoreLaws
+pub mod DecideLaws
+pub mod KeptLaws
+pub mod ListLaws
+pub mod PairLaws
+pub mod PreparedLaws
+pub mod WorkLaws
+pub mod WorkRows

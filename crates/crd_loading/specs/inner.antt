@@ -1,0 +1,4 @@
+pub mod AllFitted
+pub mod Following
+pub mod SetCode
+pub mod ViewCode

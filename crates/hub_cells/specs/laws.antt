@@ -1,0 +1,3 @@
+pub mod FitCode
+pub mod Inside
+pub mod OneToOne

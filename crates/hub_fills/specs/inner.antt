@@ -1,0 +1,4 @@
+pub mod FillsCode
+pub mod FillsFalls
+pub mod LateLaws
+pub mod UnderLaws

@@ -1,0 +1,3 @@
+pub mod RuleFalls
+pub mod SeenSpot
+pub mod Spots

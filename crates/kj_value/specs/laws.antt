@@ -1,0 +1,4 @@
+pub mod Inside
+pub mod JsonCode
+pub mod Last
+pub mod SameLaws

@@ -1,0 +1,3 @@
+pub mod KeyOrder
+pub mod PlanLaws
+pub mod WindowLaws

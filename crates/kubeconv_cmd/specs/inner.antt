@@ -1,0 +1,4 @@
+pub mod Ends
+pub mod Halts
+pub mod Migrations
+pub mod Served

@@ -1,0 +1,10 @@
+pub mod ChangeTurns
+pub mod DeleteTurns
+pub mod MigrationTurns
+pub mod PageTurns
+pub mod RemovalTurns
+pub mod ReplaceTurns
+pub mod StartTurns
+pub mod Turning
+pub mod Working
+pub mod WriteTurns
