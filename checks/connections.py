@@ -8,6 +8,7 @@ Each function of CASES is a case. What its connections are answered is compared 
 uid, which differ in each run; so are the output, which is the one line that tells the address, the error line and the status. Prints
 a line for each case; what differs is told on standard error, and then the status is 1. It takes a few seconds.
 """
+import concurrent.futures
 import fcntl
 import json
 import os
@@ -29,6 +30,8 @@ FILES = ["--crd", TOP / "examples/rules/same.json", "--rules", TOP / "examples/r
 SECONDS, MOMENT = 30, 0.2
 # So many connections have a thread of their own at once, and so many handles each.
 THREADS, HANDLES = 64, 2
+# So many requests two callers make each beside each other, of so many objects.
+TASKS, PLACES = 4_000, 16
 
 OBJECTS = "/apis/example.com/{}/namespaces/default/crontabs"
 DEFINITION = "/apis/apiextensions.k8s.io/v1/customresourcedefinitions/crontabs.example.com"
@@ -41,6 +44,8 @@ MIGRATION = {
 }
 STAMPS = re.compile(rb'"creationTimestamp":"\d{4}-\d\d-\d\dT\d\d:\d\d:\d\dZ"')
 UIDS = re.compile(rb'"uid":"[0-9a-f]{8}-[0-9a-f]{4}-8[0-9a-f]{3}-[89ab][0-9a-f]{3}-')
+NUMBER = re.compile(rb'"resourceVersion":"([0-9]+)"')
+HOST = re.compile(rb'"host":"([^"]*)"')
 
 
 class Wrong(Exception):
@@ -197,7 +202,7 @@ class Server:
         return len(os.listdir(f"/proc/{self.process.pid}/{what}"))
 
 
-def one_connection(program):
+def one_connection_over_tcp(program):
     """Two requests are answered, and the program ends behind the one connection."""
     with Server(program, 1, 2) as server:
         peer = server.connect()
@@ -295,13 +300,107 @@ def an_address_that_is_taken(program):
     same("status, output and errors", (came.returncode, came.stdout, came.stderr), (8, b"", b"kubeconv: listening failed\n"))
 
 
+def found(what, answer):
+    """What such a text of an answer has in its place, or nothing."""
+    shown = what.search(answer)
+    return shown[1].decode() if shown else None
+
+
+def place_of(caller, task):
+    """Which object a task is about: creates, deletes and the others go over all of them in orders of their own."""
+    times, more = {0: (7, 0), 3: (11, 6)}.get(task % 4, (3, 1))
+    return ((task // 4 + caller * 5) * times + more) % PLACES
+
+
+def writes(method, place, host, **more):
+    path = OBJECTS.format("v1") + (f"/o{place}" if method == "PUT" else "")
+    body = {"apiVersion": "example.com/v1", "host": host, "kind": "CronTab", "metadata": {"name": f"o{place}", **more}}
+    return request(method, path, body)
+
+
+def task_of(caller, task, last):
+    """A create, a get, a replace of what this showed, and a delete, one behind the other. No two that are stored have one host."""
+    place, host = place_of(caller, task), f"h{caller}-{task}"
+    if task % 4 == 0:
+        return writes("POST", place, host)
+    if task % 4 == 2:
+        return writes("PUT", place, host, resourceVersion=found(NUMBER, last) or "1")
+    return request("GET" if task % 4 == 1 else "DELETE", f"{OBJECTS.format('v1')}/o{place}")
+
+
+class Told:
+    """What the callers were told together: by its number each object that was written, whether as a new one and with which host; how often
+    each was deleted; and how many writes and deletes there were."""
+
+    def __init__(self):
+        self.written, self.deleted, self.count = {}, [0] * PLACES, 0
+
+    def take(self, caller, task, answer, before):
+        """Takes in an answer to a write or a delete of a caller whose last write had the number `before`, and answers that of its last
+        write now. An answer is a success, or says that another caller came first."""
+        code, place = int(answer[9:12]), place_of(caller, task)
+        same("whether it is an answer of these", code in (200, 201, 404, 409), True)
+        if code >= 400:
+            return before
+        self.count += 1
+        if task % 4 == 3:
+            self.deleted[place] += 1
+            return before
+        number = int(found(NUMBER, answer))
+        same("the host that is stored", found(HOST, answer), f"h{caller}-{task}")
+        same("whether numbers rise for a caller", before < number, True)
+        same("whether a number is told twice", number in self.written, False)
+        self.written[number] = place, code == 201, f"h{caller}-{task}"
+        return number
+
+    def last_of(self, place):
+        """The number and the host of the last write of an object, and how often it was created. A write may come next that replaces what
+        stands, or creates what doesn't, for which a number that nobody was told leaves room: that of a delete."""
+        number, host, created = 0, None, 0
+        for now, (where, creates, stored) in sorted(self.written.items()):
+            if where == place:
+                is_gone = any(between not in self.written for between in range(number + 1, now))
+                same("whether a write may come next", creates if number == 0 else not creates or is_gone, True)
+                number, host, created = now, stored, created + creates
+        return number, host, created
+
+
+def tasks(server, caller, told):
+    peer, last, before = server.connect(), b"", 0
+    for task in range(TASKS):
+        last = peer.ask(task_of(caller, task, last))
+        if task % 4 != 1:
+            before = told.take(caller, task, last, before)
+    peer.end()
+
+
+def two_callers(program):
+    """Two callers make requests beside each other. Each write is one that a caller was told of, and may come behind those before it; and what
+    stands behind them is what the writes come to one after another."""
+    told = Told()
+    with Server(program, 3, 0) as server:
+        with concurrent.futures.ThreadPoolExecutor() as pool:
+            list(pool.map(lambda caller: tasks(server, caller, told), range(2)))
+        peer = server.connect()
+        for place in range(PLACES):
+            shown = peer.ask(request("GET", f"{OBJECTS.format('v1')}/o{place}"))
+            number, host, created = told.last_of(place)
+            stands = created > told.deleted[place]
+            same("how often it was created", created, told.deleted[place] + stands)
+            same("the object", (found(NUMBER, shown), found(HOST, shown)), (str(number), host) if stands else (None, None))
+        next_number = found(NUMBER, peer.ask(writes("POST", PLACES, "h")))
+        same("the number behind all writes", next_number, str(told.count + 2))
+        peer.end()
+
+
 CASES = [
-    one_connection,
+    one_connection_over_tcp,
     three_connections_and_a_worker_of_serve,
     one_more_connection_than_threads,
     connections_that_fail_in_the_middle,
     an_accept_that_fails,
     an_address_that_is_taken,
+    two_callers,
 ]
 
 

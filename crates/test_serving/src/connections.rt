@@ -10,8 +10,8 @@ use kube_meta::Limits;
 use serve_many::{ServeEnd, serve_all};
 use shared_api::SharedApi;
 use std::alloc::Global;
+use std::process::Abort;
 use std::sync::Wait;
-use std::test::*;
 use std::thread::Threads;
 use std::time::Clock;
 use versions_fixture::TwoNames;
@@ -48,41 +48,32 @@ impl Tools<NoTool> for NoneLeft {
     }
 }
 
-fn source(alloc: Global, asked: &[u8]) -> Result<MemSource, Fail>
+fn source(alloc: Global, asked: &[u8]) -> Result<MemSource, NoMemory>
     ensures { IfOk result IsUnread }
 {
     let bytes = asked.to_vec(alloc)?;
     Ok(MemSource::new(bytes, 1_000, Vec::new(alloc)))
 }
 
-fn sink(alloc: Global) -> Result<MemSink, Fail>
+fn sink(alloc: Global) -> Result<MemSink, NoMemory>
     ensures { IfOk result IsUnwritten }
 {
-    Ok(MemSink::new(alloc, 10_000, Vec::new(alloc))?)
+    MemSink::new(alloc, 10_000, Vec::new(alloc))
 }
 
 // A connection that asks this.
-fn connection(alloc: Global, asked: &[u8]) -> Result<MemConnection, Fail> {
-    let source = source(alloc, asked)?;
-    match sink(alloc) {
-        Ok(sink) => Ok(MemConnection::new(alloc, source, sink)?),
-        Err(fail) => {
-            drop(source);
-            Err(fail)
-        }
-    }
-}
-
-fn add(alloc: Global, connections: &mut Vec<MemConnection>, asked: &[u8]) -> Result<(), Fail> {
-    Ok(connections.push(connection(alloc, asked)?)?)
+fn connection<R: Abort>(rt: &R, alloc: Global, asked: &[u8]) -> MemConnection {
+    let source = source(alloc, asked).expect(rt, "a source");
+    let sink = sink(alloc).expect(rt, "a sink");
+    MemConnection::new(alloc, source, sink).expect(rt, "a connection")
 }
 
 // A connection that starts a migration, and one behind it that asks for the object.
-fn two(alloc: Global) -> Result<MemEars, Fail> {
-    let mut connections = Vec::new(alloc);
-    add(alloc, &mut connections, MIGRATES)?;
-    add(alloc, &mut connections, GETS)?;
-    Ok(MemEars::new(alloc, connections, Vec::new(alloc))?)
+fn two<R: Abort>(rt: &R, alloc: Global) -> MemEars {
+    let first = connection(rt, alloc, MIGRATES);
+    let second = connection(rt, alloc, GETS);
+    let connections = vec![in alloc; first, second].expect(rt, "a list");
+    MemEars::new(alloc, connections, Vec::new(alloc)).expect(rt, "ears")
 }
 
 // How serving two connections ends, with a worker, over the small definition.
@@ -90,7 +81,7 @@ fn ended<A: Ears + Send, R: Threads + Wait + Clock + Sync>(
     rt: &R,
     alloc: Global,
     ears: &mut A,
-) -> Result<ServeEnd, Fail> {
+) -> Result<ServeEnd, NoMemory> {
     let (api, mut pass) = SharedApi::open(alloc, TwoNames::new(alloc)?, NoTool, ROOM, 0)?;
     let clock = FixedClock::new(STAMP);
     let end = serve_all(
@@ -110,13 +101,10 @@ fn ended<A: Ears + Send, R: Threads + Wait + Clock + Sync>(
 }
 
 #[test]
-fn no_pass_but_the_first(rt: HostRuntime) -> Result<(), Fail> {
+fn no_pass_but_the_first(rt: HostRuntime) {
     let alloc = rt.alloc();
-    let mut ears = two(alloc)?;
-    let end = ended(&rt, alloc, &mut ears);
-    let is_shown = ears.last_written() == Some(SHOWN);
-    drop(ears);
-    assert_eq!(&rt; end?, ServeEnd::Done);
-    assert!(rt; is_shown);
-    Ok(())
+    let mut ears = two(&rt, alloc);
+    let end = ended(&rt, alloc, &mut ears).expect(&rt, "an end");
+    assert!(rt; end == ServeEnd::Done);
+    assert!(rt; ears.last_written() == Some(SHOWN));
 }
