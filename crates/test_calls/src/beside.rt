@@ -1,9 +1,7 @@
 //! Two orders in two threads, of which the first may wait inside the definition until the second has its answer.
 ghost use Rattle.shared_api.specs.Passes.{IsOf};
 
-use crate::calls::called;
-use crate::fold::verdict;
-use crate::rounds::rounds;
+use crate::calls::{called, made};
 use crate::texts::cut;
 use crate::tool::{Chosen, Post};
 use api_calls::Versions;
@@ -75,34 +73,20 @@ fn shown(answer: &Option<String>) -> &str {
 }
 
 // Two answers, and whether someone waited in vain.
-fn told(alloc: Global, one: &str, two: &str, post: &Post) -> Option<String> {
+fn told(
+    alloc: Global,
+    waits: &Option<String>,
+    meanwhile: &Option<String>,
+    post: &Post,
+) -> Option<String> {
+    let one = shown(waits);
+    let two = shown(meanwhile);
     let spent = if post.is_spent() {
         "spent"
     } else {
         "not spent"
     };
     format!(in alloc; "{one} | {two} | {spent}").ok()
-}
-
-// The same, or what the rounds of two callers come to together with what stands.
-fn judged<V: Versions + Drop, R: Wait>(
-    rt: &R,
-    alloc: Global,
-    api: &SharedApi<V>,
-    pass: &mut Pass<V>,
-    order: &str,
-    one: &str,
-    two: &str,
-    post: &Post,
-) -> Option<String>
-    requires { IsOf V.meaning api.now pass.old }
-    ensures { IsOf V.meaning api.now pass.new }
-{
-    if !order.starts_with('r') {
-        return told(alloc, one, two, post);
-    }
-    let stands = rounds(rt, alloc, api, pass, "look 2")?;
-    verdict(alloc, one, two, stands.as_str())
 }
 
 // What two orders answer, of which the first is given on a pass of its own.
@@ -113,28 +97,19 @@ fn with_pass<V: Versions<Tool = Chosen> + Drop + Send + Sync, R: Threads + Wait 
     pass: &mut Pass<V>,
     one: Pass<V>,
     post: &Post,
-    first: &str,
-    second: &str,
+    orders: &str,
 ) -> Option<String>
     requires pass { IsOf V.meaning api.now pass.old }
     requires one { IsOf V.meaning api.now one }
-    ensures { IsOf V.meaning api.now pass.new }
+    ensures pass { IsOf V.meaning api.now pass.new }
 {
-    let Ok(two) = api.new_pass(rt, pass, Chosen::at(0)) else {
+    let Some(two) = made(rt, api, pass, Chosen::at(0)) else {
         drop(one);
         return None;
     };
+    let (first, second) = orders.split_once(" | ").unwrap_or((orders, ""));
     let (waits, meanwhile) = both(rt, alloc, api, one, two, post, first, second);
-    judged(
-        rt,
-        alloc,
-        api,
-        pass,
-        first,
-        shown(&waits),
-        shown(&meanwhile),
-        post,
-    )
+    told(alloc, &waits, &meanwhile, post)
 }
 
 // The same, where the first caller has this tool.
@@ -150,9 +125,8 @@ fn with_tool<V: Versions<Tool = Chosen> + Drop + Send + Sync, R: Threads + Wait 
     requires { IsOf V.meaning api.now pass.old }
     ensures { IsOf V.meaning api.now pass.new }
 {
-    let one = api.new_pass(rt, pass, tool).ok()?;
-    let (first, second) = orders.split_once(" | ").unwrap_or((orders, ""));
-    with_pass(rt, alloc, api, pass, one, post, first, second)
+    let one = made(rt, api, pass, tool)?;
+    with_pass(rt, alloc, api, pass, one, post, orders)
 }
 
 /// What two orders answer, of which the first may wait: `CALL ORDER | ORDER`.

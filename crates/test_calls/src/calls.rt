@@ -1,9 +1,9 @@
 //! One call, by what a line gives.
+ghost use Rattle.std.specs.Prelude.{IfSome};
 ghost use Rattle.shared_api.specs.Passes.{IsOf};
 
 use crate::gate::hired;
 use crate::links::asked;
-use crate::rounds::rounds;
 use crate::texts::cut;
 use crate::tool::Chosen;
 use api_calls::Versions;
@@ -22,6 +22,37 @@ fn worked(alloc: Global, came: Result<TurnStep, WorkFault>, w: &Worker) -> Optio
     }
 }
 
+// A turn of the pass's worker.
+fn turned<V: Versions + Drop, R: Wait>(
+    rt: &R,
+    alloc: Global,
+    api: &SharedApi<V>,
+    pass: &mut Pass<V>,
+    w: &mut Worker,
+) -> Option<String>
+    requires { IsOf V.meaning api.now pass.old }
+    ensures { IsOf V.meaning api.now pass.new }
+{
+    let came = api.worker_turn(rt, pass, w);
+    worked(alloc, came, w)
+}
+
+// The claim of the pass's worker is given back.
+fn returned<V: Versions + Drop, R: Wait>(
+    rt: &R,
+    alloc: Global,
+    api: &SharedApi<V>,
+    pass: &mut Pass<V>,
+    w: &mut Worker,
+) -> Option<String>
+    requires { IsOf V.meaning api.now pass.old }
+    ensures { IsOf V.meaning api.now pass.new }
+{
+    api.give_back(rt, pass, w);
+    let claim = w.claim;
+    format!(in alloc; "given back, {claim:?}").ok()
+}
+
 /// What an order answers, behind its pass; there is no answer where it is no order, or memory is wanted.
 pub(crate) fn called<V: Versions + Drop, R: Wait>(
     rt: &R,
@@ -37,17 +68,26 @@ pub(crate) fn called<V: Versions + Drop, R: Wait>(
 {
     match *order.as_bytes().first()? {
         b'h' => hired(rt, alloc, api, pass, order),
-        b'r' => rounds(rt, alloc, api, pass, order),
-        b'w' => {
-            let came = api.worker_turn(rt, pass, w);
-            worked(alloc, came, w)
-        }
-        b'b' => {
-            api.give_back(rt, pass, w);
-            let claim = w.claim;
-            format!(in alloc; "given back, {claim:?}").ok()
-        }
+        b'w' => turned(rt, alloc, api, pass, w),
+        b'b' => returned(rt, alloc, api, pass, w),
         _ => asked(rt, alloc, api, pass, order, input),
+    }
+}
+
+/// A pass that is made from another.
+pub(crate) fn made<V: Versions<Tool = Chosen> + Drop, R: Wait>(
+    rt: &R,
+    api: &SharedApi<V>,
+    from: &mut Pass<V>,
+    tool: Chosen,
+) -> Option<Pass<V>>
+    requires { IsOf V.meaning api.now from.old }
+    ensures from { IsOf V.meaning api.now from.new }
+    ensures made { IfSome result (λ p. IsOf V.meaning api.now p) }
+{
+    match api.new_pass(rt, from, tool) {
+        Ok(pass) => Some(pass),
+        Err(_) => None,
     }
 }
 
@@ -67,7 +107,7 @@ fn anew<V: Versions<Tool = Chosen> + Drop, R: Wait>(
 {
     let (_word, given) = cut(order);
     let number = given.parse::<u64>().ok()?;
-    let made = api.new_pass(rt, other, Chosen::at(number)).ok()?;
+    let made = made(rt, api, other, Chosen::at(number))?;
     drop(mem::replace(pass, made));
     String::from_str(alloc, "a new pass").ok()
 }
@@ -85,9 +125,7 @@ fn unite<V: Versions<Tool = Chosen> + Drop, R: Wait>(
     ensures pass { IsOf V.meaning api.now pass.new }
     ensures other { IsOf V.meaning api.now other.new }
 {
-    let Ok(made) = api.new_pass(rt, pass, Chosen::at(0)) else {
-        return None;
-    };
+    let made = made(rt, api, pass, Chosen::at(0))?;
     let gone = mem::replace(other, made);
     api.meet(pass, gone);
     String::from_str(alloc, "met").ok()

@@ -13,6 +13,10 @@ use std::sync::Wait;
 // More than any connection is written.
 const ROOM: usize = 50_000;
 
+// What `~` stands for in a body: as many bytes as a chunk has.
+const CHUNK: &str =
+    "xxxxxxxxxxxxxxxxxxxxxxxxxxxxxxxxxxxxxxxxxxxxxxxxxxxxxxxxxxxxxxxxxxxxxxxxxxxxxxxxxxxxxxxxxxxxxxxxxxxxxxxxxxxxxxxxxxxxxxxxxxxxxxxxxxxxxxxxxxxxxxxxxxxxxxxxxxxxxxxxxxxxxxxxxxxxxxxxxxxxxxxxxxxxxxxxxxxxxxxxxxxxxxxxxxxxxxxxxxxxxxxxxxxxxxxxxxxxxxxxxxxxxxxxxxxxxxxx";
+
 // The two ends of a connection, and whether it is told in short.
 #[derive(Drop)]
 struct Link {
@@ -55,6 +59,8 @@ fn link_of(
 fn request(alloc: Global, order: &str) -> Option<Link> {
     let (method, rest) = cut(order);
     let (target, body) = cut(rest);
+    let body = body.replace(alloc, "~", CHUNK).ok()?;
+    let body = body.as_str();
     let len = body.len();
     let text = format!(in alloc;
         "{method} {target} HTTP/1.1\r\nContent-Length: {len}\r\n\r\n{body}"

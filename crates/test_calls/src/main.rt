@@ -16,7 +16,7 @@
 //!
 //! | line | what is done |
 //! |---|---|
-//! | `METHOD TARGET BODY` | a connection with this one request, whose body may be left out; answered are the code and the body of its response |
+//! | `METHOD TARGET BODY` | a connection with this one request, whose body may be left out, and in which `~` stands for 256 bytes `x`; answered are the code and the body of its response |
 //! | `link PIECE READ WRITE` | a connection whose input comes in pieces of this size, and where the read and the write of these numbers fail, or none for `-`; answered are how it ends, how many bytes of its input are left, and what is written, with `\|` for the end of a line |
 //! | `work`, `back` | a turn of the pass's worker; its claim is given back. The claim is printed behind the answer |
 //! | `hire TURNS TIMES` | a worker of its own, of so many turns, over a gate that says yes so many times: its end, and what the gate was asked |
@@ -25,17 +25,14 @@
 //!
 //! A line `> INPUT` is the input of each `link` of its script, with `|` for the end of a line. A line `& CALL ORDER | ORDER` gives two
 //! orders on passes of their own in two threads, `METHOD ..` or `hire ..`: a call of the definition, `admit`, `form` or `hub_of`, that the
-//! first makes waits until the second has its answer. With `free` nothing waits; there an order may be `rounds NUMBER`, the 4,000 requests of a caller
-//! of this number, and it is told what those of two callers come to. Nothing here has a contract that says what is answered.
+//! first makes waits until the second has its answer. Nothing here has a contract that says what is answered.
 #![tactic(auto)]
 
 mod beside;
 mod calls;
 mod failing;
-mod fold;
 mod gate;
 mod links;
-mod rounds;
 mod script;
 mod texts;
 mod tool;

@@ -10,16 +10,3 @@ pub(crate) fn cut(text: &str) -> (&str, &str) {
         None => (text, ""),
     }
 }
-
-/// What stands between the first place of a text and the next place of another behind it.
-pub(crate) fn part<'a>(text: &'a str, front: &str, back: &str) -> Option<&'a str> {
-    let rest = text.get(text.find(front)?..)?.get(front.len()..)?;
-    rest.get(..rest.find(back)?)
-}
-
-/// The number at which an object stands that is shown so.
-pub(crate) fn number_in(text: &str) -> Option<u64> {
-    part(text, r#""resourceVersion":""#, "\"")?
-        .parse::<u64>()
-        .ok()
-}

@@ -9,13 +9,12 @@ use std::sync::atomic::{AtomicU64, Ordering};
 // How often is asked at most whether the other thread has come so far.
 const TRIES: u64 = 1_000_000_000;
 
-/// A call of the definition, or none.
+/// A call of the definition.
 #[derive(Clone, Copy, Debug, PartialEq, Eq, Drop)]
 pub enum Place {
     Admit,
     Form,
     HubOf,
-    Free,
 }
 
 // The call of this name, by its second letter.
@@ -24,7 +23,6 @@ fn place_of(word: &str) -> Option<Place> {
         b'd' => Some(Place::Admit),
         b'o' => Some(Place::Form),
         b'u' => Some(Place::HubOf),
-        b'r' => Some(Place::Free),
         _ => None,
     }
 }
@@ -56,11 +54,6 @@ impl Post {
             answered: AtomicU64::new(0),
             spent: AtomicU64::new(0),
         }
-    }
-
-    // Nothing waits here, so that none waits for it.
-    fn wait_not(&self) {
-        self.waits.store(1, Ordering::SeqCst);
     }
 
     // Waits until the other thread has its answer.
@@ -105,17 +98,14 @@ impl Chosen {
         Chosen {
             left: number,
             faults: 0,
-            place: Place::Free,
+            place: Place::Admit,
             post: None,
         }
     }
 
-    /// A tool that never fails, and waits at the post the first time that the call of this name is made. With `free` nothing waits.
+    /// A tool that never fails, and waits at the post the first time that the call of this name is made.
     pub fn waiting(word: &str, post: &Arc<Post, Global>) -> Option<Chosen> {
         let place = place_of(word)?;
-        if place == Place::Free {
-            post.wait_not();
-        }
         let post = Arc::try_clone(post).ok()?;
         Some(Chosen {
             left: 0,

@@ -1,5 +1,5 @@
 //! Cases of what no request shows: values and their containers, the outside in memory and of `std`, messages of HTTP, responses in chunks,
-//! links, keys and tokens, the cache of forms, objects that are measured, weights of creates, and responses to reviews.
+//! links, keys and tokens, the cache of forms, objects that are measured, and responses to reviews.
 //!
 //! A line of standard input that begins with `= ` names the part that the lines after it belong to, and one that begins with `#` is a title; both
 //! are printed as they stand. Each other line is a case: its first byte tells what is done with the text behind the second, and the answer
@@ -27,14 +27,11 @@
 //! | `= documents` | `n NUMBER DOCUMENT` | the text of an object with stamps, a number and a uid, which reads back |
 //! | | `m DOCUMENT`, `u DOCUMENT` | what an object measures; the same of one without its name, and its text |
 //! | | `e` | the text of no kept entries, and how many there are after one more |
-//! | `= fixture` | `w`, `f`, `s`, `v` | by the small definition that other tests use: a weight, the forms of a create, the definition with flags, a version |
-//! | `= weights` | `w VERSION BODY` | what a create by the shared definition weighs at whichever version it is stored, in chunks of 256 bytes |
 //! | `= reviews` | `r TEXT`, `e TEXT`, `f` | what is taken of a response; the same of an exchange with this answer, or one that fails, and its request |
 #![tactic(auto)]
 
 mod chunks;
 mod containers;
-mod fixture;
 mod forms;
 mod keys;
 mod links;
@@ -46,7 +43,6 @@ mod spelling;
 mod streams;
 mod told;
 mod values;
-mod weights;
 
 use std::alloc::Global;
 use std::{io, rt};
@@ -72,8 +68,6 @@ fn answer<R: rt::Files>(
         b'm' => messages::answer(alloc, word, text, out),
         b'k' => keys::answer(alloc, word, text, out),
         b'd' => objects::answer(alloc, word, text, out),
-        b'f' => fixture::answer(alloc, word, text, out),
-        b'w' => weights::of_shared(alloc, text, out),
         _ => reviews::answer(alloc, earlier.given.as_str(), word, text, out),
     }
 }

@@ -3,7 +3,6 @@ ghost use Rattle.std.specs.Prelude.{◌≡◌, IfOk, IfSome, option_map};
 ghost use Rattle.kube_meta.specs.View.{object_of, stamp_bytes};
 ghost use Rattle.object_reading.specs.Written.{IsMoment, IsWritable};
 
-use crate::fixture::same_as;
 use crate::spelling::cut;
 use crate::told::{add, add_number};
 use crd_admission::measure_within;
@@ -124,6 +123,16 @@ fn with_number(alloc: Global, o: &mut Object, number: &str, out: &mut String) ->
     number_and_uid(alloc, o, number)?;
     let first = text(alloc, o)?;
     add(out, same_as(first, text_again(alloc, o))?.as_str())
+}
+
+// The first of two texts, where they are the same.
+fn same_as(first: Txt, second: Option<Txt>) -> Option<Txt> {
+    let second = second?;
+    if first.as_str() == second.as_str() {
+        Some(first)
+    } else {
+        None
+    }
 }
 
 // ---- measured
