@@ -5,8 +5,8 @@
 
 PROGRAM is a built kubeconv, or the launcher ./kubeconv. It serves the definition that is built in, at a port of the system's choice.
 Each function of CASES is a case. What its connections are answered is compared byte for byte, but for the moment and the first half of a
-uid, which differ in each run; so are the output, which is the one line that tells the address, the error line and the status. Prints
-a line for each case; what differs is told on standard error, and then the status is 1. It takes a few seconds.
+uid, which differ in each run, and but for the last case, whose answers are held against each other; so are the output, which is the one
+line that tells the address, the error line and the status. Prints a line for each case; what differs is told on standard error, and then the status is 1. It takes a few seconds.
 """
 import concurrent.futures
 import fcntl

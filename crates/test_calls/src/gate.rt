@@ -41,6 +41,20 @@ fn told(alloc: Global, end: WorkEnd, asked: &[TurnStep]) -> Option<String> {
     Some(out)
 }
 
+// How a worker ends. Of it only is said whose the pass is, so that its clauses end here.
+fn end_of<V: Versions + Drop, G: Gate, R: Wait>(
+    rt: &R,
+    api: &SharedApi<V>,
+    pass: &mut Pass<V>,
+    gate: &mut G,
+    turns: u64,
+) -> WorkEnd
+    requires { IsOf V.meaning api.now pass.old }
+    ensures { IsOf V.meaning api.now pass.new }
+{
+    work(rt, api, pass, gate, turns)
+}
+
 /// A worker of so many turns, whose gate says yes so many times: how it ended, and what its gate was asked with.
 pub(crate) fn hired<V: Versions + Drop, R: Wait>(
     rt: &R,
@@ -60,7 +74,7 @@ pub(crate) fn hired<V: Versions + Drop, R: Wait>(
         left,
         asked: Vec::new(alloc),
     };
-    let end = work(rt, api, pass, &mut gate, turns);
+    let end = end_of(rt, api, pass, &mut gate, turns);
     let told = told(alloc, end, gate.asked.as_slice());
     drop(gate);
     told

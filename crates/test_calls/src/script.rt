@@ -1,5 +1,5 @@
 //! Scripts: each line is an order, and is told with its answer.
-ghost use Rattle.std.specs.Prelude.{◌<◌, ◌+◌, ◌^◌};
+ghost use Rattle.std.specs.Prelude.{◌<◌, ◌+◌, ◌^◌, IfSome};
 ghost use Rattle.shared_api.specs.Passes.{IsOf};
 
 use crate::beside::beside;
@@ -81,12 +81,17 @@ struct Team {
     second: Worker,
 }
 
-// Adds a line with its answer to what was told.
-fn add(out: &mut String, line: &str, answer: &str) -> Option<()> {
-    out.push_str(line).ok()?;
-    out.push_str(" => ").ok()?;
-    out.push_str(answer).ok()?;
-    out.push_str("\n").ok()
+// Adds a line with its answer, where there is one, to what was told.
+fn add(out: &mut String, line: &str, answer: &Option<String>) -> Option<()> {
+    match answer {
+        Some(answer) => {
+            out.push_str(line).ok()?;
+            out.push_str(" => ").ok()?;
+            out.push_str(answer.as_str()).ok()?;
+            out.push_str("\n").ok()
+        }
+        None => None,
+    }
 }
 
 // The answer of a line.
@@ -142,8 +147,8 @@ fn run<V: Versions<Tool = Chosen> + Drop + Send + Sync, R: Threads + Wait + Sync
     };
     let mut out = String::new(alloc);
     for line in lines.lines() {
-        let answer = step(rt, alloc, api, first, second, &mut team, line, input)?;
-        add(&mut out, line, answer.as_str())?;
+        let answer = step(rt, alloc, api, first, second, &mut team, line, input);
+        add(&mut out, line, &answer)?;
     }
     Some(out)
 }
@@ -165,6 +170,21 @@ fn by_two<V: Versions<Tool = Chosen> + Drop + Send + Sync, R: Threads + Wait + S
     told
 }
 
+// A server that nothing has happened to, and its first pass.
+fn begun<V: Versions<Tool = Chosen> + Drop>(
+    alloc: Global,
+    versions: V,
+    limits: Limits,
+) -> Option<(SharedApi<V>, Pass<V>)>
+    requires { limits.chunks + limits.window_chunks < 2 ^ 32 }
+    ensures { IfSome result (λ r. IsOf V.meaning r.0 r.1) }
+{
+    match SharedApi::open(alloc, versions, Chosen::at(0), limits, 0) {
+        Ok(begun) => Some(begun),
+        Err(_) => None,
+    }
+}
+
 // The same, over a server.
 fn opened<V: Versions<Tool = Chosen> + Drop + Send + Sync, R: Threads + Wait + Sync>(
     rt: &R,
@@ -174,7 +194,7 @@ fn opened<V: Versions<Tool = Chosen> + Drop + Send + Sync, R: Threads + Wait + S
 ) -> Option<String> {
     let limits = room_of(case.head.as_str());
     let (_sign, input) = cut(case.input.as_str());
-    let (api, mut pass) = SharedApi::open(alloc, versions, Chosen::at(0), limits, 0).ok()?;
+    let (api, mut pass) = begun(alloc, versions, limits)?;
     let told = by_two(rt, alloc, &api, &mut pass, case.lines.as_str(), input);
     drop(pass);
     drop(api);
@@ -205,6 +225,9 @@ fn loaded<R: Threads + Wait + Sync>(
 /// What a script answers over the definition that its first line names.
 pub(crate) fn told<R: Threads + Wait + Sync>(rt: &R, alloc: Global, case: &Case) -> Option<String> {
     let head = case.head.as_str();
+    if head.starts_with("# core") {
+        return test_core::told(alloc, head, case.lines.as_str());
+    }
     if head.starts_with("# fixture") {
         return over(rt, alloc, TwoNames::new(alloc).ok()?, case);
     }

@@ -1,10 +1,10 @@
 //! The turns of workers.
-ghost use Rattle.std.specs.Prelude.{◌≡◌, ◌^◌, ◌<◌, None, Some, IfSome, IsSome, IsTrue, option_map};
+ghost use Rattle.std.specs.Prelude.{◌≡◌, ◌^◌, ◌<◌, ◌≤◌, None, Some, IfSome, IsSome, IsTrue, option_map};
 ghost use Rattle.kube_meta.specs.Plan.{running};
 ghost use Rattle.migrate_core.specs.Moves.{work_of};
 ghost use Rattle.record_store.specs.ByKey.{find};
 ghost use Rattle.record_store.specs.View.{item_key};
-ghost use Rattle.api_core.specs.Prepared.{IsSized, seen_item};
+ghost use Rattle.api_core.specs.Prepared.{FitsAt, IsSized, seen_item};
 ghost use Rattle.api_core.specs.Ready.{IfPrepare, IsNext};
 
 use crate::order::Order;
@@ -25,14 +25,34 @@ fn few_claims<V: Versions>(core: &Core<V>) -> Option<()>
     Some(())
 }
 
+// Both numbers are far from their bounds.
+fn far<V: Versions>(core: &Core<V>) -> Option<()>
+    ensures few { IsSome result → core.now.view.revision ≤ 2 ^ 61 }
+    ensures claims { IsSome result → core.now.view.migrations.plan.last < 2 ^ 61 }
+{
+    young(core)?;
+    few_claims(core)
+}
+
 /// A call with nothing prepared.
 pub fn ask<V: Versions>(core: &mut Core<V>, w: &mut Worker) -> Option<TurnEnd>
     ensures { IfSome result (λ end. IfPrepare end (λ k. IsNext (work_of w.new.claim core.new.view.migrations) k
         core.new.view.store.items (find item_key k core.new.view.store.items))) }
 {
-    young(core)?;
-    few_claims(core)?;
+    far(core)?;
     Some(core.migration_turn(w, None))
+}
+
+// A call with what was prepared of an object that stood at a number. Nothing is said of its end, so that its clauses end here.
+fn turned<V: Versions>(core: &mut Core<V>, w: &mut Worker, rv: u64, ready: Prepared) -> TurnEnd
+    requires few { core.old.view.revision ≤ 2 ^ 61 }
+    requires claims { core.old.view.migrations.plan.last < 2 ^ 61 }
+    requires sized { IsSized ready }
+    requires fits { FitsAt ready.key rv ready (find item_key ready.key core.old.view.store.items) }
+    requires next { IsNext (work_of w.old.claim core.old.view.migrations) ready.key
+        core.old.view.store.items (find item_key ready.key core.old.view.store.items) }
+{
+    core.migration_turn(w, Some((rv, ready)))
 }
 
 // A call with the object of a key, which the last call told, prepared for a version. Its text stays.
@@ -47,10 +67,9 @@ fn touch<V: Versions>(
     requires { IsNext (work_of w.old.claim core.old.view.migrations) key.now
         core.old.view.store.items (find item_key key.now core.old.view.store.items) }
 {
-    young(core)?;
-    few_claims(core)?;
+    far(core)?;
     let moved = moved_under(alloc, core, key, at)?;
-    Some(core.migration_turn(w, Some((rv, moved))))
+    Some(turned(core, w, rv, moved))
 }
 
 // What stands under a key, prepared for a version.
@@ -127,11 +146,10 @@ pub fn gone<V: Versions>(
     w: &mut Worker,
     order: &Order<'_>,
 ) -> Option<TurnEnd> {
-    young(core)?;
-    few_claims(core)?;
+    far(core)?;
     let old = value(alloc, order)?;
     if is_gone(alloc, core, &old.key) {
-        Some(core.migration_turn(w, Some((order.number, old))))
+        Some(turned(core, w, order.number, old))
     } else {
         drop(old);
         None
@@ -156,8 +174,7 @@ pub fn overwritten<V: Versions>(
     w: &mut Worker,
     order: &Order<'_>,
 ) -> Option<TurnEnd> {
-    young(core)?;
-    few_claims(core)?;
+    far(core)?;
     let rv = order.number;
     let target = target_of(alloc, core)?;
     let old = value(alloc, order)?;
@@ -170,7 +187,7 @@ pub fn overwritten<V: Versions>(
                 drop(old);
                 None
             } else {
-                Some(core.migration_turn(w, Some((rv, old))))
+                Some(turned(core, w, rv, old))
             }
         }
         None => {

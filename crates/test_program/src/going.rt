@@ -4,14 +4,18 @@ ghost use Rattle.edge_io.specs.MemoryEars.{IsUnread, IsUnwritten};
 
 use crate::case::{Case, Connections, Outside};
 use crate::input::Input;
-use edge_io::{FixedClock, MemConnection, MemEars, MemFile, MemFiles, MemLink, MemSink, MemSource};
+use edge_io::{
+    Ears, Files, FixedClock, MemConnection, MemEars, MemFile, MemFiles, MemLink, MemSink,
+    MemSource, Sink, Source,
+};
 use kj_value::{Stamp, Txt};
 use kubeconv_cmd::{Words, run};
 use std::alloc::Global;
 use std::sync::Wait;
 use std::thread::Threads;
 use std::time::Clock;
-use tcp_links::{MemLinks, MemReady};
+use tcp_ears::Place;
+use tcp_links::{Links, MemLinks, MemReady};
 
 // The words of a line `words WORD ..`.
 fn words_of(alloc: Global, line: &str) -> Option<Words> {
@@ -173,6 +177,34 @@ fn sinks_of(alloc: Global, outside: Outside) -> Option<(MemSink, MemSink)> {
     Some((output, errors))
 }
 
+// The status of a run. Nothing is said of it, so that whoever runs the program takes over none of its clauses.
+fn status_of<
+    R: Threads + Wait + Clock + Sync,
+    F: Files,
+    S: Source,
+    K: Sink,
+    E: Sink,
+    A: Ears + Place + Send,
+    L: Links,
+>(
+    rt: &R,
+    alloc: Global,
+    words: &Words,
+    files: &mut F,
+    source: &mut S,
+    output: &mut K,
+    errors: &mut E,
+    ears: &mut A,
+    links: &mut L,
+) -> u8 {
+    let clock = FixedClock::new(Stamp {
+        text: *b"2024-01-02T03:04:05Z",
+    });
+    run(
+        rt, alloc, words, files, source, output, errors, ears, links, &clock, 0,
+    )
+}
+
 // Runs the program in this outside.
 fn run_in<R: Threads + Wait + Clock + Sync>(
     rt: &R,
@@ -185,12 +217,7 @@ fn run_in<R: Threads + Wait + Clock + Sync>(
     ears: &mut MemEars,
     links: &mut MemLinks,
 ) -> Option<Outcome> {
-    let clock = FixedClock::new(Stamp {
-        text: *b"2024-01-02T03:04:05Z",
-    });
-    let status = run(
-        rt, alloc, words, files, source, output, errors, ears, links, &clock, 0,
-    );
+    let status = status_of(rt, alloc, words, files, source, output, errors, ears, links);
     let connection = sent(alloc, ears, links)?;
     outcome_of(
         alloc,

@@ -85,24 +85,32 @@ fn answered<R: rt::Files>(
     Some(out)
 }
 
-// Takes in a line that says something of those behind it, or answers a case.
-fn tell(rt: &HostRuntime, alloc: Global, earlier: &mut Earlier, line: &str) -> io::Result<()> {
+fn lined(alloc: Global, line: &str) -> Option<String> {
+    format!(in alloc; "{line}\n").ok()
+}
+
+// Takes in a line that says something of those behind it, or answers a case: what is to be printed.
+fn tell<R: rt::Files>(
+    system: &R,
+    alloc: Global,
+    earlier: &mut Earlier,
+    line: &str,
+) -> Option<String> {
     let text = line.get(2..).unwrap_or("");
-    match line.as_bytes().first() {
-        Some(b'#') => println!(rt; "{}", line),
-        Some(b'=') => {
+    match *line.as_bytes().first()? {
+        b'#' => lined(alloc, line),
+        b'=' => {
             earlier.part = part_of(text);
-            println!(rt; "{}", line)
+            lined(alloc, line)
         }
-        Some(b':') => {
-            earlier.given = String::from_str(alloc, text)?;
-            Ok(())
+        b':' => {
+            earlier.given = String::from_str(alloc, text).ok()?;
+            Some(String::new(alloc))
         }
-        Some(word) => match answered(rt, alloc, earlier, *word, text) {
-            Some(out) => println!(rt; "{}", out.as_str().get(1..).unwrap_or("")),
-            None => println!(rt; "no such case"),
-        },
-        None => println!(rt; "no such case"),
+        word => {
+            let out = answered(system, alloc, earlier, word, text)?;
+            lined(alloc, out.as_str().get(1..).unwrap_or(""))
+        }
     }
 }
 
@@ -122,7 +130,10 @@ fn main(rt: HostRuntime) -> io::Result<()> {
     };
     for line in rt.lines(alloc) {
         let line = line?;
-        tell(&rt, alloc, &mut earlier, line.as_str())?;
+        match tell(&rt, alloc, &mut earlier, line.as_str()) {
+            Some(text) => print!(rt; "{}", text.as_str())?,
+            None => println!(rt; "no such case")?,
+        }
     }
     Ok(())
 }

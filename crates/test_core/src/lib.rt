@@ -1,7 +1,7 @@
 //! Turns of a core one after another, over the small definition of `versions_fixture`.
 //!
-//! Standard input is scripts, each with an empty line behind it. The first line of a script says how much room there is and its name,
-//! and is printed as it is; each other line is an order, which is printed with its answer. What is wanted stands in `stdout`.
+//! They are told by scripts, which are cases of `test_calls`. The first line of a script says how much room there is and its name; each other
+//! line is an order, which is told with its answer.
 //! `@` stands before the place of a version of what is prepared or set, `?` before that of the request, `#` before a number, and
 //! `+` before a weight in chunks, or how many objects or turns are meant. Storage stands at place 1 at first, `v1beta1`, and the other version
 //! is at place 0, `v1`.
@@ -19,8 +19,8 @@
 //! | `1 claim`, `1 back`, `1 forget` | the worker's claim is told, given back, or forgotten |
 //! | `= object NAME`, `= settings`, `= migration`, `= page NAME` | a look. A page is behind a name as it stood at a number, or without a name the first one of now |
 //!
-//! The first line is `# core: ..`, `# small core: ..`, or tells the room for objects, their chunks, superseded records, their chunks and migrations, as
-//! `# core of 2 3 2 3 1: ..`. Behind `# random turns` there are no orders.
+//! The first line is `# core: ..`, `# core small: ..`, or tells the room for objects, their chunks, superseded records, their chunks and migrations, as
+//! `# core of 2 3 2 3 1: ..`. Behind `# core random: ..` there are no orders. Nothing here has a contract that says what is answered.
 #![tactic(auto)]
 
 mod answers;
@@ -32,38 +32,11 @@ mod turns;
 mod workers;
 
 use std::alloc::Global;
-use std::io;
 
-fn told(alloc: Global, head: &str, lines: &str) -> Option<String> {
-    if head.starts_with("# r") {
+/// What a script answers, whose first line begins with `# core`: each of its orders with its answer, a line for each.
+pub fn told(alloc: Global, head: &str, lines: &str) -> Option<String> {
+    if head.starts_with("# core random") {
         return random::random_turns(alloc);
     }
     script::told(alloc, head, lines)
-}
-
-// Whether the script got one line more.
-fn added(script: &mut String, line: &str) -> bool {
-    script.push_str(line).is_ok() && script.push_str("\n").is_ok()
-}
-
-fn main(rt: HostRuntime) -> io::Result<()> {
-    let alloc = rt.alloc();
-    let mut head = String::new(alloc);
-    let mut script = String::new(alloc);
-    for line in rt.lines(alloc) {
-        let line = line?;
-        if line.as_str().is_empty() {
-            println!(rt; "{}", head.as_str())?;
-            match told(alloc, head.as_str(), script.as_str()) {
-                Some(text) => println!(rt; "{}", text.as_str())?,
-                None => println!(rt; "no such script")?,
-            }
-            script = String::new(alloc);
-        } else if line.as_str().starts_with('#') {
-            head = line;
-        } else if !added(&mut script, line.as_str()) {
-            println!(rt; "no memory")?;
-        }
-    }
-    Ok(())
 }
