@@ -12,6 +12,3 @@ mod running;
 pub use calls::{Answer, Call};
 pub use making::make;
 pub use running::run;
-
-#[cfg(test)]
-mod tests;

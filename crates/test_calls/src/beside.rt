@@ -1,7 +1,7 @@
 //! Two orders in two threads, of which the first may wait inside the definition until the second has its answer.
 ghost use Rattle.shared_api.specs.Passes.{IsOf};
 
-use crate::calls::{called, made};
+use crate::calls::{called, pass_from};
 use crate::texts::cut;
 use crate::tool::{Chosen, Post};
 use api_calls::Versions;
@@ -103,7 +103,7 @@ fn with_pass<V: Versions<Tool = Chosen> + Drop + Send + Sync, R: Threads + Wait 
     requires one { IsOf V.meaning api.now one }
     ensures pass { IsOf V.meaning api.now pass.new }
 {
-    let Some(two) = made(rt, api, pass, Chosen::at(0)) else {
+    let Some(two) = pass_from(rt, api, pass, Chosen::at(0)) else {
         drop(one);
         return None;
     };
@@ -125,7 +125,7 @@ fn with_tool<V: Versions<Tool = Chosen> + Drop + Send + Sync, R: Threads + Wait 
     requires { IsOf V.meaning api.now pass.old }
     ensures { IsOf V.meaning api.now pass.new }
 {
-    let one = made(rt, api, pass, tool)?;
+    let one = pass_from(rt, api, pass, tool)?;
     with_pass(rt, alloc, api, pass, one, post, orders)
 }
 

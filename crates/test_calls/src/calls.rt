@@ -75,7 +75,7 @@ pub(crate) fn called<V: Versions + Drop, R: Wait>(
 }
 
 /// A pass that is made from another.
-pub(crate) fn made<V: Versions<Tool = Chosen> + Drop, R: Wait>(
+pub(crate) fn pass_from<V: Versions<Tool = Chosen> + Drop, R: Wait>(
     rt: &R,
     api: &SharedApi<V>,
     from: &mut Pass<V>,
@@ -107,7 +107,7 @@ fn anew<V: Versions<Tool = Chosen> + Drop, R: Wait>(
 {
     let (_word, given) = cut(order);
     let number = given.parse::<u64>().ok()?;
-    let made = made(rt, api, other, Chosen::at(number))?;
+    let made = pass_from(rt, api, other, Chosen::at(number))?;
     drop(mem::replace(pass, made));
     String::from_str(alloc, "a new pass").ok()
 }
@@ -125,7 +125,7 @@ fn unite<V: Versions<Tool = Chosen> + Drop, R: Wait>(
     ensures pass { IsOf V.meaning api.now pass.new }
     ensures other { IsOf V.meaning api.now other.new }
 {
-    let made = made(rt, api, pass, Chosen::at(0))?;
+    let made = pass_from(rt, api, pass, Chosen::at(0))?;
     let gone = mem::replace(other, made);
     api.meet(pass, gone);
     String::from_str(alloc, "met").ok()

@@ -3,7 +3,7 @@ ghost use Rattle.std.specs.Prelude.{◌<◌, ◌+◌, ◌^◌, IfSome};
 ghost use Rattle.shared_api.specs.Passes.{IsOf};
 
 use crate::beside::beside;
-use crate::calls::{called_beside, made};
+use crate::calls::{called_beside, pass_from};
 use crate::failing::Failing;
 use crate::texts::cut;
 use crate::tool::Chosen;
@@ -164,7 +164,7 @@ fn by_two<V: Versions<Tool = Chosen> + Drop + Send + Sync, R: Threads + Wait + S
 ) -> Option<String>
     requires { IsOf V.meaning api.now pass.old }
 {
-    let mut other = made(rt, api, pass, Chosen::at(0))?;
+    let mut other = pass_from(rt, api, pass, Chosen::at(0))?;
     let told = run(rt, alloc, api, pass, &mut other, lines, input);
     drop(other);
     told

@@ -20,10 +20,11 @@
 //! | `= object NAME`, `= settings`, `= migration`, `= page NAME` | a look. A page is behind a name as it stood at a number, or without a name the first one of now |
 //!
 //! The first line is `# core: ..`, `# core small: ..`, or tells the room for objects, their chunks, superseded records, their chunks and migrations, as
-//! `# core of 2 3 2 3 1: ..`. Behind `# core random: ..` there are no orders. Nothing here has a contract that says what is answered.
+//! `# core of 2 3 2 3 1: ..`. Behind `# core random: ..` and `# core laws: ..` there are no orders. Nothing here has a contract that says what is answered.
 #![tactic(auto)]
 
 mod answers;
+mod laws;
 mod looks;
 mod order;
 mod random;
@@ -37,6 +38,9 @@ use std::alloc::Global;
 pub fn told(alloc: Global, head: &str, lines: &str) -> Option<String> {
     if head.starts_with("# core random") {
         return random::random_turns(alloc);
+    }
+    if head.starts_with("# core laws") {
+        return laws::in_order(alloc);
     }
     script::told(alloc, head, lines)
 }

@@ -2,18 +2,19 @@
 //! behind it.
 ghost use Rattle.std.specs.Prelude.{IfOk};
 ghost use Rattle.edge_io.specs.MemoryEars.{IsUnread, IsUnwritten};
+ghost use Rattle.shared_api.specs.Passes.{IsOf};
 
-use api_calls::{NoTool, Tools};
-use edge_io::{Ears, FixedClock, MemConnection, MemEars, MemSink, MemSource};
+use api_calls::{NoTool, Tools, Versions};
+use edge_io::{Clock, Ears, FixedClock, MemConnection, MemEars, MemSink, MemSource};
 use kj_value::{NoMemory, Stamp};
 use kube_meta::Limits;
 use serve_many::{ServeEnd, serve_all};
-use shared_api::SharedApi;
+use shared_api::{Pass, SharedApi};
 use std::alloc::Global;
 use std::process::Abort;
 use std::sync::Wait;
 use std::thread::Threads;
-use std::time::Clock;
+use std::time;
 use versions_fixture::TwoNames;
 
 const ROOM: Limits = Limits {
@@ -76,25 +77,39 @@ fn two<R: Abort>(rt: &R, alloc: Global) -> MemEars {
     MemEars::new(alloc, connections, Vec::new(alloc)).expect(rt, "ears")
 }
 
-// How serving two connections ends, with a worker, over the small definition.
-fn ended<A: Ears + Send, R: Threads + Wait + Clock + Sync>(
+// How serving two connections ends, with a worker. Nothing is said of it, so that the clauses of that end here.
+fn end_of<
+    'x,
+    V: Versions + Drop + Send + Sync,
+    A: Ears + Send,
+    M: Tools<V::Tool>,
+    C: Clock + Sync,
+    R: Threads + Wait + time::Clock + Sync,
+>(
+    rt: &'x R,
+    alloc: Global,
+    api: &'x SharedApi<V>,
+    pass: &mut Pass<V>,
+    tools: &mut M,
+    ears: &mut A,
+    clock: &'x C,
+) -> ServeEnd
+where
+    V::Tool: Send,
+    requires { IsOf V.meaning api.now pass.old }
+{
+    serve_all(rt, alloc, api, pass, tools, ears, clock, 1, Some(2))
+}
+
+// The same, over the small definition.
+fn ended<A: Ears + Send, R: Threads + Wait + time::Clock + Sync>(
     rt: &R,
     alloc: Global,
     ears: &mut A,
 ) -> Result<ServeEnd, NoMemory> {
     let (api, mut pass) = SharedApi::open(alloc, TwoNames::new(alloc)?, NoTool, ROOM, 0)?;
     let clock = FixedClock::new(STAMP);
-    let end = serve_all(
-        rt,
-        alloc,
-        &api,
-        &mut pass,
-        &mut NoneLeft,
-        ears,
-        &clock,
-        1,
-        Some(2),
-    );
+    let end = end_of(rt, alloc, &api, &mut pass, &mut NoneLeft, ears, &clock);
     drop(pass);
     drop(api);
     Ok(end)

@@ -1,7 +1,7 @@
 use Rattle.std.proofs.Common.{[], ◌∷◌, None, Some, lit<, sym}
 use Rattle.core_laws.specs.declared.calls.Call.TheVariants.{GiveBack, Work}
 use Rattle.versions_fixture.specs.Example.{example}
-use Rattle.core_laws.proofs.tests.nothing_moves.Goals as goal
+use Rattle.test_core.proofs.laws.answers.Goals as goal
 
 pub run-requires : goal.run-requires
 run-requires g c = (
