@@ -10,7 +10,7 @@ ghost use Rattle.api_core.specs.Prepared.{Sees};
 ghost use Rattle.call_texts.specs.Cached.{AreCached, WasSeen};
 ghost use Rattle.call_texts.specs.Told.{Came, decided};
 
-use crate::given::Given;
+use crate::context::Context;
 use crate::refused::Refused;
 use api_calls::{BORN_END, ConvFault, Refusal, Reply, Versions, is_served};
 use api_core::{Peeked, Seen};
@@ -18,7 +18,7 @@ use form_cache::FormCache;
 use kj_value::{NoMemory, Txt};
 use kube_meta::Key;
 
-impl<V: Versions> Given<'_, V> {
+impl<V: Versions> Context<'_, V> {
     /// The reply that shows at a version what is stored.
     pub fn show(&self, tool: &mut V::Tool, v: u8, seen: &Seen) -> Result<Reply, ConvFault>
         requires known { v < (V.meaning self.now.versions.now).count }

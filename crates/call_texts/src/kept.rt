@@ -7,7 +7,7 @@ ghost use Rattle.call_texts.specs.PageTexts.{Adds};
 ghost use Rattle.form_cache.specs.Forms.{Form, forms_of, found as found_in, kept, shows, used};
 ghost use Rattle.form_cache.specs.Limits.{longest_text};
 
-use crate::given::Given;
+use crate::context::Context;
 use api_calls::Versions;
 use api_core::Seen;
 use form_cache::{FormCache, TEXT_BYTES};
@@ -71,7 +71,7 @@ fn keep(cache: &mut FormCache, key: &Key, number: u64, v: u8, text: Txt)
     let _ = cache.keep(key, number, v, text);
 }
 
-impl<V: Versions> Given<'_, V> {
+impl<V: Versions> Context<'_, V> {
     /// The text that was kept of what was seen at a version, copied.
     pub(crate) fn kept_text(
         &self,

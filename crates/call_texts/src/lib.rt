@@ -7,8 +7,8 @@
 #![tactic(auto)]
 
 // The definition that is shown by, and the parts of every text.
+mod context;
 mod documents;
-mod given;
 mod kept;
 mod page_text;
 mod place;
@@ -20,8 +20,8 @@ mod get;
 mod list;
 mod raw;
 
+pub use context::Context;
 pub use documents::{reply_text, stored_text};
-pub use given::Given;
 pub use page_text::{add, comma_before, group_version, quoted};
 pub use place::place_of;
 pub use refused::{

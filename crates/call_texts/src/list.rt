@@ -16,7 +16,7 @@ ghost use Rattle.call_texts.specs.Told.{Came, decided};
 ghost use Rattle.call_texts.specs.Listing.{AddsItems, AreSeenShown, IsSeen, ShowsSeen, place_behind};
 ghost use Rattle.call_texts.specs.PageTexts.{Adds, comma_before};
 
-use crate::given::Given;
+use crate::context::Context;
 use crate::page_text::{add, add_back, add_front, comma_before};
 use crate::refused::Refused;
 use api_calls::{ConvFault, Refusal, Reply, Token, Versions, Why, one_stored, write_token};
@@ -72,7 +72,7 @@ fn token_behind(alloc: Global, page: &Page) -> Result<Txt, NoMemory>
     }
 }
 
-impl<V: Versions> Given<'_, V> {
+impl<V: Versions> Context<'_, V> {
     // Adds the object that stands at a place of a page: the text that was kept, or one that is made and then kept.
     fn add_item(
         &self,

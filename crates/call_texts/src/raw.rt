@@ -7,14 +7,14 @@ ghost use Rattle.api_calls.specs.State.{state};
 ghost use Rattle.api_core.specs.Prepared.{Sees};
 ghost use Rattle.call_texts.specs.Told.{Came, decided};
 
-use crate::given::Given;
+use crate::context::Context;
 use crate::refused::Refused;
 use api_calls::{Refusal, Reply, Versions};
 use api_core::{Peeked, Seen};
 use kj_value::{NoMemory, Txt};
 use kube_meta::Key;
 
-impl<V: Versions> Given<'_, V> {
+impl<V: Versions> Context<'_, V> {
     /// The reply to a raw get of what a look saw.
     pub fn got_raw(&self, key: &Key, looked: Result<Peeked, NoMemory>) -> Result<Reply, Refused>
         ensures came { (log : List Item) → IfOk looked (λ p. Sees (V.meaning self.now.versions.now) log key.now p)

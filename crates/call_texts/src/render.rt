@@ -4,14 +4,14 @@ ghost use Rattle.kube_meta.specs.View.{ObjectView};
 ghost use Rattle.api_calls.specs.Replies.{IsShown};
 ghost use Rattle.api_calls.specs.Versions.{IsStored};
 
-use crate::given::Given;
+use crate::context::Context;
 use api_calls::{BORN_END, ConvFault, Versions, one_stored, uid_of};
 use api_core::Seen;
 use document_text::numbered;
 use itoa::Buffer;
 use kj_value::{NoMemory, Txt};
 
-impl<V: Versions> Given<'_, V> {
+impl<V: Versions> Context<'_, V> {
     // The text that shows what is stored at the version at which it stands: the stored one, with a number and a uid. It
     // converts nothing, and reads no value.
     fn as_it_stands(&self, seen: &Seen) -> Result<Txt, NoMemory>

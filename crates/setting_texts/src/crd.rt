@@ -6,12 +6,12 @@ ghost use Rattle.api_calls.specs.Versions.{AreFlags, IsStoredList, versions_of};
 ghost use Rattle.call_texts.specs.Told.{Came, decided};
 
 use api_calls::{Flags, Reply, StoredList, Versions};
-use call_texts::{Given, Refused};
+use call_texts::{Context, Refused};
 use kj_value::Txt;
 
 /// The reply that shows the definition with its flags and its stored versions.
 pub fn definition<V: Versions>(
-    lent: &Given<'_, V>,
+    lent: &Context<'_, V>,
     flags: &Flags,
     stored: &StoredList,
 ) -> Result<Reply, Refused>

@@ -13,7 +13,7 @@ ghost use Rattle.call_texts.specs.PageTexts.{Adds, joined_from};
 ghost use Rattle.setting_texts.specs.inner.SettingTexts.{member_text};
 
 use api_calls::{Flags, Reply, Versions, is_served, priority, priority_total};
-use call_texts::{Given, Refused, add, comma_before, group_version, quoted};
+use call_texts::{Context, Refused, add, comma_before, group_version, quoted};
 use kj_value::{NoMemory, Txt};
 use std::alloc::Global;
 
@@ -73,7 +73,7 @@ fn first_of(versions: &[u8]) -> u8
 }
 
 // Adds a version as the group tells it.
-fn add_member<V: Versions>(lent: &Given<'_, V>, v: u8, text: &mut String) -> Result<(), NoMemory>
+fn add_member<V: Versions>(lent: &Context<'_, V>, v: u8, text: &mut String) -> Result<(), NoMemory>
     requires { v < (V.meaning lent.now.versions.now).count }
     ensures { OnOk result (Adds (string_bytes text.old) (member_text (V.meaning lent.now.versions.now) v) (string_bytes text.new)) }
 {
@@ -89,7 +89,7 @@ fn add_member<V: Versions>(lent: &Given<'_, V>, v: u8, text: &mut String) -> Res
 
 // Adds versions, with commas between.
 fn add_members<V: Versions>(
-    lent: &Given<'_, V>,
+    lent: &Context<'_, V>,
     versions: &[u8],
     text: &mut String,
 ) -> Result<(), NoMemory>
@@ -104,7 +104,7 @@ fn add_members<V: Versions>(
 }
 
 // The text of the group with these versions, of which the first is to be preferred.
-fn group_text<V: Versions>(lent: &Given<'_, V>, versions: &[u8]) -> Result<Txt, NoMemory>
+fn group_text<V: Versions>(lent: &Context<'_, V>, versions: &[u8]) -> Result<Txt, NoMemory>
     requires known { Each (λ v. v < (V.meaning lent.now.versions.now).count) versions.now }
     requires some { 0 < length versions.now }
     ensures { IfOk result (λ t. (v : ℕ) (vs : List ℕ) → versions.now ≡ v ∷ vs
@@ -126,7 +126,7 @@ fn group_text<V: Versions>(lent: &Given<'_, V>, versions: &[u8]) -> Result<Txt, 
 }
 
 /// The reply that shows the group with the versions that are served.
-pub fn group<V: Versions>(lent: &Given<'_, V>, flags: &Flags) -> Result<Reply, Refused>
+pub fn group<V: Versions>(lent: &Context<'_, V>, flags: &Flags) -> Result<Reply, Refused>
     requires { AreFlags (V.meaning lent.now.versions.now).count flags.now }
     ensures { (s : State) → flags.now ≡ s.flags → Came ⊥ (GroupReply (V.meaning lent.now.versions.now) s) (decided result) None }
 {

@@ -11,7 +11,7 @@ ghost use Rattle.call_texts.specs.PageTexts.{Adds, joined_from};
 ghost use Rattle.setting_texts.specs.inner.SettingTexts.{migration_text, resource_text, target_text, untargeted_text};
 
 use api_calls::{Refusal, Reply, Versions};
-use call_texts::{Given, Refused, add, comma_before, quoted};
+use call_texts::{Context, Refused, add, comma_before, quoted};
 use kj_value::{NoMemory, Txt};
 use kube_meta::Condition;
 use migrate_core::{MigrationItem, MigrationItems, named};
@@ -36,7 +36,7 @@ fn sort(items: &mut Vec<MigrationItem>) -> Result<(), NoMemory>
 }
 
 // What stands between the name and the condition of each migration.
-pub(crate) fn resource_text<V: Versions>(lent: &Given<'_, V>) -> Result<Txt, NoMemory>
+pub(crate) fn resource_text<V: Versions>(lent: &Context<'_, V>) -> Result<Txt, NoMemory>
     ensures { IfOk result (λ t. t.bytes ≡ resource_text (V.meaning lent.now.versions.now)) }
 {
     let group = quoted(lent.alloc, lent.versions.group().as_str())?;
@@ -55,7 +55,7 @@ pub(crate) fn resource_text<V: Versions>(lent: &Given<'_, V>) -> Result<Txt, NoM
 
 // Adds the document of a migration up to its target, given what stands between its name and its condition.
 pub(crate) fn add_untargeted<V: Versions>(
-    lent: &Given<'_, V>,
+    lent: &Context<'_, V>,
     resource: &str,
     name: &str,
     condition: Condition,
@@ -78,7 +78,7 @@ pub(crate) fn add_untargeted<V: Versions>(
 
 // Adds the target of a migration, and the end of its document.
 pub(crate) fn add_target<V: Versions>(
-    lent: &Given<'_, V>,
+    lent: &Context<'_, V>,
     target: u8,
     text: &mut String,
 ) -> Result<(), NoMemory>
@@ -93,7 +93,7 @@ pub(crate) fn add_target<V: Versions>(
 
 // Adds the document of a migration, given what stands between its name and its condition.
 fn add_migration<V: Versions>(
-    lent: &Given<'_, V>,
+    lent: &Context<'_, V>,
     resource: &str,
     migration: &MigrationItem,
     text: &mut String,
@@ -115,7 +115,7 @@ fn add_migration<V: Versions>(
 
 // The text of a migration.
 fn migration_text<V: Versions>(
-    lent: &Given<'_, V>,
+    lent: &Context<'_, V>,
     migration: &MigrationItem,
 ) -> Result<Txt, NoMemory>
     requires { migration.now.target < (V.meaning lent.now.versions.now).count }
@@ -129,7 +129,7 @@ fn migration_text<V: Versions>(
 
 // Adds the documents of migrations, with commas between.
 fn add_migrations<V: Versions>(
-    lent: &Given<'_, V>,
+    lent: &Context<'_, V>,
     items: &[MigrationItem],
     text: &mut String,
 ) -> Result<(), NoMemory>
@@ -145,7 +145,10 @@ fn add_migrations<V: Versions>(
 }
 
 // The text of a list of migrations.
-fn migrations_text<V: Versions>(lent: &Given<'_, V>, items: MigrationItems) -> Result<Txt, NoMemory>
+fn migrations_text<V: Versions>(
+    lent: &Context<'_, V>,
+    items: MigrationItems,
+) -> Result<Txt, NoMemory>
     requires { HaveTargets (V.meaning lent.now.versions.now) items }
     ensures { IfOk result (λ t. t.bytes ≡ text_of (migration_list (V.meaning lent.now.versions.now) items)) }
 {
@@ -166,7 +169,7 @@ fn migrations_text<V: Versions>(lent: &Given<'_, V>, items: MigrationItems) -> R
 
 /// The reply that shows the migration of a name.
 pub fn one_migration<V: Versions>(
-    lent: &Given<'_, V>,
+    lent: &Context<'_, V>,
     name: &str,
     looked: Result<MigrationItems, NoMemory>,
 ) -> Result<Reply, Refused>
@@ -187,7 +190,7 @@ pub fn one_migration<V: Versions>(
 
 /// The reply that shows all migrations.
 pub fn all_migrations<V: Versions>(
-    lent: &Given<'_, V>,
+    lent: &Context<'_, V>,
     looked: Result<MigrationItems, NoMemory>,
 ) -> Result<Reply, Refused>
     requires { IfOk looked (λ qs. HaveTargets (V.meaning lent.now.versions.now) qs) }

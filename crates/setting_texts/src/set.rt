@@ -7,11 +7,11 @@ ghost use Rattle.api_calls.specs.Versions.{AreFlags, IsStoredList, versions_of};
 ghost use Rattle.call_texts.specs.Told.{Came};
 
 use api_calls::{Flags, Reply, StoredList, Versions};
-use call_texts::{Given, Refused, not_read};
+use call_texts::{Context, Refused, not_read};
 use kj_value::Txt;
 
 /// An empty text with room for the definition's.
-pub(crate) fn room_to_show<V: Versions>(lent: &Given<'_, V>) -> Result<Txt, Refused>
+pub(crate) fn room_to_show<V: Versions>(lent: &Context<'_, V>) -> Result<Txt, Refused>
     ensures empty { IfOk result (λ t. t.bytes ≡ []) }
     ensures room { IfOk result (λ t. (V.meaning lent.now.versions.now).show_room ≤ t.room) }
     ensures refused { IfErr result (λ e. refusal_of e.refusal ≡ no_memory) }
@@ -22,7 +22,7 @@ pub(crate) fn room_to_show<V: Versions>(lent: &Given<'_, V>) -> Result<Txt, Refu
 
 /// The reply that shows the definition with these flags and this stored list. It takes no memory.
 pub fn showing<V: Versions>(
-    lent: &Given<'_, V>,
+    lent: &Context<'_, V>,
     flags: &Flags,
     stored: &StoredList,
     mut text: Txt,
@@ -38,7 +38,7 @@ pub fn showing<V: Versions>(
 }
 
 /// The flags that a body sets, and an empty text with room for the definition's.
-pub fn flags_in<V: Versions>(lent: &Given<'_, V>, bytes: &[u8]) -> Result<(Flags, Txt), Refused>
+pub fn flags_in<V: Versions>(lent: &Context<'_, V>, bytes: &[u8]) -> Result<(Flags, Txt), Refused>
     ensures sets { IfOk result (λ r. (V.meaning lent.now.versions.now).sets bytes.now r.0) }
     ensures legal { IfOk result (λ r. AreFlags (V.meaning lent.now.versions.now).count r.0) }
     ensures empty { IfOk result (λ r. r.1.bytes ≡ []) }

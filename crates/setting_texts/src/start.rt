@@ -14,13 +14,13 @@ ghost use Rattle.setting_texts.specs.Starting.{HasTarget, HasTexts, IsUnstarted,
 use crate::migrations::{add_target, add_untargeted, resource_text};
 use crate::start_body::started_name;
 use api_calls::{Refusal, Reply, Versions};
-use call_texts::{Given, Refused, add, not_started};
+use call_texts::{Context, Refused, add, not_started};
 use kj_value::{NoMemory, Txt};
 use kube_meta::Condition;
 use migrate_core::StartEnd;
 
 // The text of a running migration of a name, up to its target.
-fn untargeted<V: Versions>(lent: &Given<'_, V>, name: &str) -> Result<String, NoMemory>
+fn untargeted<V: Versions>(lent: &Context<'_, V>, name: &str) -> Result<String, NoMemory>
     ensures { IfOk result (λ t. string_bytes t ≡ untargeted_text (V.meaning lent.now.versions.now) name.now Running) }
 {
     let resource = resource_text(lent)?;
@@ -30,7 +30,11 @@ fn untargeted<V: Versions>(lent: &Given<'_, V>, name: &str) -> Result<String, No
 }
 
 // The text of a running migration of a name to a version, given what stands before its target.
-fn running_text<V: Versions>(lent: &Given<'_, V>, front: &str, target: u8) -> Result<Txt, NoMemory>
+fn running_text<V: Versions>(
+    lent: &Context<'_, V>,
+    front: &str,
+    target: u8,
+) -> Result<Txt, NoMemory>
     requires { target < (V.meaning lent.now.versions.now).count }
     ensures { IfOk result (λ t. (name : List ℕ) → front.now ≡ untargeted_text (V.meaning lent.now.versions.now) name Running
         → t.bytes ≡ running_text (V.meaning lent.now.versions.now) name target) }
@@ -43,7 +47,7 @@ fn running_text<V: Versions>(lent: &Given<'_, V>, front: &str, target: u8) -> Re
 
 // The text of a running migration of a name to each version: which of them is the target shows in the turn, and
 // behind it no memory may be wanted.
-fn running_texts<V: Versions>(lent: &Given<'_, V>, name: &str) -> Result<Vec<Txt>, NoMemory>
+fn running_texts<V: Versions>(lent: &Context<'_, V>, name: &str) -> Result<Vec<Txt>, NoMemory>
     ensures texts { IfOk result (λ ts. HasTexts (V.meaning lent.now.versions.now) name.now 0 ts.items) }
     ensures count { IfOk result (λ ts. length ts.items ≡ (V.meaning lent.now.versions.now).count) }
 {
@@ -58,7 +62,7 @@ fn running_texts<V: Versions>(lent: &Given<'_, V>, name: &str) -> Result<Vec<Txt
 
 /// The name of the migration that a body starts, twice, and its text to each version.
 pub fn start_in<V: Versions>(
-    lent: &Given<'_, V>,
+    lent: &Context<'_, V>,
     bytes: &[u8],
 ) -> Result<(Txt, Txt, Vec<Txt>), Refused>
     ensures starts { IfOk result (λ r. Starts (V.meaning lent.now.versions.now) bytes.now r.0.bytes) }
@@ -78,7 +82,7 @@ pub fn start_in<V: Versions>(
 
 /// The answer to a start that ended so. Where it entered an item it takes no memory.
 pub fn started<V: Versions>(
-    lent: &Given<'_, V>,
+    lent: &Context<'_, V>,
     end: StartEnd,
     name: Txt,
     mut texts: Vec<Txt>,

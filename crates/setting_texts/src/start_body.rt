@@ -10,7 +10,7 @@ ghost use Rattle.api_calls.specs.Documents.{migration_kind, migration_version};
 ghost use Rattle.api_calls.specs.Versions.{Refused};
 
 use api_calls::{AdmitFault, Cause, OBJECT_LEVELS, Versions, Why};
-use call_texts::Given;
+use call_texts::Context;
 use kj_value::{JFields, JVal, JsonFault, NoMemory, Rule, Txt, read};
 use kube_meta::name_ok;
 use std::alloc::Global;
@@ -95,7 +95,7 @@ fn broken(alloc: Global, path: &str, rule: Rule) -> Result<Cause, NoMemory>
 }
 
 // The fields of the object that the body is.
-fn read_start<V: Versions>(lent: &Given<'_, V>, bytes: &[u8]) -> Result<JFields, AdmitFault>
+fn read_start<V: Versions>(lent: &Context<'_, V>, bytes: &[u8]) -> Result<JFields, AdmitFault>
     ensures reads { IfOk result (ReadsObject bytes.now) }
     ensures refused { IfErr result (Refused (RefusesStart (V.meaning lent.now.versions.now) bytes.now) ⊥) }
 {
@@ -113,7 +113,7 @@ fn read_start<V: Versions>(lent: &Given<'_, V>, bytes: &[u8]) -> Result<JFields,
 }
 
 // The fields of the StorageVersionMigration that the body is.
-fn migration_fields<V: Versions>(lent: &Given<'_, V>, bytes: &[u8]) -> Result<JFields, AdmitFault>
+fn migration_fields<V: Versions>(lent: &Context<'_, V>, bytes: &[u8]) -> Result<JFields, AdmitFault>
     ensures reads { IfOk result (ReadsObject bytes.now) }
     ensures kind { IfOk result (IsOfKind migration_version migration_kind) }
     ensures refused { IfErr result (Refused (RefusesStart (V.meaning lent.now.versions.now) bytes.now) ⊥) }
@@ -129,7 +129,7 @@ fn migration_fields<V: Versions>(lent: &Given<'_, V>, bytes: &[u8]) -> Result<JF
 }
 
 // Whether `spec.resource` names the definition's group and plural.
-fn is_of_definition<V: Versions>(lent: &Given<'_, V>, fields: &JFields) -> bool
+fn is_of_definition<V: Versions>(lent: &Context<'_, V>, fields: &JFields) -> bool
     ensures { IsTrue result ↔ IsOfDefinition (V.meaning lent.now.versions.now) fields.now }
 {
     let resource = inside(fields.get("spec"), "resource");
@@ -145,7 +145,7 @@ fn is_of_definition<V: Versions>(lent: &Given<'_, V>, fields: &JFields) -> bool
 /// `apiVersion` or `kind`; as invalid a `metadata.name` that is no name of an object (`Name`), and a `spec.resource` that
 /// isn't the definition's group and plural (`Wrong`). Other fields aren't looked at. `Tool` never comes.
 pub(crate) fn started_name<V: Versions>(
-    lent: &Given<'_, V>,
+    lent: &Context<'_, V>,
     bytes: &[u8],
 ) -> Result<Txt, AdmitFault>
     ensures starts { IfOk result (λ t. Starts (V.meaning lent.now.versions.now) bytes.now t.bytes) }

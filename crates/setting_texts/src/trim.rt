@@ -14,7 +14,7 @@ ghost use Rattle.setting_texts.specs.Changing.{HasVersion, ShowsChange, is_trimm
 use crate::set::{room_to_show, showing};
 use api_calls::{Cause, Flags, Refusal, Reply, StoredList, Versions};
 use api_core::TrimEnd;
-use call_texts::{Given, Refused, bad_definition, not_read};
+use call_texts::{Context, Refused, bad_definition, not_read};
 use kj_value::{NoMemory, Rule, Txt};
 use kube_meta::{Key, KeySpot};
 use std::alloc::Global;
@@ -42,7 +42,10 @@ fn unknown_version(alloc: Global) -> Result<Cause, NoMemory>
 }
 
 /// The versions that a body keeps, and an empty text with room for the definition's.
-pub fn keep_in<V: Versions>(lent: &Given<'_, V>, bytes: &[u8]) -> Result<(StoredList, Txt), Refused>
+pub fn keep_in<V: Versions>(
+    lent: &Context<'_, V>,
+    bytes: &[u8],
+) -> Result<(StoredList, Txt), Refused>
     ensures keeps { IfOk result (λ r. (V.meaning lent.now.versions.now).keeps bytes.now (versions_of r.0)) }
     ensures legal { IfOk result (λ r. IsStoredList (V.meaning lent.now.versions.now).count r.0) }
     ensures empty { IfOk result (λ r. r.1.bytes ≡ []) }
@@ -59,7 +62,11 @@ pub fn keep_in<V: Versions>(lent: &Given<'_, V>, bytes: &[u8]) -> Result<(Stored
 }
 
 // A version that isn't kept and has to be: the storage version, or that of the object of a key.
-fn held<V: Versions>(lent: &Given<'_, V>, v: u8, key: Option<KeySpot>) -> Result<Refusal, NoMemory>
+fn held<V: Versions>(
+    lent: &Context<'_, V>,
+    v: u8,
+    key: Option<KeySpot>,
+) -> Result<Refusal, NoMemory>
     requires { v < (V.meaning lent.now.versions.now).count }
     ensures { IfOk result (λ r. refusal_of r ≡ still_stored ((V.meaning lent.now.versions.now).name v) key) }
 {
@@ -70,7 +77,7 @@ fn held<V: Versions>(lent: &Given<'_, V>, v: u8, key: Option<KeySpot>) -> Result
 
 /// The answer to a trim that ended so. Where it entered an item it takes no memory.
 pub fn trimmed<V: Versions>(
-    lent: &Given<'_, V>,
+    lent: &Context<'_, V>,
     end: TrimEnd,
     flags: &Flags,
     stored: &StoredList,

@@ -9,7 +9,7 @@ ghost use Rattle.shared_api.specs.Passes.{IsOf};
 use crate::cell::{CoreBase, CoreCell};
 use api_calls::Versions;
 use api_core::Core;
-use call_texts::Given;
+use call_texts::Context;
 use form_cache::{FormCache, PASS_FORMS};
 use kj_value::NoMemory;
 use kube_meta::Limits;
@@ -153,11 +153,11 @@ impl<V: Versions + Drop> SharedApi<V> {
     }
 
     // What no call changes, lent.
-    pub(crate) fn given(&self) -> Given<'_, V>
+    pub(crate) fn given(&self) -> Context<'_, V>
         ensures versions { result.versions.now ≡ self.now.base.versions }
         ensures boot { result.boot ≡ self.now.base.boot }
     {
-        Given {
+        Context {
             alloc: self.alloc,
             versions: &*self.versions,
             boot: self.boot,

@@ -20,7 +20,7 @@ use crate::cell::{CoreBase, CoreCell};
 use crate::settle::settle;
 use crate::writing::enter_new;
 use api_calls::{Incoming, Refusal, Reply, Versions, is_served};
-use call_texts::{Given, Refused, not_admitted, place_of, plain};
+use call_texts::{Context, Refused, not_admitted, place_of, plain};
 use kj_value::Stamp;
 use kube_meta::Shape;
 use std::sync::Wait;
@@ -31,7 +31,7 @@ use write_texts::{Fresh, Tried, fresh_of, ready_new, told_new};
 // becomes the form that is stored, that form isn't converted.
 fn try_new<V: Versions + Drop, R: Wait>(
     rt: &R,
-    lent: &Given<'_, V>,
+    lent: &Context<'_, V>,
     turn: &Turn<CoreCell<V>>,
     pass: &mut PassOf<CoreCell<V>, CoreBase<V>>,
     tool: &mut V::Tool,
@@ -65,7 +65,7 @@ fn try_new<V: Versions + Drop, R: Wait>(
 // Enters a new object. Where another's item moved the storage version meanwhile, it is prepared again, and converted.
 fn enter<V: Versions + Drop, R: Wait>(
     rt: &R,
-    lent: &Given<'_, V>,
+    lent: &Context<'_, V>,
     turn: &Turn<CoreCell<V>>,
     pass: &mut PassOf<CoreCell<V>, CoreBase<V>>,
     tool: &mut V::Tool,
@@ -102,7 +102,7 @@ fn enter<V: Versions + Drop, R: Wait>(
 // The answer to a create.
 fn create_with<V: Versions + Drop, R: Wait>(
     rt: &R,
-    lent: &Given<'_, V>,
+    lent: &Context<'_, V>,
     turn: &Turn<CoreCell<V>>,
     pass: &mut PassOf<CoreCell<V>, CoreBase<V>>,
     tool: &mut V::Tool,

@@ -20,7 +20,7 @@ use crate::look::look;
 use crate::removing::{mark, remove};
 use crate::settle::settle;
 use api_calls::{Refusal, Reply, Versions, Why, is_served};
-use call_texts::{Given, Refused, place_of, plain};
+use call_texts::{Context, Refused, place_of, plain};
 use kj_value::{NoMemory, Stamp};
 use kube_meta::Key;
 use std::sync::Wait;
@@ -30,7 +30,7 @@ use write_texts::{DeleteTry, Leaving, is_served_delete, leaving_of, told_marked,
 // Looks at the object, makes ready what its delete takes, outside the turn, and enters it in one.
 fn try_delete<V: Versions + Drop, R: Wait>(
     rt: &R,
-    lent: &Given<'_, V>,
+    lent: &Context<'_, V>,
     turn: &Turn<CoreCell<V>>,
     pass: &mut PassOf<CoreCell<V>, CoreBase<V>>,
     tool: &mut V::Tool,
@@ -75,7 +75,7 @@ fn try_delete<V: Versions + Drop, R: Wait>(
 // Deletes an object. Where another's item stands between, it is looked at again.
 fn delete_with<V: Versions + Drop, R: Wait>(
     rt: &R,
-    lent: &Given<'_, V>,
+    lent: &Context<'_, V>,
     turn: &Turn<CoreCell<V>>,
     pass: &mut PassOf<CoreCell<V>, CoreBase<V>>,
     tool: &mut V::Tool,

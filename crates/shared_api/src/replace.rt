@@ -24,7 +24,7 @@ use crate::look::look;
 use crate::writing::{enter_over, enter_release};
 use api_calls::{Incoming, Refusal, Reply, Versions, is_served, one_stored, one_weight};
 use api_core::Peeked;
-use call_texts::{Given, Refused, not_admitted, place_of, plain};
+use call_texts::{Context, Refused, not_admitted, place_of, plain};
 use kube_meta::{Key, Shape};
 use std::sync::Wait;
 use turn_cell::{PassOf, Turn};
@@ -36,7 +36,7 @@ use write_texts::{
 // becomes the form that is stored, that form isn't converted.
 fn put<V: Versions + Drop, R: Wait>(
     rt: &R,
-    lent: &Given<'_, V>,
+    lent: &Context<'_, V>,
     turn: &Turn<CoreCell<V>>,
     pass: &mut PassOf<CoreCell<V>, CoreBase<V>>,
     tool: &mut V::Tool,
@@ -78,7 +78,7 @@ fn is_there(change: &Change, storage: u8) -> bool
 // Enters an update for a storage version, unless it is the value that stands there.
 fn attempt<V: Versions + Drop, R: Wait>(
     rt: &R,
-    lent: &Given<'_, V>,
+    lent: &Context<'_, V>,
     turn: &Turn<CoreCell<V>>,
     pass: &mut PassOf<CoreCell<V>, CoreBase<V>>,
     tool: &mut V::Tool,
@@ -110,7 +110,7 @@ fn attempt<V: Versions + Drop, R: Wait>(
 // stands as before.
 fn enter<V: Versions + Drop, R: Wait>(
     rt: &R,
-    lent: &Given<'_, V>,
+    lent: &Context<'_, V>,
     turn: &Turn<CoreCell<V>>,
     pass: &mut PassOf<CoreCell<V>, CoreBase<V>>,
     tool: &mut V::Tool,
@@ -148,7 +148,7 @@ fn enter<V: Versions + Drop, R: Wait>(
 // Removes an object that is being deleted and loses its last finalizer.
 fn release<V: Versions + Drop, R: Wait>(
     rt: &R,
-    lent: &Given<'_, V>,
+    lent: &Context<'_, V>,
     turn: &Turn<CoreCell<V>>,
     pass: &mut PassOf<CoreCell<V>, CoreBase<V>>,
     tool: &mut V::Tool,
@@ -180,7 +180,7 @@ fn release<V: Versions + Drop, R: Wait>(
 // Enters an update, or the removal that it is.
 fn commit<V: Versions + Drop, R: Wait>(
     rt: &R,
-    lent: &Given<'_, V>,
+    lent: &Context<'_, V>,
     turn: &Turn<CoreCell<V>>,
     pass: &mut PassOf<CoreCell<V>, CoreBase<V>>,
     tool: &mut V::Tool,
@@ -213,7 +213,7 @@ fn commit<V: Versions + Drop, R: Wait>(
 // The answer to a replace.
 fn replace_with<V: Versions + Drop, R: Wait>(
     rt: &R,
-    lent: &Given<'_, V>,
+    lent: &Context<'_, V>,
     turn: &Turn<CoreCell<V>>,
     pass: &mut PassOf<CoreCell<V>, CoreBase<V>>,
     tool: &mut V::Tool,

@@ -8,7 +8,7 @@ ghost use Rattle.write_texts.specs.Replacing.{Changes, Misses, RefusesReplace, U
 use crate::update::{Update, update_of};
 use api_calls::{Admitted, ConvFault, Refusal, Versions};
 use api_core::Seen;
-use call_texts::{Given, Refused, no_finalizer};
+use call_texts::{Context, Refused, no_finalizer};
 use kj_value::Txt;
 use kube_meta::{Key, Object};
 use std::alloc::Global;
@@ -55,7 +55,7 @@ fn seen_at(alloc: Global, key: &Key, found: Option<Seen>, over: u64) -> Result<S
 
 // What a replace makes of an admitted value over what was seen.
 fn updated<V: Versions>(
-    lent: &Given<'_, V>,
+    lent: &Context<'_, V>,
     tool: &mut V::Tool,
     seen: &Seen,
     new: Object,
@@ -80,7 +80,7 @@ fn updated<V: Versions>(
 
 /// What a replace of the object at the admitted number changes; or why it changes nothing.
 pub fn changing<V: Versions>(
-    lent: &Given<'_, V>,
+    lent: &Context<'_, V>,
     tool: &mut V::Tool,
     v: u8,
     key: &Key,

@@ -18,7 +18,7 @@ use crate::seal::Sealed;
 use crate::tried::Tried;
 use api_calls::{Admitted, ConvFault, Incoming, Refusal, Reply, Versions, one_weight};
 use api_core::{CreateEnd, Prepared};
-use call_texts::{Given, Refused};
+use call_texts::{Context, Refused};
 use kj_value::{NoMemory, Stamp, Txt};
 use kube_meta::{Key, Object, Shape};
 
@@ -44,7 +44,7 @@ fn new_value(mut hub: Object, stamp: Stamp) -> Object
 /// What a create stores and shows, and the object's name for a refusal that tells it. Where there is a shape, by which the value
 /// becomes the form that is stored, that form isn't converted.
 pub fn ready_new<V: Versions>(
-    lent: &Given<'_, V>,
+    lent: &Context<'_, V>,
     tool: &mut V::Tool,
     storage: u8,
     new: &Fresh,
@@ -68,7 +68,7 @@ pub fn ready_new<V: Versions>(
 
 /// How the end of a create is told. It takes no memory.
 pub fn told_new<V: Versions>(
-    lent: &Given<'_, V>,
+    lent: &Context<'_, V>,
     end: CreateEnd,
     sealed: Sealed,
     name: Txt,
@@ -98,7 +98,7 @@ pub fn told_new<V: Versions>(
 
 /// What a create makes of an admitted value.
 pub fn fresh_of<V: Versions>(
-    lent: &Given<'_, V>,
+    lent: &Context<'_, V>,
     input: &Incoming<'_>,
     stamp: Stamp,
     admitted: Admitted,

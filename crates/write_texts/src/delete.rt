@@ -19,7 +19,7 @@ use crate::mark::{holding_of, prepare_mark};
 use crate::seal::Sealed;
 use api_calls::{BORN_END, ConvFault, Refusal, Reply, Versions, is_served, one_stored};
 use api_core::{DeleteEnd, Peeked, Prepared, Seen};
-use call_texts::{Given, Refused, plain};
+use call_texts::{Context, Refused, plain};
 use kj_value::{NoMemory, Stamp, Txt};
 use kube_meta::{Key, Object};
 
@@ -52,7 +52,7 @@ pub enum DeleteTry {
 
 // The value of what was seen, with a deletion stamp, ready to be stored and to be shown at a version.
 fn mark_of<V: Versions>(
-    lent: &Given<'_, V>,
+    lent: &Context<'_, V>,
     tool: &mut V::Tool,
     v: u8,
     storage: u8,
@@ -78,7 +78,7 @@ fn mark_of<V: Versions>(
 
 // What is ready of a delete of what was seen, which a plain one converts nothing for.
 fn leaving_seen<V: Versions>(
-    lent: &Given<'_, V>,
+    lent: &Context<'_, V>,
     tool: &mut V::Tool,
     v: u8,
     storage: u8,
@@ -119,7 +119,7 @@ fn leaving_seen<V: Versions>(
 
 /// What is ready of a delete by a look, or why there is nothing.
 pub fn leaving_of<V: Versions>(
-    lent: &Given<'_, V>,
+    lent: &Context<'_, V>,
     tool: &mut V::Tool,
     v: u8,
     key: &Key,
@@ -156,7 +156,7 @@ pub fn leaving_of<V: Versions>(
 
 /// How the end of a plain delete is told. Where it entered an item it takes no memory.
 pub fn told_removed<V: Versions>(
-    lent: &Given<'_, V>,
+    lent: &Context<'_, V>,
     end: DeleteEnd,
     key: &Key,
     text: Txt,
@@ -178,7 +178,7 @@ pub fn told_removed<V: Versions>(
 
 /// How the end of a mark is told. Where it entered an item it takes no memory.
 pub fn told_marked<V: Versions>(
-    lent: &Given<'_, V>,
+    lent: &Context<'_, V>,
     end: DeleteEnd,
     key: &Key,
     sealed: Sealed,
@@ -205,7 +205,7 @@ pub fn told_marked<V: Versions>(
 }
 
 // No object has the key.
-fn gone<V: Versions>(lent: &Given<'_, V>, key: &Key) -> Result<Reply, Refused>
+fn gone<V: Versions>(lent: &Context<'_, V>, key: &Key) -> Result<Reply, Refused>
     ensures { (decided result ≡ Err (not_found key.now.name)) ⊎ (decided result ≡ Err no_memory) }
 {
     let name = Txt::of(lent.alloc, key.name())?;

@@ -9,7 +9,7 @@ ghost use Rattle.api_calls.specs.Uid.{uid};
 ghost use Rattle.write_texts.specs.inner.Deleting.{deleted_details};
 
 use api_calls::{BORN_END, Versions, uid_of};
-use call_texts::Given;
+use call_texts::Context;
 use kj_value::{JFields, JVal, NoMemory, Txt, write};
 use std::alloc::Global;
 
@@ -26,7 +26,7 @@ fn put_text(alloc: Global, fields: &mut JFields, name: &str, value: &str) -> Res
 }
 
 // Which object was deleted.
-fn which<V: Versions>(lent: &Given<'_, V>, name: &str, id: Txt) -> Result<JVal, NoMemory>
+fn which<V: Versions>(lent: &Context<'_, V>, name: &str, id: Txt) -> Result<JVal, NoMemory>
     ensures { IfOk result (λ j. json j ≡ deleted_details (V.meaning lent.now.versions.now) name.now id.bytes) }
 {
     let mut fields = JFields::new(lent.alloc);
@@ -47,7 +47,7 @@ fn which<V: Versions>(lent: &Given<'_, V>, name: &str, id: Txt) -> Result<JVal, 
     Ok(JVal::Obj(fields))
 }
 
-fn status<V: Versions>(lent: &Given<'_, V>, name: &str, id: Txt) -> Result<JVal, NoMemory>
+fn status<V: Versions>(lent: &Context<'_, V>, name: &str, id: Txt) -> Result<JVal, NoMemory>
     ensures { IfOk result (λ j. json j ≡ deleted_status (V.meaning lent.now.versions.now) name.now id.bytes) }
 {
     let details = which(lent, name, id)?;
@@ -67,7 +67,7 @@ fn status<V: Versions>(lent: &Given<'_, V>, name: &str, id: Txt) -> Result<JVal,
 
 /// The text of the Status of the object of a name, which the entry `born` created, when it was deleted.
 pub(crate) fn deleted_text<V: Versions>(
-    lent: &Given<'_, V>,
+    lent: &Context<'_, V>,
     name: &str,
     born: u64,
 ) -> Result<Txt, NoMemory>

@@ -13,7 +13,7 @@ use crate::prepare::prepare_write;
 use crate::seal::Sealed;
 use api_calls::{ConvFault, Versions, one_weight, read_form};
 use api_core::Prepared;
-use call_texts::Given;
+use call_texts::Context;
 use kj_value::{NoMemory, Stamp};
 use kube_meta::{Key, Object};
 
@@ -45,7 +45,7 @@ fn stamped(mut hub: Object, stamp: Stamp) -> Object
 /// What a stored text tells of an object's finalizers and its deletion stamp, which are the same at every version. It
 /// converts nothing.
 pub(crate) fn holding_of<V: Versions>(
-    lent: &Given<'_, V>,
+    lent: &Context<'_, V>,
     at: u8,
     bytes: &[u8],
 ) -> Result<Holding, NoMemory>
@@ -62,7 +62,7 @@ pub(crate) fn holding_of<V: Versions>(
 /// The value of an object with a deletion stamp, ready to be stored at a version and to be shown at another, and the
 /// value. It takes no turn. `Tool` comes only where the tool's count of faults rose.
 pub fn prepare_mark<V: Versions>(
-    lent: &Given<'_, V>,
+    lent: &Context<'_, V>,
     tool: &mut V::Tool,
     v: u8,
     storage: u8,

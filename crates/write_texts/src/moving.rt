@@ -8,7 +8,7 @@ ghost use Rattle.api_core.specs.Prepared.{IsSized};
 
 use api_calls::{ConvFault, Versions, one_stored, one_weight, stored_fits};
 use api_core::{Prepared, Seen};
-use call_texts::Given;
+use call_texts::Context;
 use kj_value::Txt;
 
 // Whether a text takes no more than so many chunks of 256 bytes, of which there is one at least.
@@ -38,7 +38,7 @@ pub(crate) fn within<V: Versions>(text: &Txt, weight: u64) -> Result<(), ConvFau
 
 // The stored text at another version of what a stored text says.
 fn restored<V: Versions>(
-    lent: &Given<'_, V>,
+    lent: &Context<'_, V>,
     tool: &mut V::Tool,
     target: u8,
     at: u8,
@@ -57,7 +57,7 @@ fn restored<V: Versions>(
 
 /// What was seen of an object, ready to be stored at another version.
 pub fn moved<V: Versions>(
-    lent: &Given<'_, V>,
+    lent: &Context<'_, V>,
     tool: &mut V::Tool,
     target: u8,
     seen: Seen,

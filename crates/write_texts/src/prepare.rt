@@ -12,13 +12,13 @@ use crate::moving::within;
 use crate::seal::{Sealed, both, seal};
 use api_calls::{ConvFault, Versions, one_weight, stored_fits};
 use api_core::Prepared;
-use call_texts::{Given, stored_text};
+use call_texts::{Context, stored_text};
 use kj_value::Txt;
 use kube_meta::{Key, Object, Shape, copy_shaped};
 
 // The object in whose form a hub value is stored at a version: by a shape that was made for it, or converted.
 fn stored_form<V: Versions>(
-    lent: &Given<'_, V>,
+    lent: &Context<'_, V>,
     tool: &mut V::Tool,
     storage: u8,
     hub: &Object,
@@ -41,7 +41,7 @@ fn stored_form<V: Versions>(
 // The text in which a hub value is stored at a version, and the one that shows it at another. Where the two versions are
 // one, it is made once.
 fn texts<V: Versions>(
-    lent: &Given<'_, V>,
+    lent: &Context<'_, V>,
     tool: &mut V::Tool,
     v: u8,
     storage: u8,
@@ -75,7 +75,7 @@ fn texts<V: Versions>(
 /// A hub value, ready to be stored at a version and to be shown at another. Where there is a shape, by which it becomes the
 /// form that is stored, that form isn't converted. It takes no turn. `Tool` comes only where the tool's count of faults rose.
 pub fn prepare_write<V: Versions>(
-    lent: &Given<'_, V>,
+    lent: &Context<'_, V>,
     tool: &mut V::Tool,
     v: u8,
     storage: u8,

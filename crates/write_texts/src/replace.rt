@@ -18,14 +18,14 @@ use crate::seal::{Sealed, seal};
 use crate::tried::Tried;
 use api_calls::{BORN_END, ConvFault, Refusal, Reply, Versions};
 use api_core::{Prepared, ReleaseEnd, ReplaceEnd};
-use call_texts::{Given, Refused};
+use call_texts::{Context, Refused};
 use kj_value::Txt;
 use kube_meta::{Key, Shape};
 
 /// What a replace stores and shows, and the object's name for a refusal that tells it. Where there is a shape, by which the value
 /// becomes the form that is stored, that form isn't converted.
 pub fn ready_over<V: Versions>(
-    lent: &Given<'_, V>,
+    lent: &Context<'_, V>,
     tool: &mut V::Tool,
     storage: u8,
     key: &Key,
@@ -61,7 +61,7 @@ pub fn ready_over<V: Versions>(
 
 /// What a replace shows that removes the object, and the object's name for a refusal that tells it.
 pub fn ready_release<V: Versions>(
-    lent: &Given<'_, V>,
+    lent: &Context<'_, V>,
     tool: &mut V::Tool,
     key: &Key,
     change: &Change,
@@ -83,7 +83,7 @@ pub fn ready_release<V: Versions>(
 
 /// How the end of a replace is told. It takes no memory.
 pub fn told_over<V: Versions>(
-    lent: &Given<'_, V>,
+    lent: &Context<'_, V>,
     end: ReplaceEnd,
     sealed: Sealed,
     name: Txt,
@@ -116,7 +116,7 @@ pub fn told_over<V: Versions>(
 
 /// How the end of a release is told. It takes no memory.
 pub fn told_release<V: Versions>(
-    lent: &Given<'_, V>,
+    lent: &Context<'_, V>,
     end: ReleaseEnd,
     sealed: Sealed,
     name: Txt,
@@ -145,7 +145,7 @@ pub fn told_release<V: Versions>(
 
 /// The reply that shows the value which stands there.
 pub fn unchanged<V: Versions>(
-    lent: &Given<'_, V>,
+    lent: &Context<'_, V>,
     tool: &mut V::Tool,
     change: &Change,
 ) -> Result<Reply, Refused>
