@@ -15,7 +15,8 @@ is what only other public clauses reach. Files that neither reaches serve privat
 What a file says is the first sentence of its head, as far as a row has room; OWN_WORDS has it for the files whose head says too little.
 The dictionary stands behind the line MARK of the document, and the counts between BEGIN and END. What stands before is written by hand;
 --check looks at that too: that it names no file that isn't there or isn't reached, and no definition, as "`A`, `B` of
-`crate/specs/File`", or file, as "`A`, `B` of `crate`", that isn't there.
+`crate/specs/File`", or file, as "`A`, `B` of `crate`", that isn't there. And it looks where files stand: what a public clause reaches
+stands in `specs/` itself, what only private clauses reach in `specs/inner/`, and laws that other crates cite in `specs/laws/`.
 """
 import os
 import re
@@ -367,6 +368,18 @@ def faults(tree, program, others, document):
         yield "stale: run python3 tools/definitions.py --dictionary"
 
 
+def misplaced(tree, reached):
+    """What stands apart and has to be read, or stands among what has to be read and hasn't to."""
+    for module in tree.paths:
+        if NOT_COUNTED.search(crate_of(module)) or module.rpartition(".")[2] in ("Lib", "inner", "laws"):
+            continue
+        apart = re.search(r"\.specs\.(?:inner|laws)\.", module) is not None
+        if apart and module in reached:
+            yield f"{tree.paths[module]}: a public clause reaches it: move it to specs/"
+        elif not apart and module not in reached:
+            yield f"{tree.paths[module]}: no public clause reaches it: move it to specs/inner/, or to specs/laws/ where other crates cite it"
+
+
 def find_words(tree, wanted):
     """Prints where each word is defined."""
     for module in tree.paths:
@@ -386,9 +399,9 @@ def main(words):
         with open(DOCUMENT, "w", encoding="utf-8") as it:
             it.write(text)
     elif words == ["--check"]:
-        wrong = list(faults(tree, program, others, read(DOCUMENT)))
-        for line in wrong:
-            print(f"{DOCUMENT}: {line}", file=sys.stderr)
+        wrong = [f"{DOCUMENT}: {line}" for line in faults(tree, program, others, read(DOCUMENT))]
+        wrong += misplaced(tree, {*program, *others})
+        print(*wrong, sep="\n", end="\n" if wrong else "", file=sys.stderr)
         return 1 if wrong else 0
     elif words:
         raise SystemExit(__doc__)

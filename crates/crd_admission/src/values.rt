@@ -83,7 +83,7 @@ fn value(left: u64, v: &JVal) -> Option<u64>
 }
 
 #[cycle(value)]
-#[tactic(auto, using(kj_value::specs::Inside::item_depth))]
+#[tactic(auto, using(kj_value::specs::laws::Inside::item_depth))]
 pub(crate) fn list(left: u64, items: &JItems) -> Option<u64>
     ensures { Leaves left (length (text_of (list (items_of items.now)))) result }
 {
@@ -107,7 +107,7 @@ fn item(left: u64, x: &JVal) -> Option<u64>
 }
 
 #[cycle(value)]
-#[tactic(auto, using(kj_value::specs::Inside::field_depth))]
+#[tactic(auto, using(kj_value::specs::laws::Inside::field_depth))]
 fn object(left: u64, fields: &JFields) -> Option<u64>
     ensures { Leaves left (length (text_of (object (members_of fields.now)))) result }
 {

@@ -92,7 +92,7 @@ pub(crate) fn try_value(alloc: Global, place: Place, v: &JVal) -> Result<Option<
 }
 
 #[cycle(try_value)]
-#[tactic(auto, using(kj_value::specs::Inside::item_depth))]
+#[tactic(auto, using(kj_value::specs::laws::Inside::item_depth))]
 fn try_items(alloc: Global, items: &JItems) -> Result<Option<Found>, NoMemory>
     ensures { IfOk result (λ o. option_map found_of o
         ≡ items_refusal Place.VersionObject 0 (items_of items.now)) }
@@ -107,7 +107,7 @@ fn try_items(alloc: Global, items: &JItems) -> Result<Option<Found>, NoMemory>
 }
 
 #[cycle(try_value)]
-#[tactic(auto, using(kj_value::specs::Inside::field_depth))]
+#[tactic(auto, using(kj_value::specs::laws::Inside::field_depth))]
 fn try_fields(alloc: Global, place: Place, fields: &JFields) -> Result<Option<Found>, NoMemory>
     ensures { IfOk result (λ o. option_map found_of o
         ≡ fields_refusal place [] (members_of fields.now)) }

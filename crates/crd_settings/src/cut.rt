@@ -126,7 +126,7 @@ fn with_flagged_field(
 }
 
 // The fields of the version at a place.
-#[tactic(auto, using(kj_value::specs::Inside::field_depth))]
+#[tactic(auto, using(kj_value::specs::laws::Inside::field_depth))]
 fn with_flagged(alloc: Global, cut: Cut, v: usize, fields: &[Field]) -> Result<Cut, NoMemory>
     requires { members_depth (members_of (map pair_of fields.now)) ≤ MAX_JSON_LEVELS }
     ensures { IfOk result (λ after. GoesOn cut after
@@ -173,7 +173,7 @@ fn with_version_item(alloc: Global, cut: Cut, v: usize, version: &JVal) -> Resul
     with_version(alloc, begun, v, version)
 }
 
-#[tactic(auto, using(kj_value::specs::Inside::item_depth))]
+#[tactic(auto, using(kj_value::specs::laws::Inside::item_depth))]
 fn with_versions(alloc: Global, cut: Cut, versions: &[JVal]) -> Result<Cut, NoMemory>
     requires { items_depth (items_of (map json versions.now)) ≤ MAX_JSON_LEVELS }
     ensures { IfOk result (λ after. GoesOn cut after
@@ -233,7 +233,7 @@ fn with_spec_field(alloc: Global, cut: Cut, i: usize, field: &Field) -> Result<C
     with_spec_value(alloc, named, name, &field.value)
 }
 
-#[tactic(auto, using(kj_value::specs::Inside::field_depth))]
+#[tactic(auto, using(kj_value::specs::laws::Inside::field_depth))]
 fn with_spec_fields(alloc: Global, cut: Cut, fields: &[Field]) -> Result<Cut, NoMemory>
     requires { members_depth (members_of (map pair_of fields.now)) ≤ MAX_JSON_LEVELS }
     ensures { IfOk result (λ after. GoesOn cut after

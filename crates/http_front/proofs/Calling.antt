@@ -36,8 +36,8 @@ use Rattle.kube_meta.specs.Names.{is_namespace}
 use Rattle.call_texts.specs.Told.{told}
 use Rattle.shared_api.specs.Answered.{CallsOn}
 use Rattle.call_texts.specs.Places.{IsPlace}
-use Rattle.http_front.specs.Replies.{Front, MayStamp, Replies, WantsMemory, about, refused, wants_memory}
-use Rattle.http_front.specs.declared.reply.About.TheVariants.{Objects}
+use Rattle.request_replies.specs.Replies.{Front, MayStamp, Replies, WantsMemory, about, refused, wants_memory}
+use Rattle.request_replies.specs.declared.about.About.TheVariants.{Objects}
 use Rattle.http_front.specs.Steps.{StepAnswers, IsSameBut, Quiet, added}
 use Rattle.http_front.specs.Going.{PassGoes, MayCall, MayRoute, Routed, Tells, decided}
 use Rattle.http_front.specs.Going as going

@@ -10,8 +10,8 @@ use Rattle.api_calls.specs.Reply.{ReplyView}
 use Rattle.api_calls.specs.Status.{code_bad_gateway}
 use Rattle.http_routes.specs.Routes.{Route}
 use Rattle.http_routes.specs.Routes as route
-use Rattle.http_front.specs.Replies.{Front, RoutedReply, about, no_method, refused, replied, wants_memory}
-use Rattle.http_front.specs.declared.reply.About.TheVariants.{Objects}
+use Rattle.request_replies.specs.Replies.{Front, RoutedReply, about, no_method, refused, replied, wants_memory}
+use Rattle.request_replies.specs.declared.about.About.TheVariants.{Objects}
 use Rattle.http_front.specs.Steps.{Point, StepAnswers}
 use Rattle.http_front.specs.Talk.{Exchange, Steps}
 use Rattle.http_front.specs.Failures.{failures}

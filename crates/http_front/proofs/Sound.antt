@@ -28,8 +28,8 @@ use Rattle.api_calls.specs.Status.{code_of_refusal, code_bad_gateway}
 use Rattle.api_calls.specs.Values.{has_finalizer, is_marked, is_forbidden, is_release}
 use Rattle.api_calls.specs.Writes.{with_room, create_decision, replaced, removed, ReplaceDecision, DeleteDecision}
 use Rattle.api_calls.specs.declared.flags.Flags.{Flags}
-use Rattle.http_front.specs.Replies.{replied}
-use Rattle.http_front.specs.declared.reply.About.{About}
+use Rattle.request_replies.specs.Replies.{replied}
+use Rattle.request_replies.specs.declared.about.About.{About}
 
 abbrev pub IsSuccess : ℕ → Type 0
 IsSuccess code = (code ≡ code_ok) ⊎ (code ≡ code_created)

@@ -14,9 +14,9 @@ use Rattle.api_calls.specs.declared.refusal.Refusal.{Refusal}
 use Rattle.http_routes.specs.Routes.{Route}
 use Rattle.http_routes.specs.Routes as route
 use Rattle.turn_cell.specs.declared.view.View.{View}
-use Rattle.http_front.specs.Replies.{Front, RoutedReply, WantsMemory, refused, no_method, wants_memory}
+use Rattle.request_replies.specs.Replies.{Front, RoutedReply, WantsMemory, refused, no_method, wants_memory}
 use Rattle.http_front.specs.Steps.{Quiet, added}
-use Rattle.http_front.specs.declared.reply.About.{About}
+use Rattle.request_replies.specs.declared.about.About.{About}
 use Rattle.http_front.specs.declared.reply.Answer.{Answer}
 use Rattle.http_front.specs.declared.reply.Answer.TheVariants as answers
 

@@ -1,5 +1,4 @@
 pub mod Faults
-pub mod Replies
 pub mod Steps
 pub mod Talk
 pub mod One

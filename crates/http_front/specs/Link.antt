@@ -8,7 +8,7 @@ use Rattle.http_wire.specs.Response.{says}
 use Rattle.http_wire.specs.Stream.{Stops, closed, closing, spent, torn, refused}
 use Rattle.http_wire.specs.declared.WireFault.{WireFault}
 use Rattle.http_front.specs.Faults.{fault_words}
-use Rattle.http_front.specs.Replies.{wants_memory}
+use Rattle.request_replies.specs.Replies.{wants_memory}
 use Rattle.http_front.specs.Talk.{Exchange, asked, response_of, bytes_of, Steps, Conversation, Begins}
 use Rattle.http_front.specs.declared.link.End.{End}
 use Rattle.http_front.specs.declared.link.End.TheVariants.{Closed, Torn, Refused, ReadFault, WriteFault, Spent, NoMemory}

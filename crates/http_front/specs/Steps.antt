@@ -7,7 +7,7 @@ use Rattle.turn_cell.specs.Numbers.{In}
 use Rattle.turn_cell.specs.Views.{IsAlone, numbers_of, set_stage}
 use Rattle.turn_cell.specs.declared.view.View.{View}
 use Rattle.shared_api.specs.Passes.{Known}
-use Rattle.http_front.specs.Replies.{Front, Replies}
+use Rattle.request_replies.specs.Replies.{Front, Replies}
 
 -- the list that a pass has seen, and the count of its tool's faults
 pub record Point : Type 0 where

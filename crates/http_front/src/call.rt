@@ -5,7 +5,7 @@ ghost use Rattle.call_texts.specs.Told.{told};
 ghost use Rattle.shared_api.specs.Answered.{CallsOn};
 ghost use Rattle.shared_api.specs.Base.{server_of};
 ghost use Rattle.shared_api.specs.Passes.{IsOf};
-ghost use Rattle.http_front.specs.Replies.{MayStamp};
+ghost use Rattle.request_replies.specs.Replies.{MayStamp};
 ghost use Rattle.http_front.specs.Going.{MayCall};
 
 use api_calls::{Refusal, Reply, Token, Versions};

@@ -9,7 +9,7 @@ use edge_io::{Failed, Sink};
 use http_wire::{WireFault, write_response};
 
 // The fixed response to a head that is refused: its code and its text.
-#[tactic(auto, using(http_wire::specs::PhraseLaws::phrases))]
+#[tactic(auto, using(http_wire::specs::laws::PhraseLaws::phrases))]
 fn refusal_of(fault: WireFault) -> (u16, &'static str)
     requires { IsHeadFault fault }
     ensures text { fault_words fault ≡ says result.0 result.1.now true }

@@ -8,7 +8,7 @@ ghost use Rattle.api_calls.specs.Refusal.{refusal_of};
 ghost use Rattle.api_calls.specs.Status.{code_of_refusal, status_of};
 ghost use Rattle.kj_value.specs.Text.{text_of};
 ghost use Rattle.http_routes.specs.Paths.{migration_group, migrations_word};
-ghost use Rattle.http_front.specs.Replies.{refused as refused_of, wants_memory};
+ghost use Rattle.request_replies.specs.Replies.{refused as refused_of, wants_memory};
 ghost use Rattle.http_front.specs.Going.{answer_of, decided, Tells};
 ghost use Rattle.http_front.specs.Link.{memory_words};
 
@@ -16,6 +16,7 @@ use api_calls::{Refusal, Reply, Versions, code_of, no_memory_text, status_text};
 use edge_io::{Failed, Sink};
 use http_wire::write_response;
 use kj_value::NoMemory;
+use request_replies::About;
 use std::alloc::Global;
 
 /// What a request is answered.
@@ -26,15 +27,6 @@ pub enum Answer {
     NoMethod,
     /// The fixed answer where memory is wanted. It takes none.
     NoMemory,
-}
-
-/// What a refusal is about.
-#[derive(Clone, Copy, Debug, PartialEq, Eq, Drop)]
-pub enum About {
-    /// Objects of the definition.
-    Objects,
-    /// Storage migrations (storagemigration.k8s.io).
-    Migrations,
 }
 
 // The plural name of storage migrations.
@@ -150,7 +142,7 @@ pub fn hand_on<K: Sink>(output: &mut K, answer: &Answer, closing: bool) -> Resul
 }
 
 /// Writes the one response where there is no memory for a connection, and flushes.
-#[tactic(auto, using(http_wire::specs::PhraseLaws::phrases))]
+#[tactic(auto, using(http_wire::specs::laws::PhraseLaws::phrases))]
 pub fn refuse_link<K: Sink>(output: &mut K) -> Result<(), Failed>
     ensures sent { Sends (K.written output.old) (K.written output.new) memory_words result }
     ensures flushed { OnOk result (K.flushed output.new ≡ K.written output.new) }

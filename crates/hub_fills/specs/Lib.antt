@@ -5,7 +5,6 @@ pub mod Right
 pub mod Sound
 pub mod Depth
 pub mod SeenFills
-pub mod Inside
 pub mod LateNames
 pub mod EachFit
 pub mod inner

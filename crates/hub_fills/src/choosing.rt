@@ -154,7 +154,7 @@ fn level_fills(alloc: Global, fits: &[Fitted], path: &[Txt], f: &Fitted) -> Resu
 }
 
 #[cycle(choosing)]
-#[tactic(auto, using(hub_cells::specs::Inside::inner_depth))]
+#[tactic(auto, using(hub_cells::specs::laws::Inside::inner_depth))]
 fn inner_fills(
     alloc: Global,
     fits: &[Fitted],

@@ -165,7 +165,7 @@ fn late_level(
 }
 
 #[cycle(late)]
-#[tactic(auto, using(hub_cells::specs::Inside::inner_depth))]
+#[tactic(auto, using(hub_cells::specs::laws::Inside::inner_depth))]
 fn late_inner(
     alloc: Global,
     fits: &[Fitted],

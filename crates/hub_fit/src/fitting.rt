@@ -34,7 +34,7 @@ fn names_differ(s: &Schema)
 
 // The level of rules of which nothing is refused, to which so many names of objects lead.
 #[cycle(build)]
-#[tactic(auto, using(hub_rules::specs::Inside::line_depth))]
+#[tactic(auto, using(hub_rules::specs::laws::Inside::line_depth))]
 fn build(
     alloc: Global,
     rules: &Rules,
@@ -60,7 +60,7 @@ fn build(
 }
 
 #[cycle(build)]
-#[tactic(auto, using(hub_rules::specs::Inside::line_depth))]
+#[tactic(auto, using(hub_rules::specs::laws::Inside::line_depth))]
 fn inner(
     alloc: Global,
     lines: &[Line],
@@ -83,7 +83,7 @@ fn inner(
 }
 
 #[cycle(build)]
-#[tactic(auto, using(hub_rules::specs::Inside::line_depth))]
+#[tactic(auto, using(hub_rules::specs::laws::Inside::line_depth))]
 fn push_inner(
     alloc: Global,
     line: &Line,

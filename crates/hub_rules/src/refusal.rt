@@ -112,7 +112,7 @@ fn under(alloc: Global, a: &Txt, b: &Txt, stop: Stop) -> Stop
 
 // The first refusal of the rules at all of their levels.
 #[cycle(refusal)]
-#[tactic(auto, using(crate::specs::Inside::line_depth))]
+#[tactic(auto, using(crate::specs::laws::Inside::line_depth))]
 fn rules_fault(
     alloc: Global,
     rules: &Rules,
@@ -131,7 +131,7 @@ fn rules_fault(
 }
 
 #[cycle(refusal)]
-#[tactic(auto, using(crate::specs::Inside::line_depth))]
+#[tactic(auto, using(crate::specs::laws::Inside::line_depth))]
 fn inner_fault(
     alloc: Global,
     lines: &[Line],
@@ -151,7 +151,7 @@ fn inner_fault(
 }
 
 #[cycle(refusal)]
-#[tactic(auto, using(crate::specs::Inside::line_depth))]
+#[tactic(auto, using(crate::specs::laws::Inside::line_depth))]
 fn within_fault(
     alloc: Global,
     line: &Line,

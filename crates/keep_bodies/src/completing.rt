@@ -80,7 +80,7 @@ fn level_lacks(f: &Fitted, fills: &Fills, x: &JFields) -> bool
 }
 
 #[cycle(lacking)]
-#[tactic(auto, using(hub_cells::specs::Inside::inner_depth))]
+#[tactic(auto, using(hub_cells::specs::laws::Inside::inner_depth))]
 fn inners_lack(inners: &[Inner], fills: &[Deeper], x: &JFields) -> bool
     ensures { result ≡ inners_lack (inners_of inners.now) (within_of fills.now) x.now }
 {
@@ -175,7 +175,7 @@ fn fill_level(alloc: Global, f: &Fitted, fills: &Fills, x: JFields) -> Result<JF
 }
 
 #[cycle(filling)]
-#[tactic(auto, using(hub_cells::specs::Inside::inner_depth))]
+#[tactic(auto, using(hub_cells::specs::laws::Inside::inner_depth))]
 fn fill_inners(
     alloc: Global,
     inners: &[Inner],

@@ -58,7 +58,7 @@ pub(crate) fn level_over(
 }
 
 #[cycle(over)]
-#[tactic(auto, using(hub_cells::specs::Inside::inner_depth))]
+#[tactic(auto, using(hub_cells::specs::laws::Inside::inner_depth))]
 fn inners_over(
     alloc: Global,
     inners: &[Inner],

@@ -30,7 +30,7 @@ use Rattle.http_wire.specs.Stream.{End as InputEnd}
 use Rattle.http_routes.specs.Routes.{Route}
 use Rattle.http_routes.specs.Routes as route
 use Rattle.http_front.specs.One.{AnswersOne, EndsInput, Did}
-use Rattle.http_front.specs.Replies.{Front, Replies, RoutedReply}
+use Rattle.request_replies.specs.Replies.{Front, Replies, RoutedReply}
 use Rattle.http_front.specs.Steps.{Point, StepAnswers, IsSameBut, added}
 use Rattle.http_front.specs.declared.one.OneEnd.TheVariants as steps
 use Rattle.kubeconv_cmd.specs.Serving.{At, AnswersAlone, AnswersAndWorks, TakesTurn, TakesTurns, no_turn, one_more, turn_at, turned}

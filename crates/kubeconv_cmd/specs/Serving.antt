@@ -18,7 +18,7 @@ use Rattle.crd_loading.specs.Set.{set_of}
 use Rattle.http_wire.specs.Head.{Request}
 use Rattle.http_wire.specs.declared.limits.TheConstants.{MOST_REQUESTS}
 use Rattle.http_front.specs.Link.{LinkBlames, Links, UnlessUnwritten}
-use Rattle.http_front.specs.Replies.{Front, Replies}
+use Rattle.request_replies.specs.Replies.{Front, Replies}
 use Rattle.http_front.specs.declared.link.End.{End as LinkEnd}
 use Rattle.http_front.specs.declared.link.End.TheVariants as links
 use Rattle.shared_api.specs.Steps.{IsToPrepare}

@@ -31,7 +31,7 @@ fn beside(room: u64, bytes: u64) -> Option<u64>
 
 // What is left of the room beside the value, or `None` where the value is larger.
 #[cycle(size)]
-#[tactic(auto, using(kj_value::specs::Inside::item_depth, kj_value::specs::Inside::field_depth))]
+#[tactic(auto, using(kj_value::specs::laws::Inside::item_depth, kj_value::specs::laws::Inside::field_depth))]
 fn beside_value(room: u64, v: &JVal) -> Option<u64>
     ensures { MatchOption result (room < size (json v.now)) (λ left. left + size (json v.now) ≡ room) }
 {
@@ -53,7 +53,7 @@ fn beside_text(room: u64, text: &str) -> Option<u64>
 }
 
 #[cycle(size)]
-#[tactic(auto, using(kj_value::specs::Inside::item_depth, kj_value::specs::Inside::field_depth))]
+#[tactic(auto, using(kj_value::specs::laws::Inside::item_depth, kj_value::specs::laws::Inside::field_depth))]
 fn beside_items(room: u64, items: &JItems) -> Option<u64>
     ensures { MatchOption result (room < 1 + items_size (items_of items.now))
         (λ left. left + (1 + items_size (items_of items.now)) ≡ room) }
@@ -68,7 +68,7 @@ fn beside_items(room: u64, items: &JItems) -> Option<u64>
 
 // What is left beside a name, what stands around it, and its value.
 #[cycle(size)]
-#[tactic(auto, using(kj_value::specs::Inside::item_depth, kj_value::specs::Inside::field_depth))]
+#[tactic(auto, using(kj_value::specs::laws::Inside::item_depth, kj_value::specs::laws::Inside::field_depth))]
 fn beside_field(room: u64, name: &str, v: &JVal) -> Option<u64>
     ensures { MatchOption result (room < length name.now + 4 + size (json v.now))
         (λ left. left + (length name.now + 4 + size (json v.now)) ≡ room) }
@@ -79,7 +79,7 @@ fn beside_field(room: u64, name: &str, v: &JVal) -> Option<u64>
 }
 
 #[cycle(size)]
-#[tactic(auto, using(kj_value::specs::Inside::item_depth, kj_value::specs::Inside::field_depth))]
+#[tactic(auto, using(kj_value::specs::laws::Inside::item_depth, kj_value::specs::laws::Inside::field_depth))]
 fn beside_fields(room: u64, fields: &JFields) -> Option<u64>
     ensures { MatchOption result (room < 1 + members_size (members_of fields.now))
         (λ left. left + (1 + members_size (members_of fields.now)) ≡ room) }

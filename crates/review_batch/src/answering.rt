@@ -79,7 +79,7 @@ const FAILURE_MIDDLE: &str = ",\"status\":\"Failure\"},\"uid\":";
 const REVIEW_END: &str = "}}";
 
 // What stands behind the converted objects.
-#[tactic(auto, unfolding(crate::specs::Spelling::success_middle, review_forms::specs::Spelling::review_end))]
+#[tactic(auto, unfolding(crate::specs::inner::Spelling::success_middle, review_forms::specs::Spelling::review_end))]
 fn success_end(alloc: Global, page: Page, uid: Txt) -> Result<Txt, NoMemory>
     ensures text { IfOk result (λ t. t.bytes ≡ page.text ++ success_middle ++ quoted uid.bytes ++ review_end) }
     ensures room { IfOk result (λ t. length t.bytes ≤ page.most) }
@@ -92,7 +92,7 @@ fn success_end(alloc: Global, page: Page, uid: Txt) -> Result<Txt, NoMemory>
 }
 
 // The whole of a response that has no objects.
-#[tactic(auto, unfolding(crate::specs::Spelling::failure_front, crate::specs::Spelling::failure_middle, review_forms::specs::Spelling::review_end))]
+#[tactic(auto, unfolding(crate::specs::inner::Spelling::failure_front, crate::specs::inner::Spelling::failure_middle, review_forms::specs::Spelling::review_end))]
 fn failure(alloc: Global, page: Page, uid: Txt, message: Txt) -> Result<Txt, NoMemory>
     ensures text { IfOk result (λ t. t.bytes
         ≡ page.text ++ failure_front ++ quoted message.bytes ++ failure_middle ++ quoted uid.bytes ++ review_end) }

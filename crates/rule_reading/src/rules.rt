@@ -133,7 +133,7 @@ pub(crate) fn read_rules_in(alloc: Global, depth: u32, count: &mut u32, v: &JVal
 }
 
 #[cycle(read_rule)]
-#[tactic(auto, using(kj_value::specs::Inside::item_depth, crate::proofs::Within::depth_push, crate::proofs::Within::size_push))]
+#[tactic(auto, using(kj_value::specs::laws::Inside::item_depth, crate::proofs::Within::depth_push, crate::proofs::Within::size_push))]
 fn read_lines(alloc: Global, depth: u32, count: &mut u32, items: &[JVal]) -> Tried<Rules>
     requires { depth ≤ MAX_OBJECTS }
     ensures read { IfOk result (λ r. answer (λ rs. rs) r

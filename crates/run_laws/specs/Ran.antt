@@ -3,7 +3,7 @@ use Rattle.std.specs.Prelude.{◌≡◌, ◌≢◌, ◌<◌, ◌⊎◌, ℕ, Lis
 use Rattle.api_calls.specs.Legal.{legal}
 use Rattle.http_wire.specs.Stream.{End}
 use Rattle.http_wire.specs.declared.limits.TheConstants.{MOST_REQUESTS}
-use Rattle.http_front.specs.Replies.{Front}
+use Rattle.request_replies.specs.Replies.{Front}
 use Rattle.http_front.specs.Talk.{Conversation}
 use Rattle.crd_loading.specs.Load.{Loads}
 use Rattle.crd_loading.specs.View.{LoadedView}

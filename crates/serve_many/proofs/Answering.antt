@@ -10,7 +10,7 @@ use Rattle.edge_io.specs.Connections.{Origin, Ending, HasAllLeft, HasNumberOf, N
 use Rattle.http_wire.specs.Head.{Request}
 use Rattle.http_wire.specs.declared.limits.TheConstants.{MOST_REQUESTS}
 use Rattle.http_front.specs.Link.{Breaks, answer, refusal, no_memory, Links, LinkBlames}
-use Rattle.http_front.specs.Replies.{Front}
+use Rattle.request_replies.specs.Replies.{Front}
 use Rattle.http_front.specs.Steps.{StepAnswers, Point, added}
 use Rattle.http_front.specs.Talk.{Exchange, Steps}
 use Rattle.http_front.specs.declared.link.End.{End}

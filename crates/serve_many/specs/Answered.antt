@@ -6,7 +6,7 @@ use Rattle.edge_io.specs.Causes.{Rose}
 use Rattle.edge_io.specs.Connections.{Ending, HasAllLeft}
 use Rattle.http_wire.specs.declared.limits.TheConstants.{MOST_REQUESTS}
 use Rattle.http_front.specs.Link.{Links, LinkBlames}
-use Rattle.http_front.specs.Replies.{Front}
+use Rattle.request_replies.specs.Replies.{Front}
 use Rattle.http_front.specs.Steps.{StepAnswers}
 use Rattle.http_front.specs.declared.link.End.{End}
 use Rattle.shared_api.specs.Base.{server_of}

@@ -12,7 +12,6 @@ pub mod Filled
 pub mod OwnDefaults
 pub mod Stays
 pub mod ShapeSame
-pub mod ShapeInside
 pub mod Below
 pub mod Places
 pub mod Defaults

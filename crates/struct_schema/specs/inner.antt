@@ -1,1 +1,2 @@
 pub mod ShapeFalls
+pub mod ShapeInside

@@ -66,7 +66,7 @@ fn missing_fault(alloc: Global, s: &Schema, fields: &JFields) -> Result<(), Stop
 }
 
 #[cycle(first_fault)]
-#[tactic(auto, using(kj_value::specs::Inside::item_depth, kj_value::specs::Inside::field_depth))]
+#[tactic(auto, using(kj_value::specs::laws::Inside::item_depth, kj_value::specs::laws::Inside::field_depth))]
 fn first_fault(alloc: Global, s: &Schema, v: &JVal) -> Result<(), Stop>
     ensures { MatchResult result (λ _. fault (shape_of s.now) (json v.now) ≡ None)
         (λ e. StopsCheck (fault (shape_of s.now) (json v.now)) e) }
@@ -94,7 +94,7 @@ fn first_fault(alloc: Global, s: &Schema, v: &JVal) -> Result<(), Stop>
 }
 
 #[cycle(first_fault)]
-#[tactic(auto, using(kj_value::specs::Inside::item_depth, kj_value::specs::Inside::field_depth))]
+#[tactic(auto, using(kj_value::specs::laws::Inside::item_depth, kj_value::specs::laws::Inside::field_depth))]
 fn list_fault(alloc: Global, s: &Schema, items: &JItems) -> Result<(), Stop>
     ensures { let o = items_fault (items_shape (shape_of s.now)) 0 (items_of items.now) in
         MatchResult result (λ _. o ≡ None) (λ e. StopsCheck o e) }
@@ -106,7 +106,7 @@ fn list_fault(alloc: Global, s: &Schema, items: &JItems) -> Result<(), Stop>
 }
 
 #[cycle(first_fault)]
-#[tactic(auto, using(kj_value::specs::Inside::item_depth, kj_value::specs::Inside::field_depth))]
+#[tactic(auto, using(kj_value::specs::laws::Inside::item_depth, kj_value::specs::laws::Inside::field_depth))]
 fn items_fault(alloc: Global, s: &Schema, items: &[JVal]) -> Result<(), Stop>
     ensures { let o = items_fault (some_shape (shape_of s.now)) 0 (items_of (map json items.now)) in
         MatchResult result (λ _. o ≡ None) (λ e. StopsCheck o e) }
@@ -120,7 +120,7 @@ fn items_fault(alloc: Global, s: &Schema, items: &[JVal]) -> Result<(), Stop>
 }
 
 #[cycle(first_fault)]
-#[tactic(auto, using(kj_value::specs::Inside::item_depth, kj_value::specs::Inside::field_depth))]
+#[tactic(auto, using(kj_value::specs::laws::Inside::item_depth, kj_value::specs::laws::Inside::field_depth))]
 fn object_fault(alloc: Global, s: &Schema, fields: &JFields) -> Result<(), Stop>
     ensures { let o = or_else (missing_fault (first_missing s.now.required (members_of fields.now)))
         (members_fault (shape_of s.now) (members_of fields.now)) in
@@ -133,7 +133,7 @@ fn object_fault(alloc: Global, s: &Schema, fields: &JFields) -> Result<(), Stop>
 }
 
 #[cycle(first_fault)]
-#[tactic(auto, using(kj_value::specs::Inside::item_depth, kj_value::specs::Inside::field_depth))]
+#[tactic(auto, using(kj_value::specs::laws::Inside::item_depth, kj_value::specs::laws::Inside::field_depth))]
 fn fields_fault(alloc: Global, s: &Schema, fields: &JFields) -> Result<(), Stop>
     ensures { let o = members_fault (shape_of s.now) (members_of fields.now) in
         MatchResult result (λ _. o ≡ None) (λ e. StopsCheck o e) }

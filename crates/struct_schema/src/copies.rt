@@ -79,7 +79,7 @@ fn copy_node(alloc: Global, node: &Option<SchemaBox>) -> Result<Option<SchemaBox
 }
 
 #[cycle(copy_schema)]
-#[tactic(auto, using(crate::specs::ShapeInside::schema_depth))]
+#[tactic(auto, using(crate::specs::inner::ShapeInside::schema_depth))]
 fn copy_map(alloc: Global, map: &SchemaMap) -> Result<SchemaMap, NoMemory>
     ensures { IfOk result (λ m. m ≡ map.now) }
 {

@@ -173,7 +173,7 @@ fn same_node(a: &Option<SchemaBox>, b: &Option<SchemaBox>) -> bool
 }
 
 #[cycle(same_schema)]
-#[tactic(auto, using(crate::specs::ShapeInside::schema_depth))]
+#[tactic(auto, using(crate::specs::inner::ShapeInside::schema_depth))]
 fn same_fields(xs: &[SchemaField], ys: &[SchemaField]) -> bool
     ensures { result
         ≡ shapes_same (shapes_of (map named_shape xs.now)) (shapes_of (map named_shape ys.now)) }

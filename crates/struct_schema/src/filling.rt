@@ -99,7 +99,7 @@ fn defaults_there(s: &Schema, fields: &JFields) -> bool
 }
 
 #[cycle(stays)]
-#[tactic(auto, using(kj_value::specs::Inside::item_depth, kj_value::specs::Inside::field_depth))]
+#[tactic(auto, using(kj_value::specs::laws::Inside::item_depth, kj_value::specs::laws::Inside::field_depth))]
 fn stays(s: &Schema, v: &JVal) -> bool
     ensures { result ≡ stays (shape_of s.now) (json v.now) }
 {
@@ -123,7 +123,7 @@ fn stays(s: &Schema, v: &JVal) -> bool
 }
 
 #[cycle(stays)]
-#[tactic(auto, using(kj_value::specs::Inside::item_depth, kj_value::specs::Inside::field_depth))]
+#[tactic(auto, using(kj_value::specs::laws::Inside::item_depth, kj_value::specs::laws::Inside::field_depth))]
 fn list_stays(s: &Schema, items: &JItems) -> bool
     ensures { result ≡ items_stay (items_shape (shape_of s.now)) (items_of items.now) }
 {
@@ -134,7 +134,7 @@ fn list_stays(s: &Schema, items: &JItems) -> bool
 }
 
 #[cycle(stays)]
-#[tactic(auto, using(kj_value::specs::Inside::item_depth, kj_value::specs::Inside::field_depth))]
+#[tactic(auto, using(kj_value::specs::laws::Inside::item_depth, kj_value::specs::laws::Inside::field_depth))]
 fn items_stay(node: &Schema, items: &JItems) -> bool
     ensures { result ≡ items_stay (some_shape (shape_of node.now)) (items_of items.now) }
 {
@@ -159,7 +159,7 @@ fn item_stays(node: &Schema, x: &JVal) -> bool
 }
 
 #[cycle(stays)]
-#[tactic(auto, using(kj_value::specs::Inside::item_depth, kj_value::specs::Inside::field_depth))]
+#[tactic(auto, using(kj_value::specs::laws::Inside::item_depth, kj_value::specs::laws::Inside::field_depth))]
 fn object_stays(s: &Schema, fields: &JFields) -> bool
     ensures { result ≡ (names_stay (shape_of s.now) (members_of fields.now)
         && defaults_there (map_of s.now.properties) (members_of fields.now)) }
@@ -168,7 +168,7 @@ fn object_stays(s: &Schema, fields: &JFields) -> bool
 }
 
 #[cycle(stays)]
-#[tactic(auto, using(kj_value::specs::Inside::item_depth, kj_value::specs::Inside::field_depth))]
+#[tactic(auto, using(kj_value::specs::laws::Inside::item_depth, kj_value::specs::laws::Inside::field_depth))]
 fn names_stay(s: &Schema, fields: &JFields) -> bool
     ensures { result ≡ names_stay (shape_of s.now) (members_of fields.now) }
 {

@@ -202,7 +202,7 @@ impl Sink for Narrow {
 
 // Writes the request of `METHOD:TARGET`, or the response of the code 405, or that of 201, which closes. Answers whether it is
 // written whole.
-#[tactic(auto, using(http_wire::specs::PhraseLaws::phrases))]
+#[tactic(auto, using(http_wire::specs::laws::PhraseLaws::phrases))]
 fn write<K: Sink>(sink: &mut K, head: &str, body: &[u8]) -> bool {
     match cut(head, ':') {
         Some((method, target)) => write_request(sink, method, target, body).is_ok(),

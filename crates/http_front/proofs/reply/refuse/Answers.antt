@@ -5,7 +5,7 @@ use Rattle.api_calls.specs.Refusal.{RefusalView, refusal_of}
 use Rattle.api_calls.specs.Reply.{ReplyView, reply_of}
 use Rattle.api_calls.specs.Status.{code_of_refusal, status_of}
 use Rattle.http_routes.specs.Paths.{migrations_word}
-use Rattle.http_front.specs.Replies.{refusal_text}
+use Rattle.request_replies.specs.Replies.{refusal_text}
 use Rattle.http_front.proofs.reply.refuse.Goals as goal
 
 -- the reply that names a resource

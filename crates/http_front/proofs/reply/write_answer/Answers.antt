@@ -1,5 +1,5 @@
 use Rattle.std.proofs.Common.{◌∙◌, [], refl, subst, IsUtf8}
-use Rattle.http_front.specs.Replies.{no_memory_text}
+use Rattle.request_replies.specs.Replies.{no_memory_text}
 use Rattle.http_front.proofs.reply.write_answer.Goals as goal
 
 pub returns-in-NoMemory-clause-sent : goal.returns-in-NoMemory-clause-sent

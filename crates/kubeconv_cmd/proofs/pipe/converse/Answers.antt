@@ -3,7 +3,7 @@ use Rattle.std.specs.Io.KnownBytes.{prepend_known}
 use Rattle.api_calls.specs.Item.{Logged, items, items_of}
 use Rattle.http_wire.specs.Stream.{End, closed, torn, refused}
 use Rattle.shared_api.specs.Base.{server_of}
-use Rattle.http_front.specs.Replies.{Front}
+use Rattle.request_replies.specs.Replies.{Front}
 use Rattle.http_front.specs.Steps.{Point}
 use Rattle.http_front.proofs.Calling.{same_number, same_on}
 use Rattle.http_front.proofs.Talking.{so_far_from, so_far_more, ended_so, ended_last, ended_spent, broke_reading, broke}

@@ -16,8 +16,8 @@ use Rattle.api_calls.specs.Status.{status_of, code_of_refusal}
 use Rattle.http_routes.specs.Paths.{migration_group, migrations_word}
 use Rattle.http_routes.specs.Routes.{Route, Routes}
 use Rattle.http_routes.specs.Routes as route
-use Rattle.http_front.specs.declared.reply.About.{About}
-use Rattle.http_front.specs.declared.reply.About.TheVariants.{Objects, Migrations}
+use Rattle.request_replies.specs.declared.about.About.{About}
+use Rattle.request_replies.specs.declared.about.About.TheVariants.{Objects, Migrations}
 
 -- what no request changes: the server, and the clock's one stamp where the clock tells it
 pub record Front : Type 1 where

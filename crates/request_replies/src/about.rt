@@ -1,0 +1,10 @@
+//! What refusals are about.
+
+/// What a refusal is about.
+#[derive(Clone, Copy, Debug, PartialEq, Eq, Drop)]
+pub enum About {
+    /// Objects of the definition.
+    Objects,
+    /// Storage migrations (storagemigration.k8s.io).
+    Migrations,
+}
