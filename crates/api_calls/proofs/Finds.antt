@@ -12,7 +12,7 @@ use Rattle.api_calls.specs.Item.{Entry, Create, Replace, Mark, Release, Touch, D
 use Rattle.api_calls.specs.Objects.{Stored, find, put, without, updated, moved, marked_at, born_or}
 use Rattle.api_calls.specs.State.{State, has, target_of, moved_storage, entry_effect, effect, number_after, number_from, opening, state_from, state}
 use Rattle.api_calls.specs.Legal.{Each, guard, legal_from, legal}
-use Rattle.api_calls.specs.Laws.{IsRising, IsSoundState, Leaves, Writes}
+use Rattle.api_calls.specs.LegalLists.{IsRising, IsSoundState, Leaves, Writes}
 use Rattle.api_calls.proofs.Order.{itself, exact, chain}
 use Rattle.api_calls.proofs.Lists.{each}
 use Rattle.api_calls.proofs.Parts.{state_from-append, legal_from-append}

@@ -8,7 +8,7 @@ use Rattle.api_calls.specs.Item.{Create, Replace, Mark, Release, Touch, Delete, 
 use Rattle.api_calls.specs.Objects.{Stored, find, moved, marked, marked_at, born_or}
 use Rattle.api_calls.specs.State.{State, target_of, moved_storage, effect, number_after, number_from, next_number, opening, state_from, state, revision}
 use Rattle.api_calls.specs.Legal.{Each, IsNew, Follows, guard, legal_from, legal}
-use Rattle.api_calls.specs.Laws.{IsCounted, AreCounted}
+use Rattle.api_calls.specs.LegalLists.{IsCounted, AreCounted}
 use Rattle.api_calls.specs.laws.GrowthLaws.{next_number-revision}
 use Rattle.api_calls.specs.laws.ObjectLaws.{each-find}
 use Rattle.api_calls.proofs.Lists.{each, each-put, each-without, each-updated}

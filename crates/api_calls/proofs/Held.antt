@@ -12,7 +12,7 @@ use Rattle.api_calls.specs.Item.{Create, Replace, Mark, Release, Touch, Delete, 
 use Rattle.api_calls.specs.Objects.{Stored, find, updated, moved, marked_at, born_or}
 use Rattle.api_calls.specs.State.{State, target_of, moved_storage, effect, number_after, opening, state_from, state}
 use Rattle.api_calls.specs.Legal.{Each, IsMarked, HasFinalizer, guard, legal_from, legal}
-use Rattle.api_calls.specs.Laws.{MarkedAreHeld}
+use Rattle.api_calls.specs.LegalLists.{MarkedAreHeld}
 use Rattle.api_calls.proofs.Lists.{each-put, each-without, each-updated}
 
 abbrev IsHeldThen : Stored → Type 0

@@ -8,7 +8,7 @@ use Rattle.kube_meta.specs.Key.{KeyView, key_cmp}
 use Rattle.kube_meta.specs.Plan.{Span, in_span}
 use Rattle.api_calls.specs.Objects.{Stored, put, without, updated, moved, elsewhere}
 use Rattle.api_calls.specs.Legal.{Each}
-use Rattle.api_calls.specs.Laws.{IsRising}
+use Rattle.api_calls.specs.LegalLists.{IsRising}
 use Rattle.api_calls.proofs.Order.{itself, flipped, turned, chain, same_left}
 
 pub each : {X : Type 0} (P Q : X → Type 0) (xs : List X) → Each P xs → ((x : X) → P x → Q x) → Each Q xs

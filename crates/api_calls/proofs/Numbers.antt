@@ -10,7 +10,7 @@ use Rattle.api_calls.specs.Item.{Create, Replace, Mark, Release, Touch, Delete, 
 use Rattle.api_calls.specs.Objects.{Stored, find, put, without, updated, moved, marked_at, born_or}
 use Rattle.api_calls.specs.State.{State, target_of, moved_storage, entry_effect, effect, number_after, number_from, opening, state_from, state}
 use Rattle.api_calls.specs.Legal.{Each, In}
-use Rattle.api_calls.specs.Laws.{Holds}
+use Rattle.api_calls.specs.LegalLists.{Holds}
 use Rattle.api_calls.proofs.Lists.{each, each-put, each-without, each-updated}
 
 pub in_each : {X : Type 0} (P : X → Type 0) (x : X) (xs : List X) → Each P xs → In x xs → P x

@@ -12,7 +12,7 @@ use Rattle.api_calls.specs.Item.{Entry, Create, Replace, Mark, Release, Touch, D
 use Rattle.api_calls.specs.Objects.{Stored, find, put, without, updated, moved, marked_at, born_or}
 use Rattle.api_calls.specs.State.{State, target_of, moved_storage, effect, number_after, number_from, next_number, opening, state_from, state}
 use Rattle.api_calls.specs.Legal.{In, guard, legal_from, legal}
-use Rattle.api_calls.specs.Laws.{IsRising, Holds}
+use Rattle.api_calls.specs.LegalLists.{IsRising, Holds}
 use Rattle.api_calls.proofs.Order.{itself, behind}
 use Rattle.api_calls.proofs.Numbers.{in_each, find-in, Old, old-step, old-from, IsNumbered, numbered-step, numbered-opening, later}
 use Rattle.api_calls.proofs.Sound.{sound-from, sound-opening}

@@ -15,7 +15,7 @@ use Rattle.api_calls.specs.Item.{Create, Replace, Mark, Release, Touch, Delete, 
 use Rattle.api_calls.specs.Objects.{Stored, find, put, without, updated, moved, marked_at, elsewhere, keys, born_or}
 use Rattle.api_calls.specs.State.{State, has, joined, target_or, target_of, moved_storage, entry_effect, note_effect, effect, number_after, opening, state_from, state}
 use Rattle.api_calls.specs.Legal.{Each, IsHeld, MayTouch, MayClaim, MayEnd, MaySucceed, MayStart, guard, legal_from, legal}
-use Rattle.api_calls.specs.Laws.{IsSoundState, AtMostOneRuns, KeepsPlan}
+use Rattle.api_calls.specs.LegalLists.{IsSoundState, AtMostOneRuns, KeepsPlan}
 use Rattle.api_calls.proofs.Lists.{each, each_two, each-put, each-without, each-updated, rising-put, rising-without, rising-updated, each-first}
 use Rattle.kube_meta.specs.laws.PlanLaws.{covered-changed, covered-claimed}
 

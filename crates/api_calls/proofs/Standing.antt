@@ -14,7 +14,7 @@ use Rattle.api_calls.specs.Item.{Create, Replace, Mark, Release, Touch, Delete, 
 use Rattle.api_calls.specs.Objects.{Stored, find, put, without, updated, moved, marked_at, elsewhere, born_or}
 use Rattle.api_calls.specs.State.{State, has, target_of, moved_storage, effect, number_after, number_from, next_number, opening, state_from, state}
 use Rattle.api_calls.specs.Legal.{Each, MayTouch, MaySucceed, MayStart, guard, legal_from, legal}
-use Rattle.api_calls.specs.Laws.{IsRising, IsSoundState, KeepsStorage, away, is_touch, is_named, touches_of}
+use Rattle.api_calls.specs.LegalLists.{IsRising, IsSoundState, KeepsStorage, away, is_touch, is_named, touches_of}
 use Rattle.std.specs.Str.{bytes_eq}
 use Rattle.std.proofs.lemmas.Slice.Eq.{bytes_eq-Decides}
 use Rattle.api_calls.proofs.Order.{itself, chain, same_left}

@@ -11,7 +11,7 @@ pub mod Room
 pub mod Legal
 pub mod Named
 pub mod Snap
-pub mod Laws
+pub mod LegalLists
 pub mod Versions
 pub mod Spelled
 pub mod Values

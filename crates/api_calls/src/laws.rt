@@ -13,7 +13,7 @@ ghost use Rattle.api_calls.specs.Objects.{Stored, find};
 ghost use Rattle.api_calls.specs.State.{entry_effect, next_number, revision, state};
 ghost use Rattle.api_calls.specs.Legal.{Each, MaySucceed, legal};
 ghost use Rattle.api_calls.specs.Snap.{Supersedes, by_number, floor, past_weight, snap, superseded, window};
-ghost use Rattle.api_calls.specs.Laws.{AreCounted, Holds, IsSoundState, KeepsStorage, Leaves, MarkedAreHeld, Writes, away, touches_of};
+ghost use Rattle.api_calls.specs.LegalLists.{AreCounted, Holds, IsSoundState, KeepsStorage, Leaves, MarkedAreHeld, Writes, away, touches_of};
 ghost use Rattle.api_calls.specs.Bodies.{RefusesStart, Starts};
 
 use crate::uid::{BORN_END, UID_BYTES};

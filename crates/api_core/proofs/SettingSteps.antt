@@ -12,7 +12,7 @@ use Rattle.api_calls.specs.Meaning.{Meaning}
 use Rattle.api_calls.specs.Versions.{AreFlags}
 use Rattle.api_calls.specs.Item.{Item, entry, SetVersions, Trim, StartMigration}
 use Rattle.api_calls.specs.State.{State, has, joined, next_number, state}
-use Rattle.api_calls.specs.Laws.{IsSoundState}
+use Rattle.api_calls.specs.LegalLists.{IsSoundState}
 use Rattle.api_calls.specs.Ends as ends
 use Rattle.api_calls.specs.Ends.{EndsAsDecided, bound, says, Decision}
 use Rattle.api_calls.specs.Settings.{same_flags, set_decision, first_unknown, first_held, trim_decision, start_decision}

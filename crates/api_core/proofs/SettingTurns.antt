@@ -17,7 +17,7 @@ use Rattle.api_calls.specs.Versions.{AreFlags, AreVersions, versions_of}
 use Rattle.api_calls.specs.Item.{Item}
 use Rattle.api_calls.specs.State.{has, joined, next_number, state}
 use Rattle.api_calls.specs.Legal.{legal}
-use Rattle.api_calls.specs.Laws.{IsSoundState}
+use Rattle.api_calls.specs.LegalLists.{IsSoundState}
 use Rattle.api_calls.specs.Ends as ends
 use Rattle.api_calls.specs.Ends.{EndsAsDecided, bound}
 use Rattle.api_calls.specs.Settings.{same_flags, set_decision, first_unknown, trim_decision, start_decision}

@@ -2,5 +2,5 @@ pub mod Loaded
 pub mod Known
 pub mod Opening
 pub mod Faults
-pub mod Laws
+pub mod DefinitionLaws
 pub mod laws

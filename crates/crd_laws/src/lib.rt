@@ -1,4 +1,4 @@
-//! The laws of a loaded definition as closed terms, for the ghost members of a type that holds one: `specs/Laws.antt`. What they
+//! The laws of a loaded definition as closed terms, for the ghost members of a type that holds one: `specs/DefinitionLaws.antt`. What they
 //! take is a proposition each: that a text spells one list of entries, that the definition was loaded, and that its versions may
 //! be offered together; so a struct can keep it in a ghost field.
 //!

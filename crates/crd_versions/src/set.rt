@@ -74,7 +74,7 @@ impl Versions for VersionSet {
     ghost use Rattle.crd_settings.specs.SettledLaws.{settings_of};
     ghost use Rattle.crd_settings.specs.Decided.{decides_flags, decides_keep};
     ghost use Rattle.crd_laws.specs.Loaded.{loaded_meaning};
-    ghost use Rattle.crd_laws.specs.Laws.{few, opens, names, stand, unstamped, one_to_one, same_key, finalizers, admits_whole, decides, refuses_once, unread};
+    ghost use Rattle.crd_laws.specs.DefinitionLaws.{few, opens, names, stand, unstamped, one_to_one, same_key, finalizers, admits_whole, decides, refuses_once, unread};
 
     type Tool = NoTool;
 

@@ -3,7 +3,7 @@ use Rattle.std.proofs.Common.{◌≡◌, refl, ℕ, true, false, IsTrue, List, [
 use Rattle.kube_meta.specs.View.{ObjectView}
 use Rattle.kube_meta.specs.Page.{listed}
 use Rattle.api_calls.specs.Item.{Create, Item, entry}
-use Rattle.api_calls.specs.Laws.{KeepsStorage}
+use Rattle.api_calls.specs.LegalLists.{KeepsStorage}
 use Rattle.api_calls.specs.Legal.{Each, legal}
 use Rattle.api_calls.specs.Meaning.{Meaning}
 use Rattle.api_calls.specs.Objects.{Stored, object_key}

@@ -11,7 +11,7 @@ use Rattle.kube_meta.specs.Plan.{After, passed}
 use Rattle.kube_meta.specs.declared.limits.Limits.{Limits}
 use Rattle.api_calls.specs.laws.GrowthLaws.{legal-front}
 use Rattle.api_calls.specs.Item.{Item, entry, note}
-use Rattle.api_calls.specs.Laws.{IsRising}
+use Rattle.api_calls.specs.LegalLists.{IsRising}
 use Rattle.api_calls.specs.Legal.{Each, legal}
 use Rattle.api_calls.specs.Meaning.{Meaning}
 use Rattle.api_calls.specs.Objects.{Stored, object_key}

@@ -7,7 +7,7 @@ use Rattle.std.specs.declared.cmp.Ordering.TheVariants.{Less, Equal, Greater}
 use Rattle.kube_meta.specs.Key.{KeyView, key_cmp}
 use Rattle.kube_meta.specs.declared.limits.Limits.{Limits}
 use Rattle.api_calls.specs.Item.{Create, Replace, Mark, Release, Touch, Delete, SetVersions, Trim, StartMigration, MarkSucceeded, Claim, RangeDone, GiveBack, Item, entry, note}
-use Rattle.api_calls.specs.Laws.{IsRising, IsSoundState, KeepsStorage}
+use Rattle.api_calls.specs.LegalLists.{IsRising, IsSoundState, KeepsStorage}
 use Rattle.api_calls.specs.Legal.{Each, In, legal, legal_from}
 use Rattle.api_calls.specs.Meaning.{Meaning}
 use Rattle.api_calls.specs.Objects.{Stored, born_or, find, marked_at, moved}

@@ -9,7 +9,7 @@ ghost use Rattle.kube_meta.specs.Key.{KeyView};
 ghost use Rattle.kube_meta.specs.Page.{listed, page_of};
 ghost use Rattle.kube_meta.specs.declared.limits.Limits.{Limits};
 ghost use Rattle.api_calls.specs.Item.{Item};
-ghost use Rattle.api_calls.specs.Laws.{IsRising, KeepsStorage};
+ghost use Rattle.api_calls.specs.LegalLists.{IsRising, KeepsStorage};
 ghost use Rattle.api_calls.specs.Legal.{Each, legal};
 ghost use Rattle.api_calls.specs.Objects.{Stored, live, object_key};
 ghost use Rattle.api_calls.specs.Snap.{page_at, snap, upto};

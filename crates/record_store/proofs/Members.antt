@@ -9,7 +9,7 @@ use Rattle.api_calls.specs.Item.{Create, Replace, Mark, Release, Touch, Delete, 
 use Rattle.api_calls.specs.Objects.{Stored, find}
 use Rattle.api_calls.specs.State.{State, effect, number_after, number_from, next_number, opening, state}
 use Rattle.api_calls.specs.Legal.{In, legal_from, legal}
-use Rattle.api_calls.specs.Laws.{IsRising, IsSoundState, Holds}
+use Rattle.api_calls.specs.LegalLists.{IsRising, IsSoundState, Holds}
 use Rattle.api_calls.specs.Snap.{upto, snap, Past, past, item_past, superseded_from, superseded, by_number, past_weight, floor, window, Supersedes}
 use Rattle.record_store.proofs.Rising.{find-in, in-find}
 use Rattle.record_store.proofs.Rebuilt.{Stood, supersedes-above, above-supersedes}

@@ -6,7 +6,7 @@ use Rattle.kube_meta.specs.Key.{key_cmp}
 use Rattle.kube_meta.specs.Window.{above}
 use Rattle.api_calls.specs.Objects.{Stored}
 use Rattle.api_calls.specs.Legal.{In}
-use Rattle.api_calls.specs.Laws.{IsRising}
+use Rattle.api_calls.specs.LegalLists.{IsRising}
 use Rattle.api_calls.specs.Snap.{Past, Supersedes, by_number}
 use Rattle.record_store.proofs.Rising.{rising-filter, rising-one, filter-in, in-filter, put_each, rising-put_each, put_each-in, in-put_each-first, in-put_each-then, one-list}
 

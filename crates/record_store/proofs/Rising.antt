@@ -7,7 +7,7 @@ use Rattle.kube_meta.specs.laws.KeyOrder.{key_cmp_total, key_cmp_one, key_cmp_it
 use Rattle.record_store.specs.ByKey.{put}
 use Rattle.api_calls.specs.Objects.{Stored, object_key, find}
 use Rattle.api_calls.specs.Legal.{Each, In}
-use Rattle.api_calls.specs.Laws.{IsRising}
+use Rattle.api_calls.specs.LegalLists.{IsRising}
 
 reversed : (k l : KeyView) (o : Ordering) → key_cmp k l ≡ o → key_cmp l k ≡ ordering_reverse o
 reversed k l o e = key_cmp_total.antisymm l k ∙ ap ordering_reverse e

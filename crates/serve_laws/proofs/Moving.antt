@@ -12,7 +12,7 @@ use Rattle.api_calls.specs.Calls.{Server}
 use Rattle.api_calls.specs.Ends.{claimed, enters, finished, grown, idle, says}
 use Rattle.api_calls.specs.laws.GrowthLaws.{legal-front, state-more}
 use Rattle.api_calls.specs.Item.{Create, Replace, Mark, Release, Touch, Delete, SetVersions, Trim, StartMigration, MarkSucceeded, Claim, RangeDone, GiveBack, Item, Logged, entry, items, note}
-use Rattle.api_calls.specs.Laws.{KeepsStorage}
+use Rattle.api_calls.specs.LegalLists.{KeepsStorage}
 use Rattle.api_calls.specs.Legal.{Each, MaySucceed, legal}
 use Rattle.api_calls.specs.Meaning.{Meaning}
 use Rattle.api_calls.specs.Objects.{Stored, elsewhere, moved, updated}

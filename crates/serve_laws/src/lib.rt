@@ -8,7 +8,7 @@
 ghost use Rattle.std.specs.Prelude.{◌≡◌, ◌∷◌, ◌++◌, [], List, Option, Some, ℕ, length};
 ghost use Rattle.kube_meta.specs.Plan.{Migration, running};
 ghost use Rattle.api_calls.specs.Item.{Item, Logged, MarkSucceeded, entry, items};
-ghost use Rattle.api_calls.specs.Laws.{KeepsStorage};
+ghost use Rattle.api_calls.specs.LegalLists.{KeepsStorage};
 ghost use Rattle.api_calls.specs.Legal.{Each};
 ghost use Rattle.api_calls.specs.State.{state};
 ghost use Rattle.edge_io.specs.Connections.{Ending, Origin};

@@ -12,7 +12,7 @@ use Rattle.api_calls.specs.Calls as calls
 use Rattle.api_calls.specs.laws.ObjectLaws.{each-find}
 use Rattle.api_calls.specs.Ends.{TurnEnd, prepare}
 use Rattle.api_calls.specs.Item.{Logged, Item, items}
-use Rattle.api_calls.specs.Laws.{IsCounted}
+use Rattle.api_calls.specs.LegalLists.{IsCounted}
 use Rattle.api_calls.specs.Legal.{key_of, legal}
 use Rattle.api_calls.specs.Meaning.{Meaning, Weighs}
 use Rattle.api_calls.specs.Objects.{Stored, find}

@@ -15,7 +15,7 @@ use Rattle.api_calls.specs.laws.ObjectLaws.{each-find}
 use Rattle.api_calls.specs.Ends.{Decision, WriteEnd, done, kept, gone, unserved, says, enters}
 use Rattle.api_calls.specs.Item.{Item, entry, Delete, Mark}
 use Rattle.api_calls.specs.Legal.{HasFinalizer, key_of, legal}
-use Rattle.api_calls.specs.Laws.{IsCounted}
+use Rattle.api_calls.specs.LegalLists.{IsCounted}
 use Rattle.api_calls.specs.Meaning.{Meaning, Weighs}
 use Rattle.api_calls.specs.Objects.{Stored, find, marked}
 use Rattle.api_calls.specs.Refusal as refusal

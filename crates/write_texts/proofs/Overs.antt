@@ -9,7 +9,7 @@ use Rattle.api_calls.specs.Cause.{cause_of, why_of}
 use Rattle.api_calls.specs.laws.ObjectLaws.{each-find}
 use Rattle.api_calls.specs.Ends.{says, forbidden, gone, newer, Decision, WriteEnd}
 use Rattle.api_calls.specs.Item.{Item}
-use Rattle.api_calls.specs.Laws.{IsCounted}
+use Rattle.api_calls.specs.LegalLists.{IsCounted}
 use Rattle.api_calls.specs.Legal.{key_of, legal}
 use Rattle.api_calls.specs.Meaning.{Meaning, Request, Weighs, bad_request, invalid, stamped}
 use Rattle.api_calls.specs.Objects.{Stored, find}

@@ -19,7 +19,7 @@ use Rattle.api_calls.specs.Objects.{Stored}
 use Rattle.api_calls.specs.State.{State, has, joined}
 use Rattle.api_calls.specs.Room.{lacking_migrations}
 use Rattle.api_calls.specs.Legal.{Each, In, IsPart, guard}
-use Rattle.api_calls.specs.Laws.{IsSoundState}
+use Rattle.api_calls.specs.LegalLists.{IsSoundState}
 use Rattle.api_calls.specs.Ends.{set, unchanged, trimmed, untrimmed, taken, says, enters}
 use Rattle.api_calls.specs.Settings.{same_flags, set_decision, first_unknown, first_at, hold_of, held_or, first_held, trim_free, trim_known, trim_decision, start_room, start_idle, start_decision}
 

@@ -14,7 +14,7 @@ use Rattle.api_calls.specs.Named.{named_key, Spares, IsNamed}
 use Rattle.api_calls.specs.Objects.{Stored, find, moved, marked, marked_at, born_or}
 use Rattle.api_calls.specs.State.{State, target_of, moved_storage, effect, number_after, number_from, opening, state_from, state}
 use Rattle.api_calls.specs.Legal.{Each, key_of, guard, legal_from, legal}
-use Rattle.api_calls.specs.Laws.{IsSoundState}
+use Rattle.api_calls.specs.LegalLists.{IsSoundState}
 use Rattle.api_calls.specs.laws.ObjectLaws.{each-find}
 use Rattle.api_calls.proofs.Order.{itself, exact}
 use Rattle.api_calls.proofs.Lists.{each-put, each-without, each-updated}

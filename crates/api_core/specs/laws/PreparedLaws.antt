@@ -15,7 +15,7 @@ use Rattle.api_calls.specs.Named.{IsNamed, Spares}
 use Rattle.api_calls.specs.Objects.{Stored, find, put, without, updated, moved, marked_at, elsewhere, keys, born_or}
 use Rattle.api_calls.specs.State.{State, target_of, moved_storage, effect, number_after, number_from, opening, state_from, state}
 use Rattle.api_calls.specs.Legal.{Each, In, MayTouch, IsHeld, guard, legal_from, legal}
-use Rattle.api_calls.specs.Laws.{IsRising, IsSoundState}
+use Rattle.api_calls.specs.LegalLists.{IsRising, IsSoundState}
 use Rattle.api_calls.specs.Ends.{TurnEnd, touched, missed, says, enters}
 use Rattle.api_calls.specs.Work.{Turn, Work, work_in, work_under, work_of, is_ready, ready_turn, touch_decision}
 use Rattle.api_calls.specs.inner.WorkGuards.{work_of-held, IsPrepared}
