@@ -3,7 +3,7 @@ use Rattle.std.proofs.Common.{◌≡◌, ℕ, ◌+◌, ◌-◌, ◌≤◌, List,
 use Rattle.httparse.specs.Grammar.{ResponseHead, print_response}
 use Rattle.httparse.proofs.GrammarLemmas.{response_unique}
 use Rattle.chunked_bodies.specs.Chunks.{ReadsBody, HasNoBody}
-use Rattle.chunked_bodies.specs.Response.{head_with_length, HasNoChunked, HandsOn, joined, other}
+use Rattle.chunked_bodies.specs.Response.{head_with_length, HasNoChunked, HandsOn, joined, other, HandsOnFront, counted, uncounted}
 use Rattle.chunked_bodies.specs.inner.Walk.{Joins, IsHeadAt, HasNoChunkedHead, Rewrites}
 use Rattle.chunked_bodies.specs.declared.head.ChunkedHead.{ChunkedHead}
 use Rattle.chunked_bodies.proofs.Bodies.{rest_all}
@@ -36,3 +36,13 @@ hands_joined bytes out r = subst (λ (xs : List ℕ). HandsOn bytes xs) (sym r.3
 
 pub hands_other : (bytes : List ℕ) → HasNoChunked bytes → HandsOn bytes bytes
 hands_other bytes none = other none
+
+pub counts_front : (front out : List ℕ) (p : ChunkedHead) (h : ResponseHead) → IsHeadAt front p h
+    → out ≡ print_response (head_with_length h p.coding (length (take (length front - p.len) (drop p.len front)))) ++ take (length front - p.len) (drop p.len front) → HandsOnFront front out
+counts_front front out p h at is =
+    subst (λ (xs : List ℕ). HandsOnFront front xs)
+    (sym (is ∙ ap (λ (xs : List ℕ). print_response (head_with_length h p.coding (length xs)) ++ xs) (rest_all front p.len)))
+    (counted h p.coding (drop p.len front) at.reads at.chunked)
+
+pub leaves_front : (front bytes : List ℕ) → bytes ≡ front → HasNoChunkedHead bytes → HandsOnFront front front
+leaves_front front bytes same none = uncounted (subst HasNoChunkedHead same none)

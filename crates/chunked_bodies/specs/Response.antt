@@ -75,3 +75,10 @@ HasNoChunked bytes = (r : ChunkedResponse) (rest : List ℕ) → ReadsChunked by
 pub data HandsOn (bytes : List ℕ) : List ℕ → Type 0 where
   joined : (r : ChunkedResponse) (rest : List ℕ) → ReadsChunked bytes r rest → HandsOn bytes (with_length r)
   other : HasNoChunked bytes → HandsOn bytes bytes
+
+-- What is handed on of the front of a response whose reading was given up: where its head is one of a chunked response, that head with the
+-- length of what stands behind it, and that as it stands; and anything else as it is.
+pub data HandsOnFront (front : List ℕ) : List ℕ → Type 0 where
+  counted : (h : ResponseHead) (k : ℕ) (after : List ℕ) → ReadsResponse front h after → IsChunkedHead h k
+      → HandsOnFront front (print_response (head_with_length h k (length after)) ++ after)
+  uncounted : ((h : ResponseHead) (k : ℕ) (after : List ℕ) → ReadsResponse front h after → IsChunkedHead h k → ⊥) → HandsOnFront front front

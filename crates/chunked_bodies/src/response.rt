@@ -1,7 +1,7 @@
 //! A response with its length.
 ghost use Rattle.std.specs.Prelude.{◌≡◌, ◌≤◌, ◌++◌, length, slice_range, MatchOption, IfOk, OnOk};
 ghost use Rattle.httparse.specs.Grammar.{ResponseHead, print_field, print_response};
-ghost use Rattle.chunked_bodies.specs.Response.{HasNoChunked, HandsOn, length_line, head_with_length};
+ghost use Rattle.chunked_bodies.specs.Response.{HasNoChunked, HandsOn, HandsOnFront, length_line, head_with_length};
 ghost use Rattle.chunked_bodies.specs.inner.Walk.{IsHeadAt, Rewrites};
 
 use crate::chunks::joined;
@@ -96,5 +96,28 @@ pub fn with_length(alloc: Global, response: Vec<u8>) -> Result<Vec<u8>, NoMemory
     match rewritten(alloc, &response)? {
         Some(joined) => Ok(joined),
         None => Ok(response),
+    }
+}
+
+// The front of a chunked response with the length of what stands behind its head.
+#[tactic(auto, using(crate::proofs::Handing::head_within))]
+fn counted(alloc: Global, front: &[u8], head: ChunkedHead) -> Result<Vec<u8>, NoMemory>
+    requires { (h : ResponseHead) × IsHeadAt front.now head h }
+    ensures { IfOk result (λ v. HandsOnFront front.now v.items) }
+{
+    let out = response_of(alloc, front, head, &front[head.len..])?;
+    Ok(out)
+}
+
+/// What is handed on of the front of a response that is longer than what was read of it. Where its head is one of those whose chunked
+/// bodies `with_length` joins, it is that head with the length of what was read behind it in the place of `Transfer-Encoding`, and that as it
+/// stands, chunk lines among it: who reads no body of such a length is told that it is too long, as of a response that had its length.
+/// Anything else is handed on as it is.
+pub fn front_with_length(alloc: Global, front: Vec<u8>) -> Result<Vec<u8>, NoMemory>
+    ensures { IfOk result (λ v. HandsOnFront front.items v.items) }
+{
+    match chunked_head(&front) {
+        Some(head) => counted(alloc, &front, head),
+        None => Ok(front),
     }
 }

@@ -3,7 +3,8 @@ ghost use Rattle.std.specs.Prelude.{None};
 
 use crate::Links;
 use crate::exchange::{Peer, answered};
-use chunked_bodies::with_length;
+use crate::limits::MOST_ANSWER_BYTES;
+use chunked_bodies::{front_with_length, with_length};
 use edge_io::{Link, LinkFault};
 use kj_value::{NoMemory, Txt};
 use std::alloc::Global;
@@ -12,7 +13,8 @@ use std::net::Net;
 use std::time::Clock;
 
 /// A link to a host over TCP. It opens a connection for each exchange, sends the request, and reads to the end of the input, or as many
-/// bytes as an answer may have. A response that comes in chunks is handed on with its length. It fails where no address of the host
+/// bytes as an answer may have. A response that comes in chunks is handed on with its length, and one that is longer with the length of
+/// what was read of its body. It fails where no address of the host
 /// takes a connection, where the connection breaks, and where one of its limits in time is passed.
 #[derive(Drop)]
 pub struct TcpLink<'a, R: Net> {
@@ -39,7 +41,8 @@ fn exchanged<R: Net + Clock>(
     request: &[u8],
 ) -> Result<Vec<u8>, LinkFault> {
     match answered(net, alloc, &Peer { host, port }, request) {
-        Ok(answer) => Ok(with_length(alloc, answer)?),
+        Ok(answer) if answer.len() < MOST_ANSWER_BYTES => Ok(with_length(alloc, answer)?),
+        Ok(front) => Ok(front_with_length(alloc, front)?),
         Err(fault) => Err(fault_of(&fault)),
     }
 }
