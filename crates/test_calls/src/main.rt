@@ -1,5 +1,5 @@
 //! Calls of the server that callers share, over connections: one after another by two passes, and beside each other by two threads. Beside
-//! them stand scripts of turns of a core, which `test_core` tells.
+//! them stand scripts of what needs no server, which `test_core` and `test_values` tell.
 //!
 //! Standard input is scripts, each with an empty line behind it. The first line of a script begins with `#`, tells over which
 //! definition it runs, and is printed as it is; each other line is a call, which is printed with its answer. What is wanted
@@ -11,6 +11,7 @@
 //! | `# built-in: ..` | the one that is built in: `host` at `v1` is `address` at `v1beta1` |
 //! | `# shared: ..` | the one that tests share, with each kind of rule |
 //! | `# core ..: ..` | the small one, over which `test_core` takes turns: the head of its `src/lib.rt` has the lines |
+//! | `# values: ..`, `# outside: ..` .. | none: the head of `src/lib.rt` of `test_values` has the parts and their lines |
 //!
 //! There is room for 64 objects. With the word `small` in the first line there is room for two objects in three chunks, for two
 //! superseded records in two chunks, and for one migration. `v1beta1` is stored at first. A line is a pass, `A` or `B`, and what is

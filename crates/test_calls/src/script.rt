@@ -13,6 +13,7 @@ use kube_meta::Limits;
 use migrate_core::Worker;
 use shared_api::{Pass, SharedApi};
 use std::alloc::Global;
+use std::rt::Files;
 use std::sync::Wait;
 use std::thread::Threads;
 use versions_fixture::TwoNames;
@@ -222,19 +223,24 @@ fn loaded<R: Threads + Wait + Sync>(
     over(rt, alloc, versions, case)
 }
 
-/// What a script answers over the definition that its first line names.
-pub(crate) fn told<R: Threads + Wait + Sync>(rt: &R, alloc: Global, case: &Case) -> Option<String> {
+/// What a script answers over the definition that its first line names, or without any.
+pub(crate) fn told<R: Threads + Wait + Sync + Files>(
+    rt: &R,
+    alloc: Global,
+    case: &Case,
+) -> Option<String> {
     let head = case.head.as_str();
-    if head.starts_with("# core") {
-        return test_core::told(alloc, head, case.lines.as_str());
+    match *head.as_bytes().get(2)? {
+        b'f' => over(rt, alloc, TwoNames::new(alloc).ok()?, case),
+        b'b' => loaded(rt, alloc, built_in::definition(), built_in::rules(), case),
+        b's' => loaded(
+            rt,
+            alloc,
+            crontab_example::definition(),
+            crontab_example::rules(),
+            case,
+        ),
+        b'c' => test_core::told(alloc, head, case.lines.as_str()),
+        _ => test_values::told(rt, alloc, head, case.lines.as_str()),
     }
-    if head.starts_with("# fixture") {
-        return over(rt, alloc, TwoNames::new(alloc).ok()?, case);
-    }
-    let (definition, rules) = if head.starts_with("# shared") {
-        (crontab_example::definition(), crontab_example::rules())
-    } else {
-        (built_in::definition(), built_in::rules())
-    };
-    loaded(rt, alloc, definition, rules, case)
 }
