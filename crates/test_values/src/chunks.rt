@@ -1,5 +1,5 @@
 //! Responses in chunks.
-use crate::spelling::{bytes_of, spelled};
+use crate::spelling::{add_spelled, bytes_of, spelled};
 use crate::told::add;
 use chunked_bodies::{laws, with_length};
 use std::alloc::Global;
@@ -30,23 +30,4 @@ fn handed_on(alloc: Global, text: &str, out: &mut String) -> Option<()> {
 
 fn is_same(a: &[u8], b: &[u8]) -> bool {
     a == b
-}
-
-// Adds bytes as a case spells them.
-fn add_spelled(alloc: Global, out: &mut String, bytes: &[u8]) -> Option<()> {
-    let mut told = Vec::new(alloc);
-    add_each(&mut told, bytes)?;
-    add(out, str::from_utf8(&told).ok()?)
-}
-
-fn add_each(told: &mut Vec<u8>, bytes: &[u8]) -> Option<()> {
-    for byte in bytes {
-        if *byte < b' ' {
-            told.push(b'|').ok()?;
-            told.push(*byte | 0x40).ok()?;
-        } else {
-            told.push(*byte).ok()?;
-        }
-    }
-    Some(())
 }

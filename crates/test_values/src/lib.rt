@@ -1,5 +1,5 @@
 //! Cases of what no request shows: values and their containers, the outside in memory and of `std`, messages of HTTP, responses in chunks,
-//! links, keys and tokens, the cache of forms, objects that are measured, and responses to reviews.
+//! links, keys and tokens, the cache of forms, objects that are measured, responses to reviews, and objects that converters turn.
 //!
 //! They are told by scripts, which are cases of `test_calls`. The first line of a script says of which part it is, and its name. Each other
 //! line is a case: its first byte tells what is done with the text behind the second, and the answer is a line. Where a case is bytes, `~`
@@ -27,6 +27,8 @@
 //! | | `m DOCUMENT`, `u DOCUMENT` | what an object measures; the same of one without its name, and its text |
 //! | | `e` | the text of no kept entries, and how many there are after one more |
 //! | `# reviews` | `r TEXT`, `e TEXT`, `f` | what is taken of a response; the same of an exchange with this answer, or one that fails, and its request |
+//! | `# turns` | `r TO OBJECT` | what the converter that renames a field turns an object to |
+//! | | `l TO~OBJECT~ANSWER~ANSWER` | what turns come to over a link in memory with these answers, one turn for each and one more; how often the converter failed; and its requests |
 //!
 //! Nothing here has a contract that says what is answered.
 #![tactic(auto)]
@@ -43,6 +45,7 @@ mod reviews;
 mod spelling;
 mod streams;
 mod told;
+mod turns;
 mod values;
 
 use std::alloc::Global;
@@ -63,6 +66,7 @@ fn answer<R: rt::Files>(
         b'm' => messages::answer(alloc, word, text, out),
         b'k' => keys::answer(alloc, word, text, out),
         b'd' => objects::answer(alloc, word, text, out),
+        b't' => turns::answer(alloc, word, text, out),
         _ => reviews::answer(alloc, given, word, text, out),
     }
 }

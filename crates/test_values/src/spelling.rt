@@ -1,4 +1,5 @@
 //! Bytes as a case spells them.
+use crate::told::add;
 use std::alloc::Global;
 
 /// The part of a text before the first of such characters, and the part behind it.
@@ -67,6 +68,25 @@ fn add_bytes_of(bytes: &mut Vec<u8>, text: &str) -> Option<()> {
         } else {
             bytes.push(meant(*byte, is_control)).ok()?;
             is_control = false;
+        }
+    }
+    Some(())
+}
+
+/// Adds bytes as a case spells them, as a word.
+pub(crate) fn add_spelled(alloc: Global, out: &mut String, bytes: &[u8]) -> Option<()> {
+    let mut told = Vec::new(alloc);
+    add_each(&mut told, bytes)?;
+    add(out, str::from_utf8(&told).ok()?)
+}
+
+fn add_each(told: &mut Vec<u8>, bytes: &[u8]) -> Option<()> {
+    for byte in bytes {
+        if *byte < b' ' {
+            told.push(b'|').ok()?;
+            told.push(*byte | 0x40).ok()?;
+        } else {
+            told.push(*byte).ok()?;
         }
     }
     Some(())

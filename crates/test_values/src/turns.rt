@@ -1,11 +1,20 @@
 //! Objects that converters turn.
-use crate::spelling::{add_bytes, bytes_of, cut};
+use crate::spelling::{add_spelled, bytes_of, cut, spelled};
 use api_calls::{OBJECT_LEVELS, Tool};
 use converters::{Converter, RenameConverter, TurnFault};
 use edge_io::{MemExchange, MemLink};
 use kj_value::{JVal, MAX_JSON_LEVELS, Txt, depth, read, write};
 use link_converter::LinkConverter;
 use std::alloc::Global;
+
+/// The answer to a case.
+pub(crate) fn answer(alloc: Global, word: u8, text: &str, out: &mut String) -> Option<()> {
+    out.push_str(" ").ok()?;
+    match word {
+        b'r' => renamed(alloc, text, out),
+        _ => linked(alloc, text, out),
+    }
+}
 
 // Adds the text of a value, which isn't too deep to be written.
 fn add_value(alloc: Global, y: &JVal, out: &mut String) -> Option<()> {
@@ -43,20 +52,18 @@ fn add_turn<C: Converter>(
     add_turned(alloc, turned, out)
 }
 
-/// A turn by the converter that renames a field.
-pub(crate) fn renamed(alloc: Global, text: &str) -> Option<String> {
+// A turn by the converter that renames a field.
+fn renamed(alloc: Global, text: &str, out: &mut String) -> Option<()> {
     let (to, object) = cut(text, ' ')?;
-    let mut converter = RenameConverter::new(alloc);
-    let mut out = String::new(alloc);
-    add_turn(alloc, &mut converter, object, to, &mut out)?;
-    Some(out)
+    add_turn(alloc, &mut RenameConverter::new(alloc), object, to, out)
 }
 
 // A converter over a link in memory that gives these answers.
 fn opened(alloc: Global, given: &str) -> Option<LinkConverter<MemLink>> {
     let mut answers = Vec::new(alloc);
     for answer in given.split('~') {
-        answers.push(bytes_of(alloc, answer)?).ok()?;
+        let text = spelled(alloc, answer)?;
+        answers.push(bytes_of(alloc, text.as_str())?).ok()?;
     }
     let target = Txt::of(alloc, "/convert").ok()?;
     Some(LinkConverter::open(MemLink::new(alloc, answers, Vec::new(alloc)), target))
@@ -84,20 +91,33 @@ fn add_turns(
 // Adds the requests that were made.
 fn add_requests(alloc: Global, made: &[MemExchange], out: &mut String) -> Option<()> {
     for exchange in made {
-        out.push_str(" / ").ok()?;
-        add_bytes(alloc, out, exchange.request())?;
+        out.push_str(" /").ok()?;
+        add_spelled(alloc, out, exchange.request())?;
     }
     Some(())
 }
 
-/// Turns over a link in memory.
-pub(crate) fn linked(alloc: Global, text: &str) -> Option<String> {
+// Adds the turns, and the requests that were made for them.
+fn add_all(
+    alloc: Global,
+    mut converter: LinkConverter<MemLink>,
+    to: &str,
+    object: &str,
+    given: &str,
+    out: &mut String,
+) -> Option<()> {
+    let told = add_turns(alloc, &mut converter, to, object, given, out);
+    let link = converter.into_link();
+    let asked = add_requests(alloc, link.made(), out);
+    drop(link);
+    told?;
+    asked
+}
+
+// Turns over a link in memory.
+fn linked(alloc: Global, text: &str, out: &mut String) -> Option<()> {
     let (to, behind) = cut(text, '~')?;
     let (object, given) = cut(behind, '~')?;
-    let mut converter = opened(alloc, given)?;
-    let mut out = String::new(alloc);
-    add_turns(alloc, &mut converter, to, object, given, &mut out)?;
-    let link = converter.into_link();
-    add_requests(alloc, link.made(), &mut out)?;
-    Some(out)
+    let converter = opened(alloc, given)?;
+    add_all(alloc, converter, to, object, given, out)
 }
