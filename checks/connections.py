@@ -353,6 +353,12 @@ class Told:
         self.written[number] = place, code == 201, f"h{caller}-{task}"
         return number
 
+    def take_all(self, caller, answers):
+        before = 0
+        for task, answer in enumerate(answers):
+            if task % 4 != 1:
+                before = self.take(caller, task, answer, before)
+
     def last_of(self, place):
         """The number and the host of the last write of an object, and how often it was created. A write may come next that replaces what
         stands, or creates what doesn't, for which a number that nobody was told leaves room: that of a delete."""
@@ -365,13 +371,12 @@ class Told:
         return number, host, created
 
 
-def tasks(server, caller, told):
-    peer, last, before = server.connect(), b"", 0
+def answers_of(server, caller):
+    peer, answers = server.connect(), [b""]
     for task in range(TASKS):
-        last = peer.ask(task_of(caller, task, last))
-        if task % 4 != 1:
-            before = told.take(caller, task, last, before)
+        answers.append(peer.ask(task_of(caller, task, answers[-1])))
     peer.end()
+    return answers[1:]
 
 
 def two_callers(program):
@@ -380,7 +385,8 @@ def two_callers(program):
     told = Told()
     with Server(program, 3, 0) as server:
         with concurrent.futures.ThreadPoolExecutor() as pool:
-            list(pool.map(lambda caller: tasks(server, caller, told), range(2)))
+            for caller, answers in enumerate(pool.map(lambda it: answers_of(server, it), range(2))):
+                told.take_all(caller, answers)
         peer = server.connect()
         for place in range(PLACES):
             shown = peer.ask(request("GET", f"{OBJECTS.format('v1')}/o{place}"))
