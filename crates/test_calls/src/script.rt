@@ -240,7 +240,7 @@ pub(crate) fn told<R: Threads + Wait + Sync + Files>(
             crontab_example::rules(),
             case,
         ),
-        b'c' => test_core::told(alloc, head, case.lines.as_str()),
-        _ => test_values::told(rt, alloc, head, case.lines.as_str()),
+        b'c' => test_core::tell(alloc, head, case.lines.as_str()),
+        _ => test_values::tell(rt, alloc, head, case.lines.as_str()),
     }
 }

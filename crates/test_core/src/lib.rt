@@ -35,7 +35,7 @@ mod workers;
 use std::alloc::Global;
 
 /// What a script answers, whose first line begins with `# core`: each of its orders with its answer, a line for each.
-pub fn told(alloc: Global, head: &str, lines: &str) -> Option<String> {
+pub fn tell(alloc: Global, head: &str, lines: &str) -> Option<String> {
     if head.starts_with("# core random") {
         return random::random_turns(alloc);
     }

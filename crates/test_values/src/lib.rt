@@ -97,7 +97,7 @@ fn add(all: &mut String, came: &Option<String>) -> Option<()> {
 }
 
 /// What a script answers, whose first line begins with `# ` and the name of a part, which is known by its first byte: a line for each case.
-pub fn told<R: rt::Files>(system: &R, alloc: Global, head: &str, lines: &str) -> Option<String> {
+pub fn tell<R: rt::Files>(system: &R, alloc: Global, head: &str, lines: &str) -> Option<String> {
     let part = *head.as_bytes().get(2)?;
     let mut given = "";
     let mut all = String::new(alloc);
