@@ -1,0 +1,324 @@
+#!/usr/bin/env python3
+"""Looks at `kubeconv migrate` from outside, against servers as they are:
+
+    python3 checks/outside.py KUBECONV
+
+- Against `kubeconv serve` without workers, while 8 clients write and read, by the checks that checks/soak.py has of each answer: the
+  storage version is moved there and back, and each time `migrate` is run until it ends with a tally. The tally adds up; the trim to the
+  storage version is taken, so no object stands at another; the raw text of each object says the same once the clients have ended; and
+  no answer to a client was wrong. A list that is forgotten 17 times is told, and `migrate` is run again.
+- Against a server of Go's `net/http` (outside.go beside this file, which says what it does): it answers in chunks, its objects have
+  managedFields, and its continue tokens are of its own form. Each count of the tally is the one that follows of what that server does,
+  and what is put back is what was given. Pages of more than 1 MiB are asked for by halves. Without `go` this is skipped.
+- Through `kubectl proxy`, with `--accept-hosts` and without. Without `kubectl` this is skipped.
+
+Each step says what it saw, and the status is 1 where something is wrong."""
+
+import contextlib
+import json
+import pathlib
+import re
+import shutil
+import subprocess
+import sys
+import tempfile
+import threading
+import time
+import urllib.request
+
+import parts  # noqa: F401  finds the next ones
+from documents import name_of
+from programs import built
+from serving import DEFINITION, GROUP, Connection, Server, address_of, ask, creation, moved
+from soak import SHARED, SHARED_NAMES, Client, faults_at_end, faults_of_numbers, faults_of_shared, open_shared
+
+HERE = pathlib.Path(__file__).resolve().parent
+FAULTS = []
+CLIENTS = 8
+# How many objects stand beside those of the clients, how long a client waits behind each request, and how often storage is moved.
+BESIDE = (600, 0.05, 4), (100, 0, 4)
+# `migrate` is run so often where its list is forgotten, and then the clients wait so many times as long.
+RUNS, LONGER = 5, 2
+# A connection is asked so much.
+REQUESTS = 10_000
+SECONDS = 300
+COUNTS = ["listed", "written", "unchanged", "gone", "contested"]
+# Objects of the server in Go, and the number of the one that is contested.
+OBJECTS, CONTESTED = 800, 721
+
+
+def check(holds, what):
+    print(f"{'ok' if holds else 'WRONG':<6} {what}", flush=True)
+    if not holds:
+        FAULTS.append(what)
+
+
+# ---- a run
+
+
+class Run:
+    """One run of `migrate`: its status, its tally where it wrote one, and what it told."""
+
+    def __init__(self, program, address, version="v1"):
+        url = "http://{}:{}{}/{}/crontabs".format(*address, GROUP, version)
+        start = time.monotonic()
+        try:
+            ran = subprocess.run([program, "migrate", url], stdin=subprocess.DEVNULL, capture_output=True, text=True, timeout=SECONDS)
+        except subprocess.TimeoutExpired:
+            sys.exit(f"no end of migrate in {SECONDS} s")
+        self.seconds = time.monotonic() - start
+        self.status, self.told = ran.returncode, ran.stderr.strip()
+        found = re.fullmatch("".join(rf"{name} (\d+)\n" for name in COUNTS), ran.stdout)
+        self.tally = dict(zip(COUNTS, map(int, found.groups()))) if found else None
+        self.is_silent = not ran.stdout
+
+    def said(self):
+        tally = " ".join(f"{name} {count}" for name, count in self.tally.items()) if self.tally else "no tally"
+        return f"{tally}; status {self.status}{f', {self.told!r}' if self.told else ''}, {self.seconds:.1f} s"
+
+    def is_forgotten(self):
+        """Whether its list was forgotten too often."""
+        return (self.status, self.is_silent, self.told) == (13, True, "kubeconv: contested")
+
+    def is_settled(self):
+        """Whether there is a tally that adds up, and the status that goes with it."""
+        if not self.tally:
+            return False
+        listed, *others = self.tally.values()
+        wanted = (13, "kubeconv: contested") if self.tally["contested"] else (0, "")
+        return listed == sum(others) and (self.status, self.told) == wanted
+
+
+# ---- beside clients of `serve`
+
+
+class Writer(Client):
+    """A client of checks/soak.py that waits behind each request, and goes on until it is told to end."""
+
+    def __init__(self, address, mark, number, pause):
+        super().__init__(address, mark, number, REQUESTS, float("inf"))
+        self.address, self.pause = address, pause
+
+    def step(self):
+        super().step()
+        time.sleep(self.pause)
+        if self.left < REQUESTS // 100:
+            self.connection.close()
+            self.connection, self.left = Connection(self.address, SECONDS), REQUESTS
+
+
+def stored(definition):
+    return next(it["name"] for it in definition["spec"]["versions"] if it["storage"])
+
+
+def move(address):
+    """The other storage version."""
+    connection = Connection(address)
+    definition = moved(ask(connection, 200, "GET", DEFINITION))
+    ask(connection, 200, "PUT", DEFINITION, definition)
+    connection.close()
+    return stored(definition)
+
+
+def trimmed(address, storage):
+    """What a trim to the storage version is answered: it names an object that stands at another."""
+    connection = Connection(address)
+    definition = ask(connection, 200, "GET", DEFINITION)
+    definition["status"]["storedVersions"] = [storage]
+    code, shown = connection.ask("PUT", DEFINITION + "/status", definition)
+    connection.close()
+    return "taken" if code == 200 and shown["status"]["storedVersions"] == [storage] else f"{code} {json.dumps(shown)[:200]}"
+
+
+def fill(address, size):
+    connection = Connection(address)
+    for first in range(0, size, 100):
+        asked = [creation(number) for number in range(first, min(first + 100, size))]
+        connection.send(b"".join(asked))
+        if any(connection.answer()[0] != 201 for _ in asked):
+            sys.exit("an object isn't created")
+    connection.close()
+
+
+def migrate_once(program, address, clients, size):
+    """One move of the storage version, and its migration while the clients write."""
+    storage, asked = move(address), sum(it.asked for it in clients)
+    for times in range(1, RUNS + 1):
+        run = Run(program, address, "v1beta1" if times % 2 else "v1")
+        if not run.is_forgotten():
+            break
+        print(f"       to {storage}: {run.said()}: the list was forgotten; the clients wait {LONGER} times as long now", flush=True)
+        for it in clients:
+            it.pause = LONGER * max(it.pause, 0.005)
+    asked = sum(it.asked for it in clients) - asked
+    check(run.is_settled() and run.tally["listed"] >= size, f"to {storage}, by run {times}: {run.said()}; {asked} requests of clients meanwhile")
+    trim = trimmed(address, storage)
+    check(trim == "taken", f"the trim to {storage}: {trim}")
+    return storage
+
+
+def raw_faults(address, size, known, storage):
+    """The objects whose stored text is of another version."""
+    keys = [("default", name_of(number)) for number in range(size)] + [(SHARED, name) for name in SHARED_NAMES]
+    keys += [(one["namespace"], name) for one in known for name in one["own"]]
+    connection, wrong = Connection(address), []
+    for namespace, name in keys:
+        shown = ask(connection, 200, "GET", f"/raw/{namespace}/{name}")
+        if shown["apiVersion"] != f"example.com/{storage}":
+            wrong.append(f"{namespace}/{name} is stored at {shown['apiVersion']}")
+    connection.close()
+    return wrong, len(keys)
+
+
+def beside(program, size, pause, moves):
+    """Migrations while clients write."""
+    print(f"beside {CLIENTS} clients of serve, which wait {pause * 1000:.0f} ms behind each request, and {size} objects more", flush=True)
+    server, mark = Server(program, 0), f"o{size}"
+    made = open_shared(server.address, mark)
+    fill(server.address, size)
+    clients = [Writer(server.address, mark, number, pause) for number in range(CLIENTS)]
+    threads = [threading.Thread(target=it.run, args=(0, 0), daemon=True) for it in clients]
+    for thread in threads:
+        thread.start()
+    for _ in range(moves):
+        storage = migrate_once(program, server.address, clients, size)
+    for it in clients:
+        it.until = 0
+    for thread in threads:
+        thread.join()
+    known = [it.known() for it in clients]
+    look_at_clients(server.address, mark, made, known)
+    wrong, count = raw_faults(server.address, size, known, storage)
+    check(not wrong, f"the raw text of {count} objects is of {storage}{told_of(wrong)}")
+    server.stop()
+
+
+def look_at_clients(address, mark, made, known):
+    """What the clients were answered, by the rules of checks/soak.py. A put of `migrate` looks like a worker's touch."""
+    wrong = [fault for one in known for fault in one["wrong"]]
+    of_numbers, touched = faults_of_numbers(made, [{**one, "moves": 1} for one in known])
+    of_shared, edits = faults_of_shared(made, known, touched)
+    at_end, objects = faults_at_end(address, mark, known, edits)
+    wrong += of_numbers + of_shared + at_end
+    asked, writes = sum(one["asked"] for one in known), sum(len(one["numbers"]) for one in known)
+    check(not wrong, f"{asked} requests of clients, {writes} writes, {len(touched)} puts of migrate seen, {objects} objects of theirs{told_of(wrong)}")
+
+
+def told_of(wrong):
+    return f": {len(wrong)} wrong, as {wrong[:3]}" if wrong else ""
+
+
+# ---- against a server in Go
+
+
+@contextlib.contextmanager
+def going(server, mode, objects, size):
+    """The server in Go, and its address."""
+    process = subprocess.Popen([server, mode, str(objects), str(size)], stdin=subprocess.DEVNULL, stdout=subprocess.PIPE, text=True)
+    try:
+        yield address_of(process.stdout.readline().rpartition(" ")[2].strip())
+    finally:
+        process.kill()
+        process.wait()
+
+
+def asked_of(address, path):
+    with urllib.request.urlopen("http://{}:{}{}".format(*address, path), timeout=SECONDS) as answer:
+        return answer.headers, json.load(answer)
+
+
+def expected(limit):
+    """The tally that follows of what the server in Go does, where its first page had so many objects and its second one is forgotten."""
+    first, later = range(limit), range(limit, OBJECTS)
+    gone, edited = ([at for at in later if at % 50 == rest] for rest in (13, 7))
+    contested = [at for at in later if at == CONTESTED]
+    unchanged = [at for at in first if at % 50 != 13] + edited
+    listed = len(later) + len(unchanged) - len(edited)
+    written = listed - len(unchanged) - len(gone) - len(contested)
+    return dict(zip(COUNTS, [listed, written, len(unchanged), len(gone), len(contested)]))
+
+
+def against_go(program, server, size, limits):
+    """Two migrations: the first meets what others do, and the second finds all done."""
+    with going(server, "plain", OBJECTS, size) as address:
+        headers, _page = asked_of(address, f"{GROUP}/v1/crontabs?limit={limits[0]}")
+        coding = headers.get("Transfer-Encoding")
+        check(coding == "chunked", f"Go, objects of {size} bytes: a page has Transfer-Encoding {coding}, Content-Length {headers.get('Content-Length')}")
+        run = Run(program, address)
+        check(run.is_settled() and run.tally == expected(limits[-1]), f"{run.said()}")
+        told = asked_of(address, "/told")[1]
+        check(told["Limits"] == limits, f"pages of at most {told['Limits']} objects are asked for")
+        check(not told["Wrong"], f"{told['Lists']} lists, {told['Gets']} gets, {told['Puts']} puts; wrong: {told['Wrong']}")
+        check(not told["Old"], f"still at the old version: {told['Old']}")
+        run, there = Run(program, address), OBJECTS - OBJECTS // 50
+        done = dict(zip(COUNTS, [there, 0, there, 0, 0]))
+        check(run.is_settled() and run.tally == done, f"again: {run.said()}")
+
+
+def against_limits(program, server):
+    """What docs/COMMANDS.md says that ends with `answer 0`."""
+    cases = {
+        "namespaces `a` and `a-b` in the order of etcd": ("etcd", 40, 10),
+        "numbers with a fraction": ("fraction", 2, 10),
+        "objects without a namespace": ("cluster", 2, 10),
+        "a page in chunks of more than 2 MiB": ("plain", 600, 5_000),
+    }
+    for what, words in cases.items():
+        with going(server, *words) as address:
+            run = Run(program, address)
+            check((run.status, run.told, run.is_silent) == (12, "kubeconv: answer 0", True), f"{what}: {run.said()}")
+
+
+# ---- through kubectl proxy
+
+
+@contextlib.contextmanager
+def proxied(address, *words):
+    """`kubectl proxy` before a server, and its address."""
+    line = ["kubectl", "--server=http://{}:{}".format(*address), "--kubeconfig=/dev/null", "proxy", "--port=0", *words]
+    process = subprocess.Popen(line, stdin=subprocess.DEVNULL, stdout=subprocess.PIPE, text=True)
+    try:
+        yield address_of(process.stdout.readline().rpartition(" ")[2].strip())
+    finally:
+        process.kill()
+        process.wait()
+
+
+def through_kubectl(program):
+    server = Server(program, 0)
+    fill(server.address, 50)
+    move(server.address)
+    with proxied(server.address) as address:
+        run = Run(program, address)
+        check((run.status, run.told) == (12, "kubeconv: answer 403"), f"kubectl proxy: {run.said()}")
+    with proxied(server.address, "--accept-hosts=^kubeconv$") as address:
+        run = Run(program, address)
+        check(run.is_settled() and run.tally["written"] == 50, f"kubectl proxy --accept-hosts='^kubeconv$': {run.said()}")
+    server.stop()
+
+
+def main():
+    """Reads the words, runs and prints."""
+    if len(sys.argv) != 2:
+        sys.exit(__doc__)
+    program = built(sys.argv[1])
+    for size, pause, moves in BESIDE:
+        beside(program, size, pause, moves)
+    if shutil.which("go"):
+        with tempfile.TemporaryDirectory() as folder:
+            server = pathlib.Path(folder) / "outside"
+            subprocess.run(["go", "build", "-o", server, HERE / "outside.go"], check=True)
+            against_go(program, server, 100, [500])
+            against_go(program, server, 3_000, [500, 250])
+            against_limits(program, server)
+    else:
+        print("skipped: the machine has no go, so nothing was looked at against its net/http", flush=True)
+    if shutil.which("kubectl"):
+        through_kubectl(program)
+    else:
+        print("skipped: the machine has no kubectl, so nothing was looked at through its proxy", flush=True)
+    sys.exit(1 if FAULTS else 0)
+
+
+if __name__ == "__main__":
+    main()
