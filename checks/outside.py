@@ -248,8 +248,9 @@ def against_go(program, server, size, limits):
         check(run.is_settled() and run.tally == expected(limits[-1]), f"{run.said()}")
         told = asked_of(address, "/told")[1]
         check(told["Limits"] == limits, f"pages of at most {told['Limits']} objects are asked for")
-        check(not told["Wrong"], f"{told['Lists']} lists, {told['Gets']} gets, {told['Puts']} puts; wrong: {told['Wrong']}")
-        check(not told["Old"], f"still at the old version: {told['Old']}")
+        check(not told["Wrong"], f"{told['Lists']} lists, {told['Gets']} gets, {told['Puts']} puts{told_of(told['Wrong'] or [])}")
+        old = told["Old"] or []
+        check(not old, f"{len(old)} objects are left that weren't stored anew {old[:3] or ''}".strip())
         run, there = Run(program, address), OBJECTS - OBJECTS // 50
         done = dict(zip(COUNTS, [there, 0, there, 0, 0]))
         check(run.is_settled() and run.tally == done, f"again: {run.said()}")
