@@ -170,27 +170,37 @@ def raw_faults(address, size, known, storage):
     return wrong, len(keys)
 
 
+@contextlib.contextmanager
+def served(program, size):
+    """A server without workers at which so many objects stand."""
+    server = Server(program, 0)
+    try:
+        fill(server.address, size)
+        yield server.address
+    finally:
+        server.stop()
+
+
 def beside(program, size, pause, moves):
     """Migrations while clients write."""
     print(f"beside {CLIENTS} clients of serve, which wait {pause * 1000:.0f} ms behind each request, and {size} objects more", flush=True)
-    server, mark = Server(program, 0), f"o{size}"
-    made = open_shared(server.address, mark)
-    fill(server.address, size)
-    clients = [Writer(server.address, mark, number, pause) for number in range(CLIENTS)]
-    threads = [threading.Thread(target=it.run, args=(0, 0), daemon=True) for it in clients]
-    for thread in threads:
-        thread.start()
-    for _ in range(moves):
-        storage = migrate_once(program, server.address, clients, size)
-    for it in clients:
-        it.until = 0
-    for thread in threads:
-        thread.join()
-    known = [it.known() for it in clients]
-    look_at_clients(server.address, mark, made, known)
-    wrong, count = raw_faults(server.address, size, known, storage)
-    check(not wrong, f"the raw text of {count} objects is of {storage}{told_of(wrong)}")
-    server.stop()
+    with served(program, size) as address:
+        mark = f"o{size}"
+        made = open_shared(address, mark)
+        clients = [Writer(address, mark, number, pause) for number in range(CLIENTS)]
+        threads = [threading.Thread(target=it.run, args=(0, 0), daemon=True) for it in clients]
+        for thread in threads:
+            thread.start()
+        for _ in range(moves):
+            storage = migrate_once(program, address, clients, size)
+        for it in clients:
+            it.until = 0
+        for thread in threads:
+            thread.join()
+        known = [it.known() for it in clients]
+        look_at_clients(address, mark, made, known)
+        wrong, count = raw_faults(address, size, known, storage)
+        check(not wrong, f"the raw text of {count} objects is of {storage}{told_of(wrong)}")
 
 
 def look_at_clients(address, mark, made, known):
@@ -286,16 +296,14 @@ def proxied(address, *words):
 
 
 def through_kubectl(program):
-    server = Server(program, 0)
-    fill(server.address, 50)
-    move(server.address)
-    with proxied(server.address) as address:
-        run = Run(program, address)
-        check((run.status, run.told) == (12, "kubeconv: answer 403"), f"kubectl proxy: {run.said()}")
-    with proxied(server.address, "--accept-hosts=^kubeconv$") as address:
-        run = Run(program, address)
-        check(run.is_settled() and run.tally["written"] == 50, f"kubectl proxy --accept-hosts='^kubeconv$': {run.said()}")
-    server.stop()
+    with served(program, 50) as server:
+        move(server)
+        with proxied(server) as address:
+            run = Run(program, address)
+            check((run.status, run.told) == (12, "kubeconv: answer 403"), f"kubectl proxy: {run.said()}")
+        with proxied(server, "--accept-hosts=^kubeconv$") as address:
+            run = Run(program, address)
+            check(run.is_settled() and run.tally["written"] == 50, f"kubectl proxy --accept-hosts='^kubeconv$': {run.said()}")
 
 
 def main():
