@@ -9,7 +9,7 @@
   no answer to a client was wrong. A list that is forgotten 17 times is told, and `migrate` is run again.
 - Against a server of Go's `net/http` (outside.go beside this file, which says what it does): it answers in chunks, its objects have
   managedFields, and its continue tokens are of its own form. Each count of the tally is the one that follows of what that server does,
-  and what is put back is what was given. Pages of more than 1 MiB are asked for by halves. Without `go` this is skipped.
+  and what is put back is what was given. Pages of more than 1 MiB, and of more than 2, are asked for by halves. Without `go` this is skipped.
 - Through `kubectl proxy`, with `--accept-hosts` and without. Without `kubectl` this is skipped.
 
 Each step says what it saw, and the status is 1 where something is wrong."""
@@ -272,7 +272,6 @@ def against_limits(program, server):
         "namespaces `a` and `a-b` in the order of etcd": ("etcd", 40, 10),
         "numbers with a fraction": ("fraction", 2, 10),
         "objects without a namespace": ("cluster", 2, 10),
-        "a page in chunks of more than 2 MiB": ("plain", 600, 5_000),
     }
     for what, words in cases.items():
         with going(server, *words) as address:
@@ -319,6 +318,7 @@ def main():
             subprocess.run(["go", "build", "-o", server, HERE / "outside.go"], check=True)
             against_go(program, server, 100, [500])
             against_go(program, server, 3_000, [500, 250])
+            against_go(program, server, 5_000, [500, 250, 125])
             against_limits(program, server)
     else:
         print("skipped: the machine has no go, so nothing was looked at against its net/http", flush=True)
