@@ -2,9 +2,9 @@
 """Explains a definition and its rules to their author: all their faults, each with how it is mended, or what the rules do with each field,
 or what becomes of an object.
 
-    python3 tools/explain.py PROGRAM CRD RULES CRD_NAME RULES_NAME [OBJECT VERSION]
+    python3 tools/explain.py PROGRAM CRD RULES CRD_NAME RULES_NAME [KUBECONV OBJECT VERSION]
 
-PROGRAM is a built program `explain`. CRD, RULES and OBJECT are files of JSON, and the names are those that faults are told by. ./explain
+PROGRAM is a built program `explain`, and KUBECONV one of kubeconv, which converts. CRD, RULES and OBJECT are files of JSON, and the names are those that faults are told by. ./explain
 hands them over. What is so is asked of the program, and laid out here: a fault is told only where the two files don't load, and the first
 one is the one that loading tells. The others are found by tools/find_faults.py.
 
@@ -18,7 +18,8 @@ import find_faults
 from field_rows import rows
 from object_report import report
 
-FAULTY, WRITE_FAILED = 3, 6
+FAULTY, REFUSED, UNREADABLE, WRITE_FAILED = 3, 4, 5, 6
+TOO_LONG = "TooLong"
 # What is said of a fault by its word alone.
 WORDS = {
     "NotJson": "the file isn't JSON, or has more than 127 levels; YAML is turned into JSON by tools/yaml2json.py",
@@ -37,7 +38,7 @@ WORDS = {
 KEYWORD = "this keyword isn't taken, or isn't of its form; leave it out"
 # What is said of a status of the program.
 ENDS = {
-    5: "a file can't be read, has more than 4194304 bytes, or is no text",
+    UNREADABLE: "a file can't be read, has more than 4194304 bytes, or is no text",
     WRITE_FAILED: "write failed",
     7: "out of memory",
 }
@@ -57,11 +58,31 @@ class Facts:
     def __init__(self, program, crd, rules):
         self.words = [program, crd, rules]
 
-    def ask(self, *further):
-        done = subprocess.run([*self.words, *further], stdin=subprocess.DEVNULL, stdout=subprocess.PIPE)
+    def ask(self):
+        done = subprocess.run(self.words, stdin=subprocess.DEVNULL, stdout=subprocess.PIPE)
         if done.returncode:
             raise Failed(done.returncode)
         return json.loads(done.stdout)
+
+
+class Conversions:
+    """What `kubeconv convert` says of objects by two files."""
+
+    def __init__(self, kubeconv, crd, rules):
+        self.words = [kubeconv, "convert", "--crd", crd, "--rules", rules, "--to"]
+
+    def ask(self, path, version):
+        with open(path, "rb") as file:
+            done = subprocess.run([*self.words, version], stdin=file, capture_output=True)
+        if done.returncode == REFUSED:
+            # its line is the last one: the launcher may have said before that the program isn't proved here
+            why = done.stderr.decode("utf-8", "replace").rstrip("\n").rpartition("\n")[2].removeprefix("kubeconv: ")
+            if why == TOO_LONG:
+                raise Failed(UNREADABLE)
+            return {"refused": why}
+        if done.returncode:
+            raise Failed(done.returncode)
+        return {"value": json.loads(done.stdout)}
 
 
 def split_first(first, found):
@@ -85,14 +106,18 @@ def faults(names, first, found):
 
 
 def explained(program, crd, rules, names, *further):
-    """What is told of two files, which have these names, and of a further file and a version; and the status."""
+    """What is told of two files, which have these names; and where a built kubeconv, an object's file and a version are given, of that
+    object; and the status."""
     facts = Facts(program, crd, rules)
     first = facts.ask()
     if first:
         return faults(names, first, find_faults.find_in_files(crd, rules)), FAULTY
     texts = [find_faults.text_of(it) for it in (crd, rules)]
     documents = [find_faults.document(find_faults.Faults(), it) for it in texts]
-    return (report(facts.ask, documents[0], *further) if further else rows(*documents)), 0
+    if not further:
+        return rows(*documents), 0
+    kubeconv, *of_object = further
+    return report(Conversions(kubeconv, crd, rules).ask, documents[0], *of_object), 0
 
 
 def is_put(text):
@@ -118,6 +143,6 @@ def main(program, crd, rules, crd_name, rules_name, *further):
 
 
 if __name__ == "__main__":
-    if len(sys.argv) not in (6, 8):
+    if len(sys.argv) not in (6, 9):
         sys.exit(__doc__)
     sys.exit(main(*sys.argv[1:]))

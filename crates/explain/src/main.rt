@@ -1,22 +1,18 @@
-//! What is so of a definition and its rules, and of an object, as a line of JSON.
+//! What is so of a definition and its rules, as a line of JSON.
 //!
-//!     explain CRD RULES [OBJECT VERSION]
+//!     explain CRD RULES
 //!
-//! All words but the version are files of JSON. It prints `{}` where the first two load, and else what is refused first, as
-//! `{"file":"rules","path":"host","word":"SchemaDiffers"}`, where the file is `crd` or `rules`. With an object, where the two load, it
-//! prints what the object is at the version, as `{"value":OBJECT}`, or why it is nothing there, as `{"refused":"spec.size: Enum"}`.
-//! `tools/explain.py` tells an author what follows of that.
+//! Both words are files of JSON. It prints `{}` where they load, and else what is refused first, as
+//! `{"file":"rules","path":"host","word":"SchemaDiffers"}`, where the file is `crd` or `rules`. `tools/explain.py` tells an author what
+//! follows of that, and asks `kubeconv convert` what becomes of an object.
 //!
 //! It ends with 0 where it printed a line, and else silently: with 2 at other words, 5 where a file can't be read or is no text, 6 where
 //! the output fails, and 7 without memory.
 #![tactic(auto)]
 
-mod object;
-
 use edge_io::{DiskFiles, FileFault, Files};
 use explain_rules::explain;
 use kj_value::{NoMemory, Txt};
-use object::explain_object;
 use std::alloc::Global;
 use std::env;
 use std::process::ExitCode;
@@ -57,27 +53,12 @@ fn put_line(rt: &HostRuntime, line: Result<Txt, NoMemory>) -> u8 {
     }
 }
 
-// Tells of two texts, and with two further words of the object in a file and a version.
-fn tell(rt: &HostRuntime, alloc: Global, texts: [&[u8]; 2], further: &[String]) -> u8 {
-    let [crd, rules] = texts;
-    match further {
-        [path, to] => match text_of(rt, alloc, path.as_str()) {
-            Ok(object) => {
-                let object = object.as_str().as_bytes();
-                put_line(rt, explain_object(alloc, texts, object, to.as_str()))
-            }
-            Err(status) => status,
-        },
-        _ => put_line(rt, explain(alloc, crd, rules)),
-    }
-}
-
 // Tells of the texts in two files.
-fn tell_files(rt: &HostRuntime, alloc: Global, crd: &str, rules: &str, further: &[String]) -> u8 {
+fn tell_files(rt: &HostRuntime, alloc: Global, crd: &str, rules: &str) -> u8 {
     match (text_of(rt, alloc, crd), text_of(rt, alloc, rules)) {
         (Ok(crd), Ok(rules)) => {
-            let texts = [crd.as_str().as_bytes(), rules.as_str().as_bytes()];
-            tell(rt, alloc, texts, further)
+            let told = explain(alloc, crd.as_str().as_bytes(), rules.as_str().as_bytes());
+            put_line(rt, told)
         }
         (Err(status), _) => status,
         (_, Err(status)) => status,
@@ -86,9 +67,7 @@ fn tell_files(rt: &HostRuntime, alloc: Global, crd: &str, rules: &str, further: 
 
 fn run(rt: &HostRuntime, alloc: Global, words: &[String]) -> u8 {
     match words {
-        [_, crd, rules, further @ ..] if further.is_empty() || further.len() == 2 => {
-            tell_files(rt, alloc, crd.as_str(), rules.as_str(), further)
-        }
+        [_, crd, rules] => tell_files(rt, alloc, crd.as_str(), rules.as_str()),
         _ => BAD_WORDS,
     }
 }
