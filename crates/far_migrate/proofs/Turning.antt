@@ -17,7 +17,7 @@ use Rattle.far_migrate.specs.Answered.{expired}
 use Rattle.far_migrate.specs.Counts.{Counts, with_page, counts_of, fault_of}
 use Rattle.far_migrate.specs.Puts.{PutsBack, Handled, all, failed}
 use Rattle.far_migrate.specs.Pages as pages
-use Rattle.far_migrate.specs.Pages.{Step, Stop, goes_on, goes_on_with, objects_of, token_of, is_empty, last_key, with_objects, after_page, at_first, most_objects, most_restarts}
+use Rattle.far_migrate.specs.Pages.{Step, Stop, goes_on, goes_on_from, goes_on_with, objects_of, token_of, is_empty, last_key, with_objects, after_page, at_first, most_objects, most_restarts}
 use Rattle.far_migrate.specs.inner.Ends.{IsOne}
 use Rattle.far_migrate.specs.inner.Runs.{run_of, left_in, TakesPage, Turns}
 use Rattle.far_migrate.specs.declared.run.Run.{Run}
@@ -55,6 +55,9 @@ same_run x y limit times token last counts =
     ∙ ap (λ (v : Counts). record { limit = y.limit; expired = y.expired; token = y.token; last = y.last; counts = v }) counts
 
 -- ---- a page in memory, of which the items and the token are lent
+
+pub goes_at : (a : pages.Run) (last : Option KeyView) (js : List Json) (token : List ℕ) (b : Bool) → last ≡ a.last → b ≡ goes_on_from last a.counts.listed js token → b ≡ goes_on_with a js token
+goes_at a last js token b is goes = goes ∙ ap (λ (l : Option KeyView). goes_on_from l a.counts.listed js token) is
 
 pub goes_as : (a : pages.Run) (js items : List Json) (token bytes : List ℕ) (b c : Bool) → js ≡ items → token ≡ bytes → b ≡ goes_on_with a js token → b ≡ c
     → goes_on_with a items bytes ≡ c

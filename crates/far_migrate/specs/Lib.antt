@@ -4,4 +4,5 @@ pub mod Puts
 pub mod Pages
 pub mod Migrates
 pub mod Told
+pub mod laws
 pub mod inner

@@ -55,6 +55,14 @@ is_empty (x ∷ xs) = false
 
 -- ---- between two pages
 
+-- The page goes on with its list, whose pages so far have that last key and so many objects: its keys rise behind those before it, there
+-- is one where another page follows, and there aren't too many in all.
+abbrev pub goes_on_from : Option KeyView → ℕ → List Json → List ℕ → Bool
+goes_on_from last listed js token =
+    rise_behind last js
+    && (is_empty token || not (is_empty js))
+    && nat_le (listed + length js) most_objects
+
 pub record Run : Type 0 where
   -- the objects that the next page may have
   pub limit : ℕ
@@ -71,13 +79,8 @@ pub record Run : Type 0 where
 abbrev pub at_first : ℕ → ℕ → Run
 at_first limit times = record { limit = limit; expired = times; token = []; last = None; counts = nothing }
 
--- The page goes on with its list: its keys rise behind those before it, there is one where another page follows, and there aren't too
--- many in all.
 abbrev pub goes_on_with : Run → List Json → List ℕ → Bool
-goes_on_with a js token =
-    rise_behind a.last js
-    && (is_empty token || not (is_empty js))
-    && nat_le (a.counts.listed + length js) most_objects
+goes_on_with a js token = goes_on_from a.last a.counts.listed js token
 
 abbrev pub goes_on : Run → Json → Bool
 goes_on a j = goes_on_with a (objects_of j) (token_of j)

@@ -17,4 +17,6 @@ mod run;
 mod tally;
 
 pub use migrating::migrate;
+pub use ordering::{goes_on, is_last, last_of};
+pub use run::FIRST_LIMIT;
 pub use tally::{FarFault, Tally};

@@ -4,41 +4,29 @@ ghost use Rattle.kj_value.specs.Json.{depth, items_depth, items_of};
 ghost use Rattle.kj_value.specs.Seen.{json};
 ghost use Rattle.edge_io.specs.Causes.{Rose};
 ghost use Rattle.edge_io.specs.Exchanges.{Exchange};
-ghost use Rattle.kube_meta.specs.Names.{is_name, is_namespace};
 ghost use Rattle.place.specs.Place.{place_of};
 ghost use Rattle.wire_client.specs.Far.{Made};
-ghost use Rattle.wire_client.specs.Keys.{IsKeyed, AreKeyed, texts_key};
+ghost use Rattle.wire_client.specs.Keys.{IsKeyed, AreKeyed};
 ghost use Rattle.wire_client.specs.declared.buffer.TheConstants.{ANSWER_LEVELS};
 ghost use Rattle.far_migrate.specs.Counts.{OnLink, counts_of, counted};
 ghost use Rattle.far_migrate.specs.inner.Ends.{became, handled, kind_of};
-ghost use Rattle.far_migrate.specs.Pages.{goes_on_with, is_empty, last_key, most_objects};
 ghost use Rattle.far_migrate.specs.Puts.{key_of, most_puts, PutBack, PutsBack};
 ghost use Rattle.far_migrate.specs.inner.Runs.{run_of, IsRunning, Owes, Turns, TakesPage};
 
 use crate::ending::{OTHER, Unlisted, list_end};
-use crate::ordering::rise_behind;
+use crate::ordering::{copied, goes_on, is_last, last_of};
 use crate::putting::{Kind, put_back};
-use crate::run::{MOST_OBJECTS, MOST_PUTS, Run};
+use crate::run::{MOST_PUTS, Run};
 use crate::tally::{FarFault, Tally};
-use kj_value::{JItems, JVal, NoMemory};
-use kube_meta::Key;
+use kj_value::{JVal, NoMemory};
 use std::alloc::Global;
-use wire_client::{Far, KeyTexts, ListPage, Place, ResponseBuffer, key_texts, list_page};
+use wire_client::{Far, ListPage, Place, ResponseBuffer, key_texts, list_page};
 
 /// Whether another page follows.
 #[derive(Clone, Copy, Debug, PartialEq, Eq, Drop)]
 pub(crate) enum Turned {
     More,
     Done,
-}
-
-// A key in memory of its own.
-fn copied(alloc: Global, key: KeyTexts<'_>) -> Result<Key, NoMemory>
-    requires ns { IsTrue (is_namespace (texts_key key).ns) }
-    requires name { IsTrue (is_name (texts_key key).name) }
-    ensures { IfOk result (λ k. k ≡ texts_key key.entry) }
-{
-    Key::of(alloc, key.ns, key.name)
 }
 
 // Puts one object back.
@@ -109,43 +97,6 @@ fn put_all<R: Far>(
     Ok(())
 }
 
-// Whether the page goes on with its list.
-fn goes_on(run: &Run, objects: &[JVal], token: &str) -> bool
-    requires { IsRunning run.now }
-    ensures goes { result ≡ goes_on_with (run_of run.now) (map json objects.now) token.now }
-    ensures few { IsTrue result → run.now.counts.listed + length objects.now ≤ most_objects }
-{
-    if !rise_behind(run.last_key(), objects) {
-        return false;
-    }
-    if objects.is_empty() && !token.is_empty() {
-        return false;
-    }
-    objects.len() as u64 <= MOST_OBJECTS - run.counts.listed
-}
-
-// The key of the last object, in memory of its own, where there is one.
-#[tactic(auto, using(crate::proofs::Orders::last_is))]
-fn last_of(alloc: Global, objects: &[JVal]) -> Result<Option<Key>, NoMemory>
-    requires { AreKeyed (map json objects.now) }
-    ensures { IfOk result (λ k. k ≡ last_key None (map json objects.now)) }
-{
-    match objects.last() {
-        Some(object) => match copied(alloc, key_texts(object)) {
-            Ok(key) => Ok(Some(key)),
-            Err(NoMemory) => Err(NoMemory),
-        },
-        None => Ok(None),
-    }
-}
-
-// Whether no page follows.
-fn is_last(token: &str) -> bool
-    ensures { result ≡ is_empty token.now }
-{
-    token.is_empty()
-}
-
 // Puts the objects of a page back, and goes on to the next.
 fn take_page<R: Far>(
     far: &mut R,
@@ -171,7 +122,12 @@ fn take_page<R: Far>(
         token,
         rv: _,
     } = page;
-    if !goes_on(run, items.as_slice(), token.as_str()) {
+    if !goes_on(
+        run.last_key(),
+        run.counts.listed,
+        items.as_slice(),
+        token.as_str(),
+    ) {
         return Err(OTHER);
     }
     let last = match last_of(alloc, items.as_slice()) {

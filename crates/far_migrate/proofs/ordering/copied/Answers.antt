@@ -1,5 +1,5 @@
 use Rattle.far_migrate.proofs.KeyFits.{namespace_fits, name_fits}
-use Rattle.far_migrate.proofs.paging.copied.Goals as goal
+use Rattle.far_migrate.proofs.ordering.copied.Goals as goal
 
 pub of-requires-clause-ns_fits : goal.of-requires-clause-ns_fits
 of-requires-clause-ns_fits c = namespace_fits c.args.key.ns.now c.requires.ns

@@ -3,7 +3,7 @@ use Rattle.std.specs.Prelude.{IsTrue}
 use Rattle.kube_meta.specs.Key.{KeyView}
 use Rattle.kube_meta.specs.Names.{is_name, is_namespace}
 use Rattle.far_migrate.proofs.Objects.{keyed_last}
-use Rattle.far_migrate.proofs.paging.last_of.Goals as goal
+use Rattle.far_migrate.proofs.ordering.last_of.Goals as goal
 
 pub copied-requires-clause-ns : goal.copied-requires-clause-ns
 copied-requires-clause-ns c =
