@@ -1,0 +1,12 @@
+mod Depths
+mod Written
+mod Taking
+mod Listing
+mod Leading
+mod Lining
+mod Reading
+mod PostEnds
+mod Stepping
+mod Wholes
+mod Counting
+mod Coding

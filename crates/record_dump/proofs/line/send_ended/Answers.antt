@@ -1,0 +1,14 @@
+use Rattle.std.proofs.Common.{[], ◌∷◌}
+use Rattle.std.proofs.lemmas.Result.{err_from_is_err_and}
+use Rattle.kj_value.specs.Characters.{line_feed}
+use Rattle.edge_io.specs.laws.Sending.{adds_fewer, sends_more}
+use Rattle.record_dump.proofs.line.send_ended.Goals as goal
+
+pub returns-in_err-send-clause-sent : goal.returns-in_err-send-clause-sent
+returns-in_err-send-clause-sent g c =
+    let p = err_from_is_err_and c.from_residual.result c.from_residual.ensures.1 in
+    rw p.1 (adds_fewer (g.K.Sink.written c.args.out.now) (g.K.Sink.written c.send.new.out) c.args.text.now (line_feed ∷ []) c.in_err-send.ensures.sent)
+
+pub returns-clause-sent : goal.returns-clause-sent
+returns-clause-sent g c =
+    sends_more (g.K.Sink.written c.args.out.now) (g.K.Sink.written c.send.new.out) (g.K.Sink.written c.send-2.new.out) c.args.text.now (line_feed ∷ []) c.send-2.result c.in_ok-send.ensures.sent c.send-2.ensures.sent

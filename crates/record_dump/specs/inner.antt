@@ -1,0 +1,3 @@
+pub mod Lined
+pub mod Posted
+pub mod Seen
