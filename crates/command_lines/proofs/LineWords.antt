@@ -11,7 +11,7 @@ use Rattle.command_lines.specs.declared.words.Given.{Given}
 use Rattle.command_lines.specs.declared.words.Command.{Command}
 use Rattle.command_lines.specs.declared.numbers.TheConstants.{MOST_STEPS}
 use Rattle.command_lines.specs.Given.{Within, line_of, values_in, TakesFirst, GivesOne, IsCommand}
-use Rattle.command_lines.specs.Lines.{built_in, from_files, example, no_definition, convert, review, Line, Service, pipe, task, drill, serve, migrate, Flag, crd_flag, rules_flag, to_flag, turns_flag, listen_flag, workers_flag, connections_flag, flag_text, IsValue, IsUnserved, BeginsWithOption, apart, joined, Values, no_values, value_at, with_value, Gives, no_more, one_more, command_word, SpellsTurns, SpellsWorkers, SpellsConnections, HasValues, HasOptions, HasNumbers, HasAddress, IsLine}
+use Rattle.command_lines.specs.Lines.{built_in, from_files, example, no_definition, convert, review, Line, Service, pipe, task, drill, serve, Remote, migrate, dump, load, remote, Flag, crd_flag, rules_flag, to_flag, turns_flag, listen_flag, workers_flag, connections_flag, flag_text, IsValue, IsUnserved, BeginsWithOption, apart, joined, Values, no_values, value_at, with_value, Gives, no_more, one_more, remote_word, command_word, SpellsTurns, SpellsWorkers, SpellsConnections, HasValues, HasOptions, HasNumbers, HasAddress, IsLine}
 
 -- ---- one option
 
@@ -169,12 +169,12 @@ one_line (pipe built_in m) (task d s (convert w)) v e one other = let first : 11
 one_line (pipe built_in m) (task d s review) v e one other = let first : 112 ≡ 114 = ap (λ (s : List ℕ). get_or s 0 0) e in absurd (omega (arith, first))
 one_line (pipe built_in m) (pipe example n) v e one other = absurd other
 one_line (pipe built_in m) (pipe no_definition n) v e one other = absurd other
-one_line (pipe built_in m) (migrate u) v e one other = absurd other
+one_line (pipe built_in m) (remote k u) v e one other = absurd other
 one_line (pipe built_in m) (drill a b) v e one other = absurd other
 one_line (pipe built_in m) (serve s) v e one other = let listen : None ≡ Some s.place = sym one.4.0 ∙ other.4 in cc
 one_line (pipe example m) b v e one other = absurd one
 one_line (pipe no_definition m) b v e one other = absurd one
-one_line (migrate u) b v e one other = absurd one
+one_line (remote k u) b v e one other = absurd one
 one_line (drill x n) b v e one other = absurd one
 one_line (pipe (from_files c r) m) (pipe built_in n) v e one other = let crd_is : Some c ≡ None = sym one.0 ∙ other.0 in cc
 one_line (pipe (from_files c r) m) (pipe (from_files d s) n) v e one other =
@@ -186,7 +186,7 @@ one_line (pipe (from_files c r) m) (task d s (convert w)) v e one other = let fi
 one_line (pipe (from_files c r) m) (task d s review) v e one other = let first : 112 ≡ 114 = ap (λ (s : List ℕ). get_or s 0 0) e in absurd (omega (arith, first))
 one_line (pipe (from_files c r) m) (pipe example n) v e one other = absurd other
 one_line (pipe (from_files c r) m) (pipe no_definition n) v e one other = absurd other
-one_line (pipe (from_files c r) m) (migrate u) v e one other = absurd other
+one_line (pipe (from_files c r) m) (remote k u) v e one other = absurd other
 one_line (pipe (from_files c r) m) (drill a b) v e one other = absurd other
 one_line (pipe (from_files c r) m) (serve s) v e one other = let listen : None ≡ Some s.place = sym one.4.0 ∙ other.4 in cc
 one_line (task c r (convert v2)) (pipe built_in n) v e one other = let first : 99 ≡ 112 = ap (λ (s : List ℕ). get_or s 0 0) e in absurd (omega (arith, first))
@@ -199,7 +199,7 @@ one_line (task c r (convert v2)) (task d s (convert w)) v e one other =
 one_line (task c r (convert v2)) (task d s review) v e one other = let first : 99 ≡ 114 = ap (λ (s : List ℕ). get_or s 0 0) e in absurd (omega (arith, first))
 one_line (task c r (convert v2)) (pipe example n) v e one other = absurd other
 one_line (task c r (convert v2)) (pipe no_definition n) v e one other = absurd other
-one_line (task c r (convert v2)) (migrate u) v e one other = absurd other
+one_line (task c r (convert v2)) (remote k u) v e one other = absurd other
 one_line (task c r (convert v2)) (drill a b) v e one other = absurd other
 one_line (task c r (convert v2)) (serve s) v e one other = let listen : None ≡ Some s.place = sym one.4.0 ∙ other.4 in cc
 one_line (task c r review) (pipe built_in n) v e one other = let first : 114 ≡ 112 = ap (λ (s : List ℕ). get_or s 0 0) e in absurd (omega (arith, first))
@@ -211,14 +211,14 @@ one_line (task c r review) (task d s review) v e one other =
     cc
 one_line (task c r review) (pipe example n) v e one other = absurd other
 one_line (task c r review) (pipe no_definition n) v e one other = absurd other
-one_line (task c r review) (migrate u) v e one other = absurd other
+one_line (task c r review) (remote k u) v e one other = absurd other
 one_line (task c r review) (drill a b) v e one other = absurd other
 one_line (task c r review) (serve s) v e one other = let listen : None ≡ Some s.place = sym one.4.0 ∙ other.4 in cc
 one_line (serve s) (pipe built_in n) v e one other = let listen : Some s.place ≡ None = sym one.4 ∙ other.4.0 in cc
 one_line (serve s) (pipe (from_files c r) n) v e one other = let listen : Some s.place ≡ None = sym one.4 ∙ other.4.0 in cc
 one_line (serve s) (pipe example n) v e one other = absurd other
 one_line (serve s) (pipe no_definition n) v e one other = absurd other
-one_line (serve s) (migrate u) v e one other = absurd other
+one_line (serve s) (remote k u) v e one other = absurd other
 one_line (serve s) (task c r (convert w)) v e one other = let listen : Some s.place ≡ None = sym one.4 ∙ other.4.0 in cc
 one_line (serve s) (task c r review) v e one other = let listen : Some s.place ≡ None = sym one.4 ∙ other.4.0 in cc
 one_line (serve s) (drill a b) v e one other = absurd other
@@ -236,7 +236,7 @@ none_unserved w v other some (task c r (convert to)) e has = some has.4
 none_unserved w v other some (task c r review) e has = some has.4
 none_unserved w v other some (drill start count) e has = has
 none_unserved w v other some (serve s) e has = other e
-none_unserved w v other some (migrate url) e has = has
+none_unserved w v other some (remote k url) e has = has
 
 -- ---- words in memory
 
@@ -317,7 +317,7 @@ no_drill rest (task c r review) l =
     let e : codes "drill" ≡ codes "review" = let same : codes "drill" ∷ rest ≡ codes "review" ∷ l.options = l.command in cc in
     let first : 100 ≡ 114 = ap (λ (s : List ℕ). get_or s 0 0) e in omega (arith, first)
 no_drill rest (drill start count) l = l.has
-no_drill rest (migrate url) l = l.has
+no_drill rest (remote k url) l = l.has
 no_drill rest (serve s) l =
     let e : codes "drill" ≡ codes "serve" = let same : codes "drill" ∷ rest ≡ codes "serve" ∷ l.options = l.command in cc in
     let first : 100 ≡ 115 = ap (λ (s : List ℕ). get_or s 0 0) e in omega (arith, first)
@@ -390,71 +390,96 @@ options_only o w ws other only line (inr h) = absurd (other (only_drill w ws lin
 
 -- ---- an address
 
--- no other line begins with the word of a migration
-pub no_within : (rest : List (List ℕ)) (line : Line) → Within (codes "migrate" ∷ rest) line → ⊥
-no_within rest (pipe named turns) (inl l) =
-    let e : codes "migrate" ≡ codes "pipe" = let same : codes "migrate" ∷ rest ≡ codes "pipe" ∷ l.options = l.command in cc in
-    let first : 109 ≡ 112 = ap (λ (s : List ℕ). get_or s 0 0) e in omega (arith, first)
-no_within rest (task c r (convert to)) (inl l) =
-    let e : codes "migrate" ≡ codes "convert" = let same : codes "migrate" ∷ rest ≡ codes "convert" ∷ l.options = l.command in cc in
-    let first : 109 ≡ 99 = ap (λ (s : List ℕ). get_or s 0 0) e in omega (arith, first)
-no_within rest (task c r review) (inl l) =
-    let e : codes "migrate" ≡ codes "review" = let same : codes "migrate" ∷ rest ≡ codes "review" ∷ l.options = l.command in cc in
-    let first : 109 ≡ 114 = ap (λ (s : List ℕ). get_or s 0 0) e in omega (arith, first)
-no_within rest (drill start count) (inl l) = l.has
-no_within rest (migrate url) (inl l) = l.has
-no_within rest (serve s) (inl l) =
-    let e : codes "migrate" ≡ codes "serve" = let same : codes "migrate" ∷ rest ≡ codes "serve" ∷ l.options = l.command in cc in
-    let first : 109 ≡ 115 = ap (λ (s : List ℕ). get_or s 0 0) e in omega (arith, first)
-no_within rest line (inr h) =
-    let e : codes "migrate" ≡ codes "drill" = let same : codes "migrate" ∷ rest ≡ codes "drill" ∷ decimal h.start ∷ decimal h.count ∷ [] = h.spelled in cc in
-    let first : 109 ≡ 100 = ap (λ (s : List ℕ). get_or s 0 0) e in omega (arith, first)
+-- the third byte of a command's word tells what is done at a place
+remote_by : ℕ → Remote
+remote_by third = if third == 103 then migrate else (if third == 109 then dump else load)
 
--- and a migration begins with no other word
-pub only_migrate : (first : List ℕ) (rest : List (List ℕ)) (line : Line) → HasAddress (first ∷ rest) line → first ≡ codes "migrate"
-only_migrate first rest line h = let same : first ∷ rest ≡ codes "migrate" ∷ h.url ∷ [] = h.spelled in cc
+named_remote : (k : Remote) → remote_by (get_or (remote_word k) 2 0) ≡ k
+unfolding remote_by
+named_remote migrate = refl
+named_remote dump = refl
+named_remote load = refl
+
+same_remote : (j k : Remote) → remote_word j ≡ remote_word k → j ≡ k
+same_remote j k e = sym (named_remote j) ∙ ap (λ (w : List ℕ). remote_by (get_or w 2 0)) e ∙ named_remote k
+
+-- that byte is lower than those of the lines with options, and the fifth one lower than that of a drill
+low_third : (k : Remote) → get_or (remote_word k) 2 0 < 110
+low_third migrate = omega arith
+low_third dump = omega arith
+low_third load = omega arith
+
+low_fifth : (k : Remote) → get_or (remote_word k) 4 0 < 108
+low_fifth migrate = omega arith
+low_fifth dump = omega arith
+low_fifth load = omega arith
+
+-- no other line begins with the word of one that works at an address
+pub no_within : (k : Remote) (rest : List (List ℕ)) (line : Line) → Within (remote_word k ∷ rest) line → ⊥
+no_within k rest (pipe named turns) (inl l) =
+    let e : remote_word k ≡ codes "pipe" = let same : remote_word k ∷ rest ≡ codes "pipe" ∷ l.options = l.command in cc in
+    let third : get_or (remote_word k) 2 0 ≡ 112 = ap (λ (s : List ℕ). get_or s 2 0) e in omega (arith, third, low_third k)
+no_within k rest (task c r (convert to)) (inl l) =
+    let e : remote_word k ≡ codes "convert" = let same : remote_word k ∷ rest ≡ codes "convert" ∷ l.options = l.command in cc in
+    let third : get_or (remote_word k) 2 0 ≡ 110 = ap (λ (s : List ℕ). get_or s 2 0) e in omega (arith, third, low_third k)
+no_within k rest (task c r review) (inl l) =
+    let e : remote_word k ≡ codes "review" = let same : remote_word k ∷ rest ≡ codes "review" ∷ l.options = l.command in cc in
+    let third : get_or (remote_word k) 2 0 ≡ 118 = ap (λ (s : List ℕ). get_or s 2 0) e in omega (arith, third, low_third k)
+no_within k rest (drill start count) (inl l) = l.has
+no_within k rest (remote j url) (inl l) = l.has
+no_within k rest (serve s) (inl l) =
+    let e : remote_word k ≡ codes "serve" = let same : remote_word k ∷ rest ≡ codes "serve" ∷ l.options = l.command in cc in
+    let third : get_or (remote_word k) 2 0 ≡ 114 = ap (λ (s : List ℕ). get_or s 2 0) e in omega (arith, third, low_third k)
+no_within k rest line (inr h) =
+    let e : remote_word k ≡ codes "drill" = let same : remote_word k ∷ rest ≡ codes "drill" ∷ decimal h.start ∷ decimal h.count ∷ [] = h.spelled in cc in
+    let fifth : get_or (remote_word k) 4 0 ≡ 108 = ap (λ (s : List ℕ). get_or s 4 0) e in omega (arith, fifth, low_fifth k)
+
+-- and such a line begins with no other word
+pub only_remote : (first : List ℕ) (rest : List (List ℕ)) (line : Line) → (h : HasAddress (first ∷ rest) line) → first ≡ remote_word h.work
+only_remote first rest line h = let same : first ∷ rest ≡ remote_word h.work ∷ h.url ∷ [] = h.spelled in cc
 
 -- one address is one line
-pub same_address : (url : List ℕ) (line : Line) → HasAddress (codes "migrate" ∷ url ∷ []) line → line ≡ migrate url
-same_address url line h =
-    let words : codes "migrate" ∷ url ∷ [] ≡ codes "migrate" ∷ h.url ∷ [] = h.spelled in
+pub same_address : (k : Remote) (url : List ℕ) (line : Line) → HasAddress (remote_word k ∷ url ∷ []) line → line ≡ remote k url
+same_address k url line h =
+    let words : remote_word k ∷ url ∷ [] ≡ remote_word h.work ∷ h.url ∷ [] = h.spelled in
+    let word : remote_word h.work ≡ remote_word k = cc in
     let same : h.url ≡ url = cc in
-    h.is ∙ ap (λ (u : List ℕ). migrate u) same
+    h.is ∙ ap (λ (j : Remote). remote j h.url) (same_remote h.work k word) ∙ ap (λ (u : List ℕ). remote k u) same
 
 -- what isn't a value is no address
-pub no_address : (url : List ℕ) (line : Line) → (IsValue url → ⊥) → HasAddress (codes "migrate" ∷ url ∷ []) line → ⊥
-no_address url line bad h =
-    let words : codes "migrate" ∷ url ∷ [] ≡ codes "migrate" ∷ h.url ∷ [] = h.spelled in
+pub no_address : (k : Remote) (url : List ℕ) (line : Line) → (IsValue url → ⊥) → HasAddress (remote_word k ∷ url ∷ []) line → ⊥
+no_address k url line bad h =
+    let words : remote_word k ∷ url ∷ [] ≡ remote_word h.work ∷ h.url ∷ [] = h.spelled in
     let same : h.url ≡ url = cc in
     bad (subst IsValue same h.value)
 
 -- one word stands behind the command
-pub one_word : (ws us : List (List ℕ)) (line : Line) → ws ≡ us → HasAddress (codes "migrate" ∷ ws) line → length us ≡ 1
-one_word ws us line is h =
-    let words : codes "migrate" ∷ ws ≡ codes "migrate" ∷ h.url ∷ [] = h.spelled in
+pub one_word : (k : Remote) (ws us : List (List ℕ)) (line : Line) → ws ≡ us → HasAddress (remote_word k ∷ ws) line → length us ≡ 1
+one_word k ws us line is h =
+    let words : remote_word k ∷ ws ≡ remote_word h.work ∷ h.url ∷ [] = h.spelled in
     let same : us ≡ h.url ∷ [] = cc in
     ap (λ (l : List (List ℕ)). length l) same
 
-pub address_is : (o : Option Command) (w : List ℕ) (ws : List (List ℕ)) → w ≡ codes "migrate" → IfSome o (λ c. HasAddress (codes "migrate" ∷ ws) (line_of c)) → IfSome o (λ c. IsLine (w ∷ ws) (line_of c))
-address_is None w ws same is = tt
-address_is (Some c) w ws same is = inr (inr (subst (λ (x : List ℕ). HasAddress (x ∷ ws) (line_of c)) (sym same) is))
+pub address_is : (o : Option Command) (k : Remote) (w : List ℕ) (ws : List (List ℕ)) → w ≡ remote_word k → IfSome o (λ c. HasAddress (remote_word k ∷ ws) (line_of c)) → IfSome o (λ c. IsLine (w ∷ ws) (line_of c))
+address_is None k w ws same is = tt
+address_is (Some c) k w ws same is = inr (inr (subst (λ (x : List ℕ). HasAddress (x ∷ ws) (line_of c)) (sym same) is))
 
-pub address_only : (o : Option Command) (w : List ℕ) (ws : List (List ℕ)) → w ≡ codes "migrate"
-    → ((line : Line) → HasAddress (codes "migrate" ∷ ws) line → MatchOption o ⊥ (λ c. line ≡ line_of c)) → (line : Line) → IsLine (w ∷ ws) line → MatchOption o ⊥ (λ c. line ≡ line_of c)
-address_only o w ws same only line (inl l) = absurd (no_within ws line (inl (subst (λ (x : List ℕ). HasOptions (x ∷ ws) line) same l)))
-address_only o w ws same only line (inr (inl h)) = absurd (no_within ws line (inr (subst (λ (x : List ℕ). HasNumbers (x ∷ ws) line) same h)))
-address_only o w ws same only line (inr (inr a)) = only line (subst (λ (x : List ℕ). HasAddress (x ∷ ws) line) same a)
+pub address_only : (o : Option Command) (k : Remote) (w : List ℕ) (ws : List (List ℕ)) → w ≡ remote_word k
+    → ((line : Line) → HasAddress (remote_word k ∷ ws) line → MatchOption o ⊥ (λ c. line ≡ line_of c)) → (line : Line) → IsLine (w ∷ ws) line → MatchOption o ⊥ (λ c. line ≡ line_of c)
+address_only o k w ws same only line (inl l) = absurd (no_within k ws line (inl (subst (λ (x : List ℕ). HasOptions (x ∷ ws) line) same l)))
+address_only o k w ws same only line (inr (inl h)) = absurd (no_within k ws line (inr (subst (λ (x : List ℕ). HasNumbers (x ∷ ws) line) same h)))
+address_only o k w ws same only line (inr (inr a)) = only line (subst (λ (x : List ℕ). HasAddress (x ∷ ws) line) same a)
 
 pub within_is : (o : Option Command) (ws : List (List ℕ)) → IfSome o (λ c. Within ws (line_of c)) → IfSome o (λ c. IsLine ws (line_of c))
 within_is None ws is = tt
 within_is (Some c) ws (inl l) = inl l
 within_is (Some c) ws (inr h) = inr (inl h)
 
-pub within_only : (o : Option Command) (w : List ℕ) (ws : List (List ℕ)) → (w ≡ codes "migrate" → ⊥)
+pub within_only : (o : Option Command) (w : List ℕ) (ws : List (List ℕ)) → ((k : Remote) → w ≡ remote_word k → ⊥)
     → ((line : Line) → Within (w ∷ ws) line → MatchOption o ⊥ (λ c. line ≡ line_of c)) → (line : Line) → IsLine (w ∷ ws) line → MatchOption o ⊥ (λ c. line ≡ line_of c)
 within_only o w ws other only line (inl l) = only line (inl l)
 within_only o w ws other only line (inr (inl h)) = only line (inr h)
-within_only o w ws other only line (inr (inr a)) = absurd (other (only_migrate w ws line a))
+within_only o w ws other only line (inr (inr a)) = absurd (other a.work (only_remote w ws line a))
 
 -- words in memory are a line as the same words are
 pub line_is : (o : Option Command) (ws us : List (List ℕ)) → ws ≡ us → IfSome o (λ c. IsLine us (line_of c)) → IfSome o (λ c. IsLine ws (line_of c))
@@ -469,5 +494,5 @@ line_only o ws us same only line l = only line (subst (λ (x : List (List ℕ)).
 pub no_line : (ws : List Txt) (words : List (List ℕ)) (line : Line) → map bytes_of ws ≡ words → length ws < 1 → IsLine words line → ⊥
 no_line [] words line same few (inl l) = let none : [] ≡ command_word line ∷ l.options = same ∙ l.command in cc
 no_line [] words line same few (inr (inl h)) = let none : [] ≡ codes "drill" ∷ decimal h.start ∷ decimal h.count ∷ [] = same ∙ h.spelled in cc
-no_line [] words line same few (inr (inr a)) = let none : [] ≡ codes "migrate" ∷ a.url ∷ [] = same ∙ a.spelled in cc
+no_line [] words line same few (inr (inr a)) = let none : [] ≡ remote_word a.work ∷ a.url ∷ [] = same ∙ a.spelled in cc
 no_line (x ∷ ws) words line same few l = omega (arith, few)

@@ -8,11 +8,13 @@ use Rattle.command_lines.specs.declared.words.Task.TheVariants as tasks
 use Rattle.command_lines.specs.declared.service.Service.{Service as ServiceCode}
 use Rattle.command_lines.specs.declared.words.Command.{Command}
 use Rattle.command_lines.specs.declared.words.Command.TheVariants as commands
+use Rattle.command_lines.specs.declared.words.Remote.{Remote as RemoteCode}
+use Rattle.command_lines.specs.declared.words.Remote.TheVariants as remotes
 use Rattle.command_lines.specs.declared.words.Flag.{Flag as FlagCode}
 use Rattle.command_lines.specs.declared.words.Flag.TheVariants as flags
 use Rattle.command_lines.specs.declared.words.Taken.{Taken}
 use Rattle.command_lines.specs.declared.words.Given.{Given}
-use Rattle.command_lines.specs.Lines.{Named, built_in, from_files, Task, convert, review, Line, Service, pipe, task, drill, serve, migrate, Flag, crd_flag, rules_flag, to_flag, turns_flag, listen_flag, workers_flag, connections_flag, BeginsWithOption, Values, Gives, command_word, HasValues, HasOptions, HasNumbers}
+use Rattle.command_lines.specs.Lines.{Named, built_in, from_files, Task, convert, review, Remote, migrate, dump, load, Line, Service, pipe, task, drill, serve, remote, Flag, crd_flag, rules_flag, to_flag, turns_flag, listen_flag, workers_flag, connections_flag, BeginsWithOption, Values, Gives, command_word, HasValues, HasOptions, HasNumbers}
 
 abbrev pub named_of : NamedCode → Named
 named_of named.BuiltIn = built_in
@@ -30,7 +32,14 @@ line_of (commands.Pipe n turns) = pipe (named_of n) turns
 line_of (commands.Task crd rules t) = task crd.now rules.now (task_of t)
 line_of (commands.Drill start count) = drill start count
 line_of (commands.Serve s) = serve (service_of s)
-line_of (commands.Migrate url) = migrate url.now
+line_of (commands.Migrate url) = remote migrate url.now
+line_of (commands.Dump url) = remote dump url.now
+line_of (commands.Load url) = remote load url.now
+
+abbrev pub remote_in : RemoteCode → Remote
+remote_in remotes.Migrate = migrate
+remote_in remotes.Dump = dump
+remote_in remotes.Load = load
 
 abbrev pub flag_in : FlagCode → Flag
 flag_in flags.Crd = crd_flag

@@ -19,6 +19,15 @@ pub data Task : Type 0 where
   -- it is a review, which is answered
   review : Task
 
+-- what is done with the objects that a server lists at a place
+pub data Remote : Type 0 where
+  -- each is put back
+  migrate : Remote
+  -- each is written, as a line
+  dump : Remote
+  -- each line of the input is posted, as a new one
+  load : Remote
+
 -- whose connections are answered: by the definition of one file with the rules of another, at a place, with so many workers beside
 -- them, and so many of them where a number is given
 pub record Service : Type 0 where
@@ -37,8 +46,8 @@ pub data Line : Type 0 where
   drill : ℕ → ℕ → Line
   -- answers connections
   serve : Service → Line
-  -- puts each object back that a server lists at the place of this address
-  migrate : List ℕ → Line
+  -- works on a server from outside, at the place of this address
+  remote : Remote → List ℕ → Line
 
 -- the definition that a line names
 abbrev pub named_in : Line → Named
@@ -46,7 +55,7 @@ named_in (pipe named turns) = named
 named_in (task crd rules t) = from_files crd rules
 named_in (drill start count) = example
 named_in (serve s) = from_files s.crd s.rules
-named_in (migrate url) = no_definition
+named_in (remote work url) = no_definition
 
 -- ---- options
 
@@ -122,13 +131,18 @@ pub data Gives : List (List ℕ) → Values → Values → Type 0 where
 
 -- ---- lines
 
+abbrev pub remote_word : Remote → List ℕ
+remote_word migrate = codes "migrate"
+remote_word dump = codes "dump"
+remote_word load = codes "load"
+
 abbrev pub command_word : Line → List ℕ
 command_word (pipe named turns) = codes "pipe"
 command_word (task crd rules (convert to)) = codes "convert"
 command_word (task crd rules review) = codes "review"
 command_word (drill start count) = codes "drill"
 command_word (serve s) = codes "serve"
-command_word (migrate url) = codes "migrate"
+command_word (remote work url) = remote_word work
 
 -- how many turns are spelled: in decimal digits without leading zeros, up to the most; none where nothing is given
 abbrev pub SpellsTurns : Option (List ℕ) → ℕ → Type 0
@@ -161,7 +175,7 @@ HasValues (task crd rules review) v = (v.crd ≡ Some crd) × (v.rules ≡ Some 
 HasValues (drill start count) v = ⊥
 HasValues (serve s) v = (v.crd ≡ Some s.crd) × (v.rules ≡ Some s.rules) × (v.to ≡ None) × (v.turns ≡ None)
     × (v.listen ≡ Some s.place) × SpellsWorkers v.workers s.workers × SpellsConnections v.connections s.connections
-HasValues (migrate url) v = ⊥
+HasValues (remote work url) v = ⊥
 
 -- the words are this line, a command with its options
 pub record HasOptions (words : List (List ℕ)) (line : Line) : Type 0 where
@@ -183,9 +197,10 @@ pub record HasNumbers (words : List (List ℕ)) (line : Line) : Type 0 where
 
 -- the words are this line, a command with the address of a place, which is one where the text spells one
 pub record HasAddress (words : List (List ℕ)) (line : Line) : Type 0 where
+  pub work : Remote
   pub url : List ℕ
-  pub is : line ≡ migrate url
-  pub spelled : words ≡ codes "migrate" ∷ url ∷ []
+  pub is : line ≡ remote work url
+  pub spelled : words ≡ remote_word work ∷ url ∷ []
   pub value : IsValue url
 
 -- the words are this line

@@ -1,8 +1,8 @@
 //! The words of the command line.
 ghost use Rattle.std.specs.Prelude.{◌≡◌, ◌≢◌, ◌≤◌, ◌<◌, ◌↔◌, ◌++◌, ◌∷◌, [], ℕ, List, None, IfSome, IsTrue, MatchOption, codes, map, length};
 ghost use Rattle.kj_value.specs.Texts.{bytes_of};
-ghost use Rattle.command_lines.specs.Lines.{Line, Flag as FlagView, HasAddress, HasOptions, IsLine, IsUnserved, IsValue, SpellsTurns, crd_flag, rules_flag, to_flag, listen_flag, workers_flag, connections_flag, flag_text, value_at, with_value};
-ghost use Rattle.command_lines.specs.Given.{Within, line_of, flag_in, values_in, TakesFirst, GivesOne, IsCommand};
+ghost use Rattle.command_lines.specs.Lines.{Line, Remote as RemoteView, remote, remote_word, Flag as FlagView, HasAddress, HasOptions, IsLine, IsUnserved, IsValue, SpellsTurns, crd_flag, rules_flag, to_flag, listen_flag, workers_flag, connections_flag, flag_text, value_at, with_value};
+ghost use Rattle.command_lines.specs.Given.{Within, line_of, remote_in, flag_in, values_in, TakesFirst, GivesOne, IsCommand};
 
 use crate::drill_words::drill_of;
 use crate::serve_words::{is_unserved, serve_of};
@@ -52,6 +52,22 @@ pub enum Command<'a> {
     Migrate {
         url: &'a str,
     },
+    /// To write each object as a line that a server lists at the place of this address.
+    Dump {
+        url: &'a str,
+    },
+    /// To post each line of the input to the place of this address.
+    Load {
+        url: &'a str,
+    },
+}
+
+// What is done at the place of an address.
+#[derive(Clone, Copy)]
+enum Remote {
+    Migrate,
+    Dump,
+    Load,
 }
 
 // The name of an option.
@@ -465,31 +481,51 @@ fn is_drill(word: &str) -> bool
     word == "drill"
 }
 
-fn is_migrate(word: &str) -> bool
-    ensures { IsTrue result ↔ (word.now ≡ codes "migrate") }
+// What is done at the place of an address, by the word of the command, or `None` exactly where that works on no server from outside.
+fn remote_of(word: &str) -> Option<Remote>
+    ensures { MatchOption result ((work : RemoteView) → word.now ≢ remote_word work) (λ work. word.now ≡ remote_word (remote_in work)) }
 {
-    word == "migrate"
-}
-
-// The line of a migration with one word behind the command.
-fn migrate_at<'a>(url: &'a str) -> Option<Command<'a>>
-    ensures is { IfSome result (λ c. HasAddress (codes "migrate" ∷ url.now ∷ []) (line_of c)) }
-    ensures only { (line : Line) → HasAddress (codes "migrate" ∷ url.now ∷ []) line → MatchOption result ⊥ (λ c. line ≡ line_of c) }
-{
-    if is_value(url) {
-        Some(Command::Migrate { url })
+    if word == "migrate" {
+        Some(Remote::Migrate)
+    } else if word == "dump" {
+        Some(Remote::Dump)
+    } else if word == "load" {
+        Some(Remote::Load)
     } else {
         None
     }
 }
 
-// The line of a migration with the words behind the command.
-fn migrate_of<'a>(rest: &'a [Txt]) -> Option<Command<'a>>
-    ensures is { IfSome result (λ c. HasAddress (codes "migrate" ∷ map bytes_of rest.now) (line_of c)) }
-    ensures only { (line : Line) → HasAddress (codes "migrate" ∷ map bytes_of rest.now) line → MatchOption result ⊥ (λ c. line ≡ line_of c) }
+// What is done at the place of this address.
+fn remote_at<'a>(work: Remote, url: &'a str) -> Command<'a>
+    ensures { line_of result ≡ remote (remote_in work) url.now }
+{
+    match work {
+        Remote::Migrate => Command::Migrate { url },
+        Remote::Dump => Command::Dump { url },
+        Remote::Load => Command::Load { url },
+    }
+}
+
+// The line of such a command with one word behind it.
+fn addressed<'a>(work: Remote, url: &'a str) -> Option<Command<'a>>
+    ensures is { IfSome result (λ c. HasAddress (remote_word (remote_in work) ∷ url.now ∷ []) (line_of c)) }
+    ensures only { (line : Line) → HasAddress (remote_word (remote_in work) ∷ url.now ∷ []) line → MatchOption result ⊥ (λ c. line ≡ line_of c) }
+{
+    if is_value(url) {
+        Some(remote_at(work, url))
+    } else {
+        None
+    }
+}
+
+// The line of such a command with the words behind it.
+fn remote_with<'a>(work: Remote, rest: &'a [Txt]) -> Option<Command<'a>>
+    ensures is { IfSome result (λ c. HasAddress (remote_word (remote_in work) ∷ map bytes_of rest.now) (line_of c)) }
+    ensures only { (line : Line) → HasAddress (remote_word (remote_in work) ∷ map bytes_of rest.now) line → MatchOption result ⊥ (λ c. line ≡ line_of c) }
 {
     match rest {
-        [url] => migrate_at(url.as_str()),
+        [url] => addressed(work, url.as_str()),
         _ => None,
     }
 }
@@ -511,10 +547,9 @@ fn line_with<'a>(word: &str, rest: &'a [Txt]) -> Option<Command<'a>>
     ensures is { IfSome result (λ c. IsLine (word.now ∷ map bytes_of rest.now) (line_of c)) }
     ensures only { (line : Line) → IsLine (word.now ∷ map bytes_of rest.now) line → MatchOption result ⊥ (λ c. line ≡ line_of c) }
 {
-    if is_migrate(word) {
-        migrate_of(rest)
-    } else {
-        served_with(word, rest)
+    match remote_of(word) {
+        Some(work) => remote_with(work, rest),
+        None => served_with(word, rest),
     }
 }
 

@@ -1,2 +1,4 @@
 pub mod Migrated
 pub mod Ends
+pub mod Dumped
+pub mod Loaded

@@ -1,4 +1,5 @@
 //! How a line ends.
+use record_dump::RestoreEnd;
 
 /// How a line ends that migrates objects.
 #[derive(Clone, Copy, Debug, PartialEq, Eq, Drop)]
@@ -19,4 +20,13 @@ pub enum MigrateEnd {
     WriteFault,
     /// Memory was wanted and there was none.
     NoMemory,
+}
+
+/// How a line ends that loads objects.
+#[derive(Clone, Copy, Debug, PartialEq, Eq, Drop)]
+pub enum LoadEnd {
+    /// The restoring came to this. Where it is done, the two numbers were written.
+    Restored(RestoreEnd),
+    /// It is done, and the output failed.
+    WriteFault { created: u64, present: u64 },
 }

@@ -1,20 +1,28 @@
 -- What a run of each line comes to, from what its parts came to.
 use Rattle.std.proofs.Common.{◌≡◌, ◌≢◌, ◌∙◌, ◌<◌, ◌⊎◌, ℕ, List, Option, Some, Result, Ok, Err, inl, inr, refl, ap, sym, subst, arith}
-use Rattle.std.specs.Prelude.{IfOk, IfErr, OnOk, OnErr, IfSome}
+use Rattle.std.specs.Prelude.{IfOk, IfErr, OnOk, OnErr, IfSome, ⊤}
 use Rattle.std.specs.Io.KnownBytes.{IsAtEnd}
 use Rattle.kj_value.specs.declared.error.NoMemory.{NoMemory}
 use Rattle.crd_loading.specs.Load.{Loads}
 use Rattle.crd_loading.specs.Set.{set_of}
 use Rattle.crd_loading.specs.View.{LoadedView}
 use Rattle.crd_meaning.specs.Definition.{Definition}
-use Rattle.command_lines.specs.Lines.{Named, example, Task, Line, pipe, task, drill, serve, migrate}
+use Rattle.command_lines.specs.Lines.{Named, example, Task, Line, pipe, task, drill, serve, migrate, dump, load, remote}
 use Rattle.kubeconv_cmd.specs.Listening.{Told, ToldSome, Announced}
 use Rattle.kubeconv_cmd.specs.Beside.{ServesAll}
 use Rattle.kubeconv_cmd.specs.Tasks.{AnswersDocument, RefusesDocument, Wrote, Broke}
 use Rattle.http_front.specs.Link.{UnlessUnwritten}
 use Rattle.kubeconv_cmd.specs.Serving.{Blames, Converses, DrillsTexts, link_end}
 use Rattle.kubeconv_cmd.specs.Refusal.{RefusesNamed}
-use Rattle.place.specs.Place.{IsPlace, PlaceView}
+use Rattle.place.specs.Place.{IsPlace, OnBadPlace, PlaceView}
+use Rattle.place.specs.declared.PlaceFault.{PlaceFault}
+use Rattle.place.specs.declared.PlaceFault.TheVariants as places
+use Rattle.record_dump.specs.Dumps.{OnDone, OnFaults as OnDumpFaults}
+use Rattle.record_dump.specs.Restores.{OnEnd, OnFaults as OnRestoreFaults}
+use Rattle.record_dump.specs.declared.ends.DumpEnd.{DumpEnd}
+use Rattle.record_dump.specs.declared.ends.DumpEnd.TheVariants as dumps
+use Rattle.record_dump.specs.declared.ends.RestoreEnd.{RestoreEnd}
+use Rattle.record_dump.specs.declared.ends.RestoreEnd.TheVariants as restores
 use Rattle.far_migrate.specs.Counts.{Counts, fault_of}
 use Rattle.far_migrate.specs.Puts.{Handled, all as all_put, failed as failed_by}
 use Rattle.far_migrate.specs.declared.tally.FarFault.{FarFault}
@@ -23,9 +31,14 @@ use Rattle.far_lines.specs.Migrated.{Migrated}
 use Rattle.far_lines.specs.Ends.{Came, put_back, broke as broke_so, unmade, CameOf, at_place, placeless as no_place, unread as unread_place, Told as ToldTally, IfSilent, OnUnwritten, fault_end}
 use Rattle.far_lines.specs.declared.end.MigrateEnd.{MigrateEnd}
 use Rattle.far_lines.specs.declared.end.MigrateEnd.TheVariants as migrated
+use Rattle.far_lines.specs.Dumped.{DumpedAt}
+use Rattle.far_lines.specs.Loaded.{LoadedAt, WroteOf, IfUndone, IfUnwritten, restored_to}
+use Rattle.far_lines.specs.declared.end.LoadEnd.{LoadEnd}
+use Rattle.far_lines.specs.declared.end.LoadEnd.TheVariants as loads
+use Rattle.kubeconv_cmd.specs.inner.Backups.{dumped_line, dumped_status, loaded_line, loaded_status}
 use Rattle.kubeconv_cmd.specs.inner.Migrations.{migrate_end_line, migrate_status}
-use Rattle.kubeconv_cmd.specs.Status.{error_line, pipe_status}
-use Rattle.kubeconv_cmd.specs.Outcome.{World, OfTexts, OfInput, HasLoaded, HasHandedOn, Says, IsSilent, HearsNobody, AnswersSo, Stopped, unreadable, refused, wanting, PipeOutcome, talked, unserved, TaskOutcome, wrote_line, broke_line, refused_input, unread_input, wanting_task, unloaded_task, DrillOutcome, wrote_drill, broke_drill, wanting_drill, ServeOutcome, answered, answered_fewer, unheard, untold, wanting_service, unloaded_service, MigratedAt, MigrateOutcome, settled, contested, broke_tally, forgotten, misanswered, unlinked, wanting_migration, placeless, IsPlaceless, Outcome, FilesFail, InputFails, OutputFails, EarsFail, FilesStay, InputStays, OutputStays, EarsStay}
+use Rattle.kubeconv_cmd.specs.Status.{dump_status, error_line, pipe_status, restore_status}
+use Rattle.kubeconv_cmd.specs.Outcome.{World, OfTexts, OfInput, HasLoaded, HasHandedOn, Says, IsSilent, HearsNobody, AnswersSo, Stopped, unreadable, refused, wanting, PipeOutcome, talked, unserved, TaskOutcome, wrote_line, broke_line, refused_input, unread_input, wanting_task, unloaded_task, DrillOutcome, wrote_drill, broke_drill, wanting_drill, ServeOutcome, answered, answered_fewer, unheard, untold, wanting_service, unloaded_service, MigratedAt, MigrateOutcome, settled, contested, broke_tally, forgotten, misanswered, unlinked, wanting_migration, placeless, Unplaced, wanting_place, bad_place, DumpOutcome, dumped, undumped, TellsCounts, LoadOutcome, restored, broke_counts, unloaded, IsPlaceless, Outcome, FilesFail, InputFails, OutputFails, EarsFail, FilesStay, InputStays, OutputStays, EarsStay}
 use Rattle.kubeconv_cmd.specs.inner.Ends.{OnRefused, OnUnread, stop_status, stop_line, talk_status, why_text}
 use Rattle.kubeconv_cmd.specs.inner.Halts.{OnHalt, Unwritten, task_status, task_line}
 use Rattle.kubeconv_cmd.specs.inner.Served.{OnUnheard, UnlessUnheard, OnUntold, Silent, served_status}
@@ -197,15 +210,109 @@ migrated_line migrated.WriteFault s is other = ap error_line (sym is)
 migrated_line migrated.NoMemory s is other = ap error_line (sym is)
 
 -- only at a bad place the words are told to be bad
-pub bad_place : (came : MigrateEnd) (s : ℕ) → s ≡ migrate_status came → s ≡ BAD_WORDS → came ≡ migrated.BadPlace
-bad_place migrated.Done s is e = absurd (omega (arith, is, e))
-bad_place migrated.Contested s is e = absurd (omega (arith, is, e))
-bad_place migrated.BadPlace s is e = refl
-bad_place migrated.LinkFault s is e = absurd (omega (arith, is, e))
-bad_place (migrated.Answer code) s is e = absurd (omega (arith, is, e))
-bad_place migrated.Restarted s is e = absurd (omega (arith, is, e))
-bad_place migrated.WriteFault s is e = absurd (omega (arith, is, e))
-bad_place migrated.NoMemory s is e = absurd (omega (arith, is, e))
+pub bad_migration : (came : MigrateEnd) (s : ℕ) → s ≡ migrate_status came → s ≡ BAD_WORDS → came ≡ migrated.BadPlace
+bad_migration migrated.Done s is e = absurd (omega (arith, is, e))
+bad_migration migrated.Contested s is e = absurd (omega (arith, is, e))
+bad_migration migrated.BadPlace s is e = refl
+bad_migration migrated.LinkFault s is e = absurd (omega (arith, is, e))
+bad_migration (migrated.Answer code) s is e = absurd (omega (arith, is, e))
+bad_migration migrated.Restarted s is e = absurd (omega (arith, is, e))
+bad_migration migrated.WriteFault s is e = absurd (omega (arith, is, e))
+bad_migration migrated.NoMemory s is e = absurd (omega (arith, is, e))
+
+-- ---- `dump`
+
+pub dump_outcome : {F S K A : Type 0} (w : World F S K A) (url : List ℕ) (came : Result DumpEnd PlaceFault) (s : ℕ)
+    → IfOk came (DumpedAt url w.linked_before w.linked w.written_before w.written) → IfOk came (OnDone (w.flushed ≡ w.written)) → IfOk came (OnDumpFaults ⊤ (OutputFails w))
+    → IfErr came (OnBadPlace ((p : PlaceView) → IsPlace url p → ⊥)) → OnErr came ((w.linked ≡ w.linked_before) × (OutputStays w)) → StaysSilent w
+    → s ≡ dumped_status came → Says w (dumped_line came) → DumpOutcome w url s
+dump_outcome w url (Ok d) s at flushed cause none stays same is says = dumped d is at cause flushed says
+dump_outcome w url (Err places.BadPlace) s at flushed cause none stays same is says = undumped (bad_place is none) stays.0 (silent_so w stays.1 same)
+dump_outcome w url (Err places.NoMemory) s at flushed cause none stays same is says = undumped (wanting_place is) stays.0 (silent_so w stays.1 same)
+
+pub dumps_line : (came : Result DumpEnd PlaceFault) (s : ℕ) → s ≡ dumped_status came → s ≢ BAD_ANSWER → dumped_line came ≡ error_line s
+dumps_line (Ok (dumps.Done lines)) s is other = ap error_line (sym is)
+dumps_line (Ok dumps.LinkFault) s is other = ap error_line (sym is)
+dumps_line (Ok dumps.WriteFault) s is other = ap error_line (sym is)
+dumps_line (Ok (dumps.Answer code)) s is other = absurd (other is)
+dumps_line (Ok dumps.Expired) s is other = ap error_line (sym is)
+dumps_line (Ok dumps.NoMemory) s is other = ap error_line (sym is)
+dumps_line (Err fault) s is other = ap error_line (sym is)
+
+never_dumped : (d : DumpEnd) (s : ℕ) → s ≡ dump_status d → s ≡ BAD_WORDS → ⊥
+never_dumped (dumps.Done lines) s is e = omega (arith, is, e)
+never_dumped dumps.LinkFault s is e = omega (arith, is, e)
+never_dumped dumps.WriteFault s is e = omega (arith, is, e)
+never_dumped (dumps.Answer code) s is e = omega (arith, is, e)
+never_dumped dumps.Expired s is e = omega (arith, is, e)
+never_dumped dumps.NoMemory s is e = omega (arith, is, e)
+
+pub bad_dump : (came : Result DumpEnd PlaceFault) (s : ℕ) → s ≡ dumped_status came → s ≡ BAD_WORDS → came ≡ Err places.BadPlace
+bad_dump (Ok d) s is e = absurd (never_dumped d s is e)
+bad_dump (Err places.BadPlace) s is e = refl
+bad_dump (Err places.NoMemory) s is e = absurd (omega (arith, is, e))
+
+only_undumped : {F S K A : Type 0} (w : World F S K A) (url : List ℕ) (s : ℕ) → DumpOutcome w url s → s ≡ BAD_WORDS → ((p : PlaceView) → IsPlace url p → ⊥) × (OutputStays w)
+only_undumped w url s (dumped d is at cause flushed says) e = absurd (never_dumped d s is e)
+only_undumped w url s (undumped (wanting_place is) stays silent) e = absurd (omega (arith, is, e))
+only_undumped w url s (undumped (bad_place is none) stays silent) e = (none, silent.0)
+
+-- ---- `load`
+
+counts_so : {F S K A : Type 0} (w : World F S K A) (d : RestoreEnd) → WroteOf w.written_before w.written w.flushed (loads.Restored d) → IfUndone (OutputStays w) d → StaysSilent w → TellsCounts w d
+counts_so w (restores.Done created present) wrote stays same = wrote
+counts_so w restores.LinkFault wrote stays same = silent_so w stays same
+counts_so w restores.ReadFault wrote stays same = silent_so w stays same
+counts_so w (restores.BadLine number) wrote stays same = silent_so w stays same
+counts_so w (restores.Cut number) wrote stays same = silent_so w stays same
+counts_so w restores.TooMany wrote stays same = silent_so w stays same
+counts_so w (restores.Answer number code) wrote stays same = silent_so w stays same
+counts_so w restores.NoMemory wrote stays same = silent_so w stays same
+
+pub load_outcome : {F S K A : Type 0} (w : World F S K A) (url : List ℕ) (came : Result LoadEnd PlaceFault) (s : ℕ)
+    → IfOk came (λ e. LoadedAt url w.linked_before w.linked w.input w.left (restored_to e)) → IfOk came (WroteOf w.written_before w.written w.flushed)
+    → IfOk came (λ e. IfUndone (OutputStays w) (restored_to e)) → IfOk came (λ e. OnEnd (IsAtEnd w.left) (restored_to e))
+    → IfOk came (λ e. OnRestoreFaults ⊤ (InputFails w) (restored_to e)) → IfOk came (IfUnwritten (OutputFails w))
+    → IfErr came (OnBadPlace ((p : PlaceView) → IsPlace url p → ⊥)) → OnErr came ((w.linked ≡ w.linked_before) × (InputStays w) × (OutputStays w)) → StaysSilent w
+    → s ≡ loaded_status came → Says w (loaded_line came) → LoadOutcome w url s
+load_outcome w url (Ok (loads.Restored d)) s at wrote silent end cause unwritten none stays same is says = restored d is at cause end (counts_so w d wrote silent same) says
+load_outcome w url (Ok (loads.WriteFault created present)) s at wrote silent end cause unwritten none stays same is says = broke_counts created present is unwritten at end wrote
+load_outcome w url (Err places.BadPlace) s at wrote silent end cause unwritten none stays same is says = unloaded (bad_place is none) stays.0 stays.1 (silent_so w stays.2 same)
+load_outcome w url (Err places.NoMemory) s at wrote silent end cause unwritten none stays same is says = unloaded (wanting_place is) stays.0 stays.1 (silent_so w stays.2 same)
+
+pub loads_line : (came : Result LoadEnd PlaceFault) (s : ℕ) → s ≡ loaded_status came → s ≢ BAD_INPUT → s ≢ BAD_ANSWER → loaded_line came ≡ error_line s
+loads_line (Ok (loads.Restored (restores.Done created present))) s is input answer = ap error_line (sym is)
+loads_line (Ok (loads.Restored restores.LinkFault)) s is input answer = ap error_line (sym is)
+loads_line (Ok (loads.Restored restores.ReadFault)) s is input answer = ap error_line (sym is)
+loads_line (Ok (loads.Restored (restores.BadLine number))) s is input answer = absurd (input is)
+loads_line (Ok (loads.Restored (restores.Cut number))) s is input answer = ap error_line (sym is)
+loads_line (Ok (loads.Restored restores.TooMany)) s is input answer = ap error_line (sym is)
+loads_line (Ok (loads.Restored (restores.Answer number code))) s is input answer = absurd (answer is)
+loads_line (Ok (loads.Restored restores.NoMemory)) s is input answer = ap error_line (sym is)
+loads_line (Ok (loads.WriteFault created present)) s is input answer = ap error_line (sym is)
+loads_line (Err fault) s is input answer = ap error_line (sym is)
+
+never_restored : (d : RestoreEnd) (s : ℕ) → s ≡ restore_status d → s ≡ BAD_WORDS → ⊥
+never_restored (restores.Done created present) s is e = omega (arith, is, e)
+never_restored restores.LinkFault s is e = omega (arith, is, e)
+never_restored restores.ReadFault s is e = omega (arith, is, e)
+never_restored (restores.BadLine number) s is e = omega (arith, is, e)
+never_restored (restores.Cut number) s is e = omega (arith, is, e)
+never_restored restores.TooMany s is e = omega (arith, is, e)
+never_restored (restores.Answer number code) s is e = omega (arith, is, e)
+never_restored restores.NoMemory s is e = omega (arith, is, e)
+
+pub bad_load : (came : Result LoadEnd PlaceFault) (s : ℕ) → s ≡ loaded_status came → s ≡ BAD_WORDS → came ≡ Err places.BadPlace
+bad_load (Ok (loads.Restored d)) s is e = absurd (never_restored d s is e)
+bad_load (Ok (loads.WriteFault created present)) s is e = absurd (omega (arith, is, e))
+bad_load (Err places.BadPlace) s is e = refl
+bad_load (Err places.NoMemory) s is e = absurd (omega (arith, is, e))
+
+only_unloaded : {F S K A : Type 0} (w : World F S K A) (url : List ℕ) (s : ℕ) → LoadOutcome w url s → s ≡ BAD_WORDS → ((p : PlaceView) → IsPlace url p → ⊥) × (InputStays w) × (OutputStays w)
+only_unloaded w url s (restored d is at cause end tells says) e = absurd (never_restored d s is e)
+only_unloaded w url s (broke_counts created present is fails at end front) e = absurd (omega (arith, is, e))
+only_unloaded w url s (unloaded (wanting_place is) stays input silent) e = absurd (omega (arith, is, e))
+only_unloaded w url s (unloaded (bad_place is none) stays input silent) e = (none, input, silent.0)
 
 -- ---- no line ends as words do that are no line
 
@@ -263,4 +370,6 @@ bad_words w (pipe named turns) s out e = absurd (never_piped w named turns s out
 bad_words w (task c r t) s out e = absurd (never_tasked w _ t s out.0 e)
 bad_words w (drill start count) s out e = absurd (never_drilled w start count s out.0 e)
 bad_words w (serve v) s out e = absurd (never_served w _ v.connections s out.0 e)
-bad_words w (migrate url) s out e = let found = only_placeless w url s out.0 e in (found.0, out.1, out.2, found.1, out.3)
+bad_words w (remote migrate url) s out e = let found = only_placeless w url s out.0 e in (found.0, out.1, out.2, found.1, out.3)
+bad_words w (remote dump url) s out e = let found = only_undumped w url s out.0 e in (found.0, out.1, out.2, found.1, out.3)
+bad_words w (remote load url) s out e = let found = only_unloaded w url s out.0 e in (found.0, out.1, found.1, found.2, out.2)

@@ -2,7 +2,7 @@
 use Rattle.std.specs.Prelude.{◌≡◌, ◌⊎◌, ◌++◌, ℕ, List, Option, codes}
 use Rattle.std.specs.Io.KnownBytes.{append_known}
 use Rattle.edge_io.specs.Sends.{AddsSome}
-use Rattle.command_lines.specs.Lines.{Line, Service, pipe, task, drill, serve, migrate}
+use Rattle.command_lines.specs.Lines.{Line, Service, pipe, task, drill, serve, remote}
 use Rattle.kubeconv_cmd.specs.Tasks.{ended_line}
 
 -- the line that names a place
@@ -39,4 +39,4 @@ IfServes (serve s) p = p s
 IfServes (pipe named turns) p = Unit {0}
 IfServes (task crd rules t) p = Unit {0}
 IfServes (drill start count) p = Unit {0}
-IfServes (migrate url) p = Unit {0}
+IfServes (remote work url) p = Unit {0}

@@ -1,22 +1,29 @@
 -- What a run of a line comes to, whatever the outside does: by cases on the line, and on how it ended. A new line is a new case.
-use Rattle.std.specs.Prelude.{◌≡◌, ◌<◌, ◌⊎◌, ℕ, List, Option, Some, IfSome}
+use Rattle.std.specs.Prelude.{◌≡◌, ◌<◌, ◌⊎◌, ⊤, ℕ, List, Option, Some, IfSome}
 use Rattle.edge_io.specs.Sends.{AddsSome}
 use Rattle.tcp_links.specs.Links.{Ending as LinkEnding}
 use Rattle.place.specs.Place.{IsPlace, Names, PlaceView}
 use Rattle.far_migrate.specs.Counts.{Counts, answer, link, restarted}
 use Rattle.far_migrate.specs.Puts.{Handled, all, failed}
+use Rattle.record_dump.specs.Dumps.{OnDone, OnFaults as OnDumpFaults}
+use Rattle.record_dump.specs.Restores.{OnEnd, OnFaults as OnRestoreFaults}
+use Rattle.record_dump.specs.declared.ends.DumpEnd.{DumpEnd}
+use Rattle.record_dump.specs.declared.ends.RestoreEnd.{RestoreEnd}
+use Rattle.record_dump.specs.declared.ends.RestoreEnd.TheVariants as restores
 use Rattle.far_lines.specs.Migrated.{Migrated, tally_lines}
+use Rattle.far_lines.specs.Dumped.{DumpedAt}
+use Rattle.far_lines.specs.Loaded.{LoadedAt, count_lines}
 use Rattle.std.specs.Io.KnownBytes.{append_known, IsAtEnd}
 use Rattle.edge_io.specs.Causes.{Rose}
 use Rattle.edge_io.specs.Connections.{Origin, Ending}
-use Rattle.command_lines.specs.Lines.{Named, from_files, example, Task, Line, pipe, task, drill, serve, migrate}
+use Rattle.command_lines.specs.Lines.{Named, from_files, example, Task, Line, pipe, task, drill, serve, migrate, dump, load, remote}
 use Rattle.kubeconv_cmd.specs.Texts.{Texts}
 use Rattle.kubeconv_cmd.specs.Listening.{Told, ToldSome, Announced}
 use Rattle.kubeconv_cmd.specs.Beside.{ServesAll}
 use Rattle.kubeconv_cmd.specs.Tasks.{AnswersTexts, RefusesTexts, Wrote, Broke}
 use Rattle.kubeconv_cmd.specs.Serving.{Start, Converses, DrillsTexts, WasHeld}
 use Rattle.kubeconv_cmd.specs.Refusal.{RefusesNamed, IsServed}
-use Rattle.kubeconv_cmd.specs.Status.{answer_line, line_saying, refusal_line}
+use Rattle.kubeconv_cmd.specs.Status.{answer_line, dump_status, dump_error_line, line_saying, refusal_line, restore_status, restore_error_line}
 use Rattle.kubeconv_cmd.specs.declared.status.TheConstants.{DONE, BAD_WORDS, REFUSED, BAD_INPUT, READ_FAILED, WRITE_FAILED, NO_MEMORY, LISTEN_FAILED, LINK_FAILED, BAD_ANSWER, UNSETTLED}
 
 -- ---- the outside
@@ -226,13 +233,48 @@ pub data MigrateOutcome {F S K A : Type 0} (w : World F S K A) (url : List ℕ) 
   -- the address is that of no place, and no link was made
   placeless : status ≡ BAD_WORDS → ((p : PlaceView) → IsPlace url p → ⊥) → w.linked ≡ w.linked_before → IsSilent w → MigrateOutcome w url status
 
+-- no place was had
+pub data Unplaced (url : List ℕ) (status : ℕ) : Type 0 where
+  -- memory was wanted for it, or for the link
+  wanting_place : status ≡ NO_MEMORY → Unplaced url status
+  -- the address is that of none
+  bad_place : status ≡ BAD_WORDS → ((p : PlaceView) → IsPlace url p → ⊥) → Unplaced url status
+
+-- the objects were written as lines, or no link was made
+pub data DumpOutcome {F S K A : Type 0} (w : World F S K A) (url : List ℕ) (status : ℕ) : Type 0 where
+  -- the dump over the link that was made to the place came to this end, and the link was given back
+  dumped : (d : DumpEnd) → status ≡ dump_status d → DumpedAt url w.linked_before w.linked w.written_before w.written d → OnDumpFaults ⊤ (OutputFails w) d
+      → OnDone (w.flushed ≡ w.written) d → Says w (dump_error_line d) → DumpOutcome w url status
+  undumped : Unplaced url status → w.linked ≡ w.linked_before → IsSilent w → DumpOutcome w url status
+
+-- the two numbers were written and handed on where the restoring is done, and nothing where it isn't
+abbrev pub TellsCounts : {F S K A : Type 0} → World F S K A → RestoreEnd → Type 0
+TellsCounts w (restores.Done created present) = (w.written ≡ append_known w.written_before (count_lines created present)) × (w.flushed ≡ w.written)
+TellsCounts w restores.LinkFault = IsSilent w
+TellsCounts w restores.ReadFault = IsSilent w
+TellsCounts w (restores.BadLine number) = IsSilent w
+TellsCounts w (restores.Cut number) = IsSilent w
+TellsCounts w restores.TooMany = IsSilent w
+TellsCounts w (restores.Answer number code) = IsSilent w
+TellsCounts w restores.NoMemory = IsSilent w
+
+-- lines of the input were posted, or no link was made
+pub data LoadOutcome {F S K A : Type 0} (w : World F S K A) (url : List ℕ) (status : ℕ) : Type 0 where
+  -- the restoring over the link that was made to the place came to this end, and the link was given back
+  restored : (d : RestoreEnd) → status ≡ restore_status d → LoadedAt url w.linked_before w.linked w.input w.left d → OnRestoreFaults ⊤ (InputFails w) d → OnEnd (IsAtEnd w.left) d
+      → TellsCounts w d → Says w (restore_error_line d) → LoadOutcome w url status
+  -- it is done, a front of the two numbers was written, and then the output failed
+  broke_counts : (created present : ℕ) → status ≡ WRITE_FAILED → (OutputFails w) → LoadedAt url w.linked_before w.linked w.input w.left (restores.Done created present) → IsAtEnd w.left
+      → AddsSome w.written_before w.written (count_lines created present) → LoadOutcome w url status
+  unloaded : Unplaced url status → w.linked ≡ w.linked_before → (InputStays w) → IsSilent w → LoadOutcome w url status
+
 -- the line works at an address that is that of no place
 abbrev pub IsPlaceless : Line → Type 0
 IsPlaceless (pipe named turns) = ⊥
 IsPlaceless (task crd rules t) = ⊥
 IsPlaceless (drill start count) = ⊥
 IsPlaceless (serve s) = ⊥
-IsPlaceless (migrate url) = (p : PlaceView) → IsPlace url p → ⊥
+IsPlaceless (remote work url) = (p : PlaceView) → IsPlace url p → ⊥
 
 -- P holds of a line that works on no server from outside
 abbrev pub IfUnlinked : Line → Type 0 → Type 0
@@ -240,15 +282,17 @@ IfUnlinked (pipe named turns) P = P
 IfUnlinked (task crd rules t) P = P
 IfUnlinked (drill start count) P = P
 IfUnlinked (serve s) P = P
-IfUnlinked (migrate url) P = Unit {0}
+IfUnlinked (remote work url) P = Unit {0}
 
 -- ---- any line
 
 -- The run of the line came to this status. `serve` reads no input, and the other lines ask nothing of the ears; a drill reads no file
--- either, and no input, nor does a migration.
+-- either, and no input, nor does a line that works on a server from outside, of which `load` alone reads the input.
 abbrev pub Outcome : {F S K A : Type 0} → World F S K A → Line → ℕ → Type 0
 Outcome w (pipe named turns) status = PipeOutcome w named turns status × (EarsStay w)
 Outcome w (task c r t) status = TaskOutcome w (from_files c r) t status × (EarsStay w)
 Outcome w (drill start count) status = DrillOutcome w start count status × (FilesStay w) × (InputStays w) × (EarsStay w)
 Outcome w (serve s) status = ServeOutcome w (from_files s.crd s.rules) s.connections status × (InputStays w)
-Outcome w (migrate url) status = MigrateOutcome w url status × (FilesStay w) × (InputStays w) × (EarsStay w)
+Outcome w (remote migrate url) status = MigrateOutcome w url status × (FilesStay w) × (InputStays w) × (EarsStay w)
+Outcome w (remote dump url) status = DumpOutcome w url status × (FilesStay w) × (InputStays w) × (EarsStay w)
+Outcome w (remote load url) status = LoadOutcome w url status × (FilesStay w) × (EarsStay w)

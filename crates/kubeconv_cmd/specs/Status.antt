@@ -1,9 +1,13 @@
 -- The status of a run, and what it says of a fault.
 use Rattle.std.specs.Prelude.{◌==◌, ◌++◌, ℕ, List, [], codes, decimal, if◌then◌else◌}
 use Rattle.http_wire.specs.Stream.{End, closed, closing, spent, torn, refused}
+use Rattle.record_dump.specs.declared.ends.DumpEnd.{DumpEnd}
+use Rattle.record_dump.specs.declared.ends.DumpEnd.TheVariants as dumps
+use Rattle.record_dump.specs.declared.ends.RestoreEnd.{RestoreEnd}
+use Rattle.record_dump.specs.declared.ends.RestoreEnd.TheVariants as restores
 use Rattle.kubeconv_cmd.specs.declared.pipe.PipeEnd.{PipeEnd}
 use Rattle.kubeconv_cmd.specs.declared.pipe.PipeEnd.TheVariants.{Closed, Torn, Refused, Spent, ReadFault, WriteFault}
-use Rattle.kubeconv_cmd.specs.declared.status.TheConstants.{DONE, BAD_WORDS, READ_FAILED, WRITE_FAILED, NO_MEMORY, LISTEN_FAILED, CUT, TOO_MANY, LINK_FAILED, UNSETTLED}
+use Rattle.kubeconv_cmd.specs.declared.status.TheConstants.{DONE, BAD_WORDS, BAD_INPUT, READ_FAILED, WRITE_FAILED, NO_MEMORY, LISTEN_FAILED, CUT, TOO_MANY, LINK_FAILED, BAD_ANSWER, UNSETTLED}
 
 -- the status of the end of an input
 abbrev pub status_of : End → ℕ
@@ -21,6 +25,26 @@ pipe_status WriteFault = WRITE_FAILED
 pipe_status (Torn held) = CUT
 pipe_status (Refused f) = CUT
 pipe_status Spent = TOO_MANY
+
+-- the status of a dump's end
+abbrev pub dump_status : DumpEnd → ℕ
+dump_status (dumps.Done lines) = DONE
+dump_status dumps.LinkFault = LINK_FAILED
+dump_status dumps.WriteFault = WRITE_FAILED
+dump_status (dumps.Answer code) = BAD_ANSWER
+dump_status dumps.Expired = UNSETTLED
+dump_status dumps.NoMemory = NO_MEMORY
+
+-- the status of a restoring's end
+abbrev pub restore_status : RestoreEnd → ℕ
+restore_status (restores.Done created present) = DONE
+restore_status restores.LinkFault = LINK_FAILED
+restore_status restores.ReadFault = READ_FAILED
+restore_status (restores.BadLine number) = BAD_INPUT
+restore_status (restores.Cut number) = CUT
+restore_status restores.TooMany = TOO_MANY
+restore_status (restores.Answer number code) = BAD_ANSWER
+restore_status restores.NoMemory = NO_MEMORY
 
 -- the words of an error line for a status
 abbrev pub fault_text : ℕ → List ℕ
@@ -51,3 +75,27 @@ refusal_line name why = codes "kubeconv: " ++ (name ++ (codes ": " ++ (why ++ co
 -- the line that names the code of an answer for which there is no rule
 unfoldable pub answer_line : ℕ → List ℕ
 answer_line code = codes "kubeconv: answer " ++ (decimal code ++ codes "\n")
+
+-- the line that names the number of a line of the input that is refused
+unfoldable pub bad_line : ℕ → List ℕ
+bad_line number = codes "kubeconv: line " ++ (decimal number ++ codes "\n")
+
+-- the error line of a dump's end
+abbrev pub dump_error_line : DumpEnd → List ℕ
+dump_error_line (dumps.Done lines) = error_line DONE
+dump_error_line dumps.LinkFault = error_line LINK_FAILED
+dump_error_line dumps.WriteFault = error_line WRITE_FAILED
+dump_error_line (dumps.Answer code) = answer_line code
+dump_error_line dumps.Expired = error_line UNSETTLED
+dump_error_line dumps.NoMemory = error_line NO_MEMORY
+
+-- the error line of a restoring's end
+abbrev pub restore_error_line : RestoreEnd → List ℕ
+restore_error_line (restores.Done created present) = error_line DONE
+restore_error_line restores.LinkFault = error_line LINK_FAILED
+restore_error_line restores.ReadFault = error_line READ_FAILED
+restore_error_line (restores.BadLine number) = bad_line number
+restore_error_line (restores.Cut number) = error_line CUT
+restore_error_line restores.TooMany = error_line TOO_MANY
+restore_error_line (restores.Answer number code) = answer_line code
+restore_error_line restores.NoMemory = error_line NO_MEMORY

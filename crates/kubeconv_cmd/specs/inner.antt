@@ -1,4 +1,5 @@
 pub mod Ends
 pub mod Halts
 pub mod Migrations
+pub mod Backups
 pub mod Served

@@ -3,19 +3,22 @@ ghost use Rattle.std.specs.Prelude.{◌≡◌, ◌++◌, Option, List, ℕ, code
 ghost use Rattle.std.specs.Io.KnownBytes.{append_known};
 ghost use Rattle.edge_io.specs.Causes.{HasCause, Rose};
 ghost use Rattle.edge_io.specs.Sends.{Sends};
-ghost use Rattle.kubeconv_cmd.specs.Status.{pipe_status, answer_line, error_line as error_line_of, line_saying, refusal_line};
+ghost use Rattle.kubeconv_cmd.specs.Status.{pipe_status, answer_line, bad_line as bad_line_of, restore_error_line, restore_status, error_line as error_line_of, line_saying, refusal_line};
 ghost use Rattle.kubeconv_cmd.specs.Refusal.{blame_text};
 ghost use Rattle.kubeconv_cmd.specs.inner.Ends.{stop_line, stop_status, talk_status, why_text};
 ghost use Rattle.kubeconv_cmd.specs.inner.Halts.{task_line, task_status};
+ghost use Rattle.kubeconv_cmd.specs.inner.Backups.{dumped_line, dumped_status, loaded_line, loaded_status, place_status as place_status_of};
 ghost use Rattle.kubeconv_cmd.specs.inner.Migrations.{migrate_end_line, migrate_status};
 
 use crate::halt::Halt;
 use crate::pipe::PipeEnd;
 use crate::stop::{Stop, Why};
 use edge_io::{Failed, Sink, send};
-use far_lines::MigrateEnd;
+use far_lines::{LoadEnd, MigrateEnd};
 use itoa::Buffer;
 use kj_value::NoMemory;
+use place::PlaceFault;
+use record_dump::{DumpEnd, RestoreEnd};
 
 /// Done: of `pipe` the input was read to its end between two requests, or an answered request asked for closing.
 pub const DONE: u8 = 0;
@@ -26,7 +29,7 @@ pub const BAD_WORDS: u8 = 2;
 /// A file is too long, isn't text, or something of it is refused.
 pub const REFUSED: u8 = 3;
 
-/// The input of `convert` or `review` is too long or refused, or no version has the name that is wanted.
+/// The input of `convert` or `review` is too long or refused, or no version has the name that is wanted; or a line of the input of `load` is refused.
 pub const BAD_INPUT: u8 = 4;
 
 /// A file couldn't be read, or the input failed.
@@ -41,10 +44,10 @@ pub const NO_MEMORY: u8 = 7;
 /// No address could be listened at, or no further connection could be had.
 pub const LISTEN_FAILED: u8 = 8;
 
-/// The input ended inside a request, or the head of a request was refused.
+/// The input ended inside a request, or the head of a request was refused; or the input of `load` ended inside a line.
 pub const CUT: u8 = 9;
 
-/// As many requests were answered as are, and the last didn't ask for closing.
+/// As many requests were answered as are, and the last didn't ask for closing; or the input of `load` has too many lines.
 pub const TOO_MANY: u8 = 10;
 
 /// The link to a server failed.
@@ -247,14 +250,30 @@ pub(crate) fn tell_task<E: Sink>(errors: &mut E, came: Result<(), Halt>) -> u8
     }
 }
 
+// Writes a line that ends with a number.
+fn send_number<E: Sink>(errors: &mut E, front: &[u8], number: &[u8]) -> Result<(), Failed>
+    ensures sent { Sends (E.written errors.old) (E.written errors.new) (front.now ++ (number.now ++ codes "\n")) result }
+    ensures cause { HasCause (E.faults errors.old) (E.faults errors.new) result }
+{
+    send(errors, front)?;
+    send(errors, number)?;
+    send(errors, LINE_END)
+}
+
 // Writes the line that names a code.
 fn send_answer<E: Sink>(errors: &mut E, code: &[u8]) -> Result<(), Failed>
     ensures sent { Sends (E.written errors.old) (E.written errors.new) (codes "kubeconv: answer " ++ (code.now ++ codes "\n")) result }
     ensures cause { HasCause (E.faults errors.old) (E.faults errors.new) result }
 {
-    send(errors, b"kubeconv: answer ")?;
-    send(errors, code)?;
-    send(errors, LINE_END)
+    send_number(errors, b"kubeconv: answer ", code)
+}
+
+// Writes the line that names a line of the input.
+fn send_bad_line<E: Sink>(errors: &mut E, number: &[u8]) -> Result<(), Failed>
+    ensures sent { Sends (E.written errors.old) (E.written errors.new) (codes "kubeconv: line " ++ (number.now ++ codes "\n")) result }
+    ensures cause { HasCause (E.faults errors.old) (E.faults errors.new) result }
+{
+    send_number(errors, b"kubeconv: line ", number)
 }
 
 // Writes the line that names the code of an answer, and flushes.
@@ -269,6 +288,18 @@ fn write_answer<E: Sink>(errors: &mut E, code: u16) -> Result<(), Failed>
     errors.flush()
 }
 
+// Writes the line that names a line of the input, and flushes.
+#[tactic(auto, unfolding(crate::specs::Status::bad_line))]
+fn write_bad_line<E: Sink>(errors: &mut E, number: u64) -> Result<(), Failed>
+    ensures sent { Sends (E.written errors.old) (E.written errors.new) (bad_line_of number) result }
+    ensures cause { HasCause (E.faults errors.old) (E.faults errors.new) result }
+{
+    let mut buffer = Buffer::new();
+    let text = buffer.format(number);
+    send_bad_line(errors, text.as_bytes())?;
+    errors.flush()
+}
+
 // Ends a run at an answer for which there is no rule.
 fn bad_answer<E: Sink>(errors: &mut E, code: u16) -> u8
     ensures status { result ≡ BAD_ANSWER }
@@ -278,6 +309,18 @@ fn bad_answer<E: Sink>(errors: &mut E, code: u16) -> u8
     match write_answer(errors, code) {
         Ok(()) => BAD_ANSWER,
         Err(_) => BAD_ANSWER,
+    }
+}
+
+// Ends a run at a line of the input that is refused.
+fn bad_line<E: Sink>(errors: &mut E, number: u64) -> u8
+    ensures status { result ≡ BAD_INPUT }
+    ensures line { ¬ (Rose (E.faults errors.old) (E.faults errors.new))
+        → E.written errors.new ≡ append_known (E.written errors.old) (bad_line_of number) }
+{
+    match write_bad_line(errors, number) {
+        Ok(()) => BAD_INPUT,
+        Err(_) => BAD_INPUT,
     }
 }
 
@@ -296,5 +339,71 @@ pub(crate) fn tell_migrated<E: Sink>(errors: &mut E, came: MigrateEnd) -> u8
         MigrateEnd::Restarted => ended(errors, UNSETTLED),
         MigrateEnd::WriteFault => ended(errors, WRITE_FAILED),
         MigrateEnd::NoMemory => ended(errors, NO_MEMORY),
+    }
+}
+
+// The status where no place was had.
+fn place_status(fault: PlaceFault) -> u8
+    ensures { result ≡ place_status_of fault }
+{
+    match fault {
+        PlaceFault::BadPlace => BAD_WORDS,
+        PlaceFault::NoMemory => NO_MEMORY,
+    }
+}
+
+/// Ends a run by how its dump ended.
+pub(crate) fn tell_dumped<E: Sink>(errors: &mut E, came: Result<DumpEnd, PlaceFault>) -> u8
+    ensures status { result ≡ dumped_status came }
+    ensures line { ¬ (Rose (E.faults errors.old) (E.faults errors.new))
+        → E.written errors.new ≡ append_known (E.written errors.old) (dumped_line came) }
+{
+    match came {
+        Ok(DumpEnd::Done { lines: _ }) => ended(errors, DONE),
+        Ok(DumpEnd::LinkFault) => ended(errors, LINK_FAILED),
+        Ok(DumpEnd::WriteFault) => ended(errors, WRITE_FAILED),
+        Ok(DumpEnd::Answer { code }) => bad_answer(errors, code),
+        Ok(DumpEnd::Expired) => ended(errors, UNSETTLED),
+        Ok(DumpEnd::NoMemory) => ended(errors, NO_MEMORY),
+        Err(fault) => ended(errors, place_status(fault)),
+    }
+}
+
+// Ends a run by how its restoring ended.
+fn tell_restored<E: Sink>(errors: &mut E, end: RestoreEnd) -> u8
+    ensures status { result ≡ restore_status end }
+    ensures line { ¬ (Rose (E.faults errors.old) (E.faults errors.new))
+        → E.written errors.new ≡ append_known (E.written errors.old) (restore_error_line end) }
+{
+    match end {
+        RestoreEnd::Done {
+            created: _,
+            present: _,
+        } => ended(errors, DONE),
+        RestoreEnd::LinkFault => ended(errors, LINK_FAILED),
+        RestoreEnd::ReadFault => ended(errors, READ_FAILED),
+        RestoreEnd::BadLine { line } => bad_line(errors, line),
+        RestoreEnd::Cut { line: _ } => ended(errors, CUT),
+        RestoreEnd::TooMany => ended(errors, TOO_MANY),
+        RestoreEnd::Answer { line: _, code } => bad_answer(errors, code),
+        RestoreEnd::NoMemory => ended(errors, NO_MEMORY),
+    }
+}
+
+/// Ends a run by how its line ended that loads.
+pub(crate) fn tell_loaded<E: Sink>(errors: &mut E, came: Result<LoadEnd, PlaceFault>) -> u8
+    ensures status { result ≡ loaded_status came }
+    ensures line { ¬ (Rose (E.faults errors.old) (E.faults errors.new))
+        → E.written errors.new ≡ append_known (E.written errors.old) (loaded_line came) }
+{
+    match came {
+        Ok(LoadEnd::Restored(end)) => tell_restored(errors, end),
+        Ok(
+            LoadEnd::WriteFault {
+                created: _,
+                present: _,
+            },
+        ) => ended(errors, WRITE_FAILED),
+        Err(fault) => ended(errors, place_status(fault)),
     }
 }

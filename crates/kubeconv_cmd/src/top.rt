@@ -13,13 +13,13 @@ use crate::loading::load_named;
 use crate::pipe::serve;
 use crate::serve_line::{serve_set, tell_served};
 use crate::status::{
-    BAD_ANSWER, BAD_INPUT, BAD_WORDS, REFUSED, ended, tell_migrated, tell_pipe, tell_stop,
-    tell_task,
+    BAD_ANSWER, BAD_INPUT, BAD_WORDS, REFUSED, ended, tell_dumped, tell_loaded, tell_migrated,
+    tell_pipe, tell_stop, tell_task,
 };
 use crate::tasks::do_task;
 use command_lines::{Command, Named, Words, command_of};
 use edge_io::{Clock, Ears, Files, Sink, Source};
-use far_lines::migrate_line;
+use far_lines::{dump_line, load_line, migrate_line};
 use std::alloc::Global;
 use std::sync::Wait;
 use std::thread::Threads;
@@ -131,6 +131,14 @@ fn run_command<
             let came = migrate_line(alloc, url, links, output);
             tell_migrated(errors, came)
         }
+        Command::Dump { url } => {
+            let came = dump_line(alloc, url, links, output);
+            tell_dumped(errors, came)
+        }
+        Command::Load { url } => {
+            let came = load_line(alloc, url, links, input, output);
+            tell_loaded(errors, came)
+        }
     }
 }
 
@@ -159,6 +167,12 @@ fn run_command<
 ///   last list had (`listed`), and of how many the put was answered with another number (`written`), with the same (`unchanged`), that they
 ///   are gone (`gone`), and four times that they had changed (`contested`). It reads no file and no input.
 ///
+/// - `dump URL`, with such an address: over one link all objects are listed, and each is written as a line, its compact text without the
+///   five fields of its metadata that a server sets anew. It reads no file and no input.
+///
+/// - `load URL`, with such an address: each line of `input` is posted over one link, in order, as a new object. Then two lines are written,
+///   of a word, a space and a number: how many were created (`created`), and how many were there already (`present`). It reads no file.
+///
 /// The definition's file is read first, then that of the rules, and then both are loaded; nothing of the input is read before that.
 /// The input of `convert` and `review` has at most 4,194,304 bytes. Whether there is a version of the name is asked before it is read.
 ///
@@ -167,21 +181,22 @@ fn run_command<
 /// | 0 | of `pipe` the input was read to its end between two requests, or an answered request asked for closing; of `serve` as many connections were given back as were asked for; of the others what is written was written |
 /// | 2 | exactly where the words are no such line, or the URL isn't the address of a place; nothing is read or written then but the error line |
 /// | 3 | a file is longer than 4,194,304 bytes, isn't UTF-8, or something of it is refused |
-/// | 4 | the input of `convert` or `review` is too long or refused, or no version has the name; nothing is written then but the error line |
+/// | 4 | the input of `convert` or `review` is too long or refused, or no version has the name, or a line of the input of `load` is refused; nothing is written then but the error line |
 /// | 5 | only where the count of faults of `files` or of `input` rose |
 /// | 6 | only where the count of faults of `output` rose |
-/// | 7 | want of memory, with nothing written but the error line, or of `serve` that it listens, and of `pipe` nothing read of the input |
+/// | 7 | want of memory, with nothing written but the error line, or of `serve` that it listens, or of `dump` a front of its lines, and of `pipe` nothing read of the input |
 /// | 8 | only where the count of faults of `ears` rose: nobody can listen at the address, or no further connection could be had |
-/// | 9 | the input of `pipe` ended inside a request, or the head of a request was refused |
-/// | 10 | `pipe` answered 10,000 requests, and the last didn't ask for closing |
+/// | 9 | the input of `pipe` ended inside a request, or the head of a request was refused; or the input of `load` ended inside a line |
+/// | 10 | `pipe` answered 10,000 requests, and the last didn't ask for closing; or a byte follows the 1,000,000th line of the input of `load` |
 /// | 11 | only where the link's count of faults rose |
-/// | 12 | a server's answer is one for which there is no rule; nothing is written then |
-/// | 13 | some object changed at each of four puts, and the five lines were written; or the server forgot the list seventeen times, and nothing was |
+/// | 12 | a server's answer is one for which there is no rule; nothing is written then, but of `dump` the lines of the pages before |
+/// | 13 | some object changed at each of four puts, and the five lines were written; or the server forgot the list of `migrate` seventeen times, and nothing was; or that of `dump` once |
 ///
 /// Each status but 0 and 6 puts one line on `errors`. That of 3 names the file as it stands in the words, and says `TooLong`,
 /// `NotText`, or the path of what is refused, which is empty for the whole file, and a word. That of 4 says `TooLong`, `no version
-/// NAME`, `NotReview PATH`, `NotJson`, `TooDeep`, `NotWhole`, `NotObject`, or the field of the document and the rule that it breaks. That of 12 says
-/// `answer CODE`, 0 where the last answer has another form, order or length. A failed write of the line changes no status.
+/// NAME`, `NotReview PATH`, `NotJson`, `TooDeep`, `NotWhole`, `NotObject`, or the field of the document and the rule that it breaks; of
+/// `load` it says `line N`, counted from 1. That of 12 says `answer CODE`, 0 where the last answer has another form, order or length. A failed
+/// write of the line changes no status.
 ///
 /// Where all that stood on `output` before was handed on, so is all that stands on it at the end of a line but `serve`, unless `output`
 /// failed.

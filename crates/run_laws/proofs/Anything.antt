@@ -1,15 +1,17 @@
 -- What holds of any line.
 use Rattle.std.proofs.Common.{◌≡◌, ◌≢◌, ◌⊎◌, ℕ, List, Some, inl, inr, arith}
-use Rattle.command_lines.specs.Lines.{Named, Line, pipe, task, drill, serve, migrate, named_in, from_files, example}
+use Rattle.command_lines.specs.Lines.{Named, Line, pipe, task, drill, serve, migrate, dump, load, remote, named_in, from_files, example}
 use Rattle.kubeconv_cmd.specs.Texts.{Texts}
 use Rattle.kubeconv_cmd.specs.Refusal.{RefusesNamed}
 use Rattle.kubeconv_cmd.specs.Outcome.{World, BlamesFile, Outcome, FilesFail, InputFails, OutputFails, EarsFail, InputStays, OutputStays, EarsStay}
 use Rattle.kubeconv_cmd.specs.declared.status.TheConstants.{DONE, REFUSED, BAD_INPUT, READ_FAILED, WRITE_FAILED, NO_MEMORY, LISTEN_FAILED}
-use Rattle.run_laws.specs.Ran.{HearsNone, RefusesSome, Ran, IsComplete}
+use Rattle.run_laws.specs.Ran.{HearsNone, WantsFirst, RefusesSome, Ran, IsComplete}
 use Rattle.run_laws.proofs.PipeLaws.{pipe_talk, pipe_complete, pipe_refuses, pipe_blames, pipe_unserved, pipe_reading, pipe_writing, pipe_never}
 use Rattle.run_laws.proofs.TaskLaws.{task_talk, task_complete, task_refuses, task_blames, task_unserved, task_broke, task_silent, task_reading, task_never}
 use Rattle.run_laws.proofs.DrillLaws.{drill_talk, drill_complete, drill_broke, drill_silent, drill_never}
 use Rattle.run_laws.proofs.MigrateLaws.{migrate_never, migrate_silent, migrate_writing}
+use Rattle.run_laws.proofs.DumpLaws.{dump_never, dump_writing}
+use Rattle.run_laws.proofs.LoadLaws.{load_never, load_reading, load_silent, load_writing}
 use Rattle.run_laws.proofs.ServeLaws.{serve_talk, serve_complete, serve_refuses, serve_blames, serve_failed, serve_reading, serve_writing, serve_never}
 
 third : (A B C : Type 0) → A ⊎ B → A ⊎ (C ⊎ B)
@@ -23,7 +25,7 @@ talk_any w (pipe named turns) s crd rules b out texts known nf nr nw = pipe_talk
 talk_any w (task c r t) s crd rules b out texts known nf nr nw = task_talk w (from_files c r) t s crd rules b out.0 texts known nf nr nw
 talk_any w (drill start count) s crd rules b out texts known nf nr nw = third _ _ _ (drill_talk w start count s crd rules out.0 texts nw)
 talk_any w (serve v) s crd rules b out texts known nf nr nw = serve_talk w (from_files v.crd v.rules) v.connections s crd rules out.0 texts nf nw
-talk_any w (migrate url) s crd rules b out texts known nf nr nw = absurd texts
+talk_any w (remote work url) s crd rules b out texts known nf nr nw = absurd texts
 
 pub complete_any : {F S K A : Type 0} (w : World F S K A) (line : Line) (s : ℕ) (crd rules : List ℕ) → Outcome w line s → Texts w.file (named_in line) crd rules
     → ((name why : List ℕ) → RefusesNamed (named_in line) crd rules name why → ⊥) → ¬ (FilesFail w) → ¬ (InputFails w) → ¬ (OutputFails w) → ¬ (EarsFail w) → IsComplete line s
@@ -31,7 +33,7 @@ complete_any w (pipe named turns) s crd rules out texts fit nf nr nw ne = pipe_c
 complete_any w (task c r t) s crd rules out texts fit nf nr nw ne = task_complete w (from_files c r) t s crd rules out.0 texts fit nf nr nw
 complete_any w (drill start count) s crd rules out texts fit nf nr nw ne = drill_complete w start count s out.0 nw
 complete_any w (serve v) s crd rules out texts fit nf nr nw ne = serve_complete w (from_files v.crd v.rules) v.connections s crd rules out.0 texts fit nf nw ne
-complete_any w (migrate url) s crd rules out texts fit nf nr nw ne = absurd texts
+complete_any w (remote work url) s crd rules out texts fit nf nr nw ne = absurd texts
 
 pub refused_any : {F S K A : Type 0} (w : World F S K A) (line : Line) (s : ℕ) (crd rules name why : List ℕ) → Outcome w line s → Texts w.file (named_in line) crd rules → ¬ (FilesFail w)
     → RefusesNamed (named_in line) crd rules name why → (s ≡ REFUSED) ⊎ (s ≡ NO_MEMORY)
@@ -39,54 +41,68 @@ refused_any w (pipe named turns) s crd rules name why out texts nf bad = pipe_re
 refused_any w (task c r t) s crd rules name why out texts nf bad = task_refuses w (from_files c r) t s crd rules name why out.0 texts nf bad
 refused_any w (drill start count) s crd rules name why out texts nf bad = absurd bad
 refused_any w (serve v) s crd rules name why out texts nf bad = serve_refuses w (from_files v.crd v.rules) v.connections s crd rules name why out.0 texts nf bad
-refused_any w (migrate url) s crd rules name why out texts nf bad = absurd texts
+refused_any w (remote work url) s crd rules name why out texts nf bad = absurd texts
 
 pub refusal_any : {F S K A : Type 0} (w : World F S K A) (line : Line) (s : ℕ) → Outcome w line s → s ≡ REFUSED → BlamesFile w (named_in line)
 refusal_any w (pipe named turns) s out e = pipe_blames w named turns s out.0 e
 refusal_any w (task c r t) s out e = task_blames w (from_files c r) t s out.0 e
 refusal_any w (drill start count) s out e = absurd (drill_never REFUSED (λ e. omega (arith, e)) (λ e. omega (arith, e)) (λ e. omega (arith, e)) w start count s out.0 e)
 refusal_any w (serve v) s out e = (serve_blames w (from_files v.crd v.rules) v.connections s out.0 e).0
-refusal_any w (migrate url) s out e = absurd (migrate_never REFUSED (λ e. omega (arith, e)) (λ e. omega (arith, e)) (λ e. omega (arith, e)) (λ e. omega (arith, e)) (λ e. omega (arith, e)) (λ e. omega (arith, e)) (λ e. omega (arith, e)) w url s out.0 e)
+refusal_any w (remote migrate url) s out e = absurd (migrate_never REFUSED (λ e. omega (arith, e)) (λ e. omega (arith, e)) (λ e. omega (arith, e)) (λ e. omega (arith, e)) (λ e. omega (arith, e)) (λ e. omega (arith, e)) (λ e. omega (arith, e)) w url s out.0 e)
+refusal_any w (remote dump url) s out e = absurd (dump_never REFUSED (λ e. omega (arith, e)) (λ e. omega (arith, e)) (λ e. omega (arith, e)) (λ e. omega (arith, e)) (λ e. omega (arith, e)) (λ e. omega (arith, e)) (λ e. omega (arith, e)) w url s out.0 e)
+refusal_any w (remote load url) s out e = absurd (load_never REFUSED (λ e. omega (arith, e)) (λ e. omega (arith, e)) (λ e. omega (arith, e)) (λ e. omega (arith, e)) (λ e. omega (arith, e)) (λ e. omega (arith, e)) (λ e. omega (arith, e)) (λ e. omega (arith, e)) (λ e. omega (arith, e)) (λ e. omega (arith, e)) w url s out.0 e)
 
 pub unserved_any : {F S K A : Type 0} (w : World F S K A) (line : Line) (s : ℕ) → Outcome w line s → s ≡ REFUSED → (InputStays w) × (OutputStays w)
 unserved_any w (pipe named turns) s out e = pipe_unserved w named turns s out.0 (inl e)
 unserved_any w (task c r t) s out e = task_unserved w (from_files c r) t s out.0 e
 unserved_any w (drill start count) s out e = absurd (drill_never REFUSED (λ e. omega (arith, e)) (λ e. omega (arith, e)) (λ e. omega (arith, e)) w start count s out.0 e)
 unserved_any w (serve v) s out e = (out.1, (serve_blames w (from_files v.crd v.rules) v.connections s out.0 e).1)
-unserved_any w (migrate url) s out e = absurd (migrate_never REFUSED (λ e. omega (arith, e)) (λ e. omega (arith, e)) (λ e. omega (arith, e)) (λ e. omega (arith, e)) (λ e. omega (arith, e)) (λ e. omega (arith, e)) (λ e. omega (arith, e)) w url s out.0 e)
+unserved_any w (remote migrate url) s out e = absurd (migrate_never REFUSED (λ e. omega (arith, e)) (λ e. omega (arith, e)) (λ e. omega (arith, e)) (λ e. omega (arith, e)) (λ e. omega (arith, e)) (λ e. omega (arith, e)) (λ e. omega (arith, e)) w url s out.0 e)
+unserved_any w (remote dump url) s out e = absurd (dump_never REFUSED (λ e. omega (arith, e)) (λ e. omega (arith, e)) (λ e. omega (arith, e)) (λ e. omega (arith, e)) (λ e. omega (arith, e)) (λ e. omega (arith, e)) (λ e. omega (arith, e)) w url s out.0 e)
+unserved_any w (remote load url) s out e = absurd (load_never REFUSED (λ e. omega (arith, e)) (λ e. omega (arith, e)) (λ e. omega (arith, e)) (λ e. omega (arith, e)) (λ e. omega (arith, e)) (λ e. omega (arith, e)) (λ e. omega (arith, e)) (λ e. omega (arith, e)) (λ e. omega (arith, e)) (λ e. omega (arith, e)) w url s out.0 e)
 
 pub ears_any : {F S K A : Type 0} (w : World F S K A) (line : Line) (s : ℕ) → Outcome w line s → HearsNone line → (EarsStay w)
 ears_any w (pipe named turns) s out none = out.1
 ears_any w (task c r t) s out none = out.1
 ears_any w (drill start count) s out none = out.3
 ears_any w (serve v) s out none = absurd none
-ears_any w (migrate url) s out none = out.3
+ears_any w (remote migrate url) s out none = out.3
+ears_any w (remote dump url) s out none = out.3
+ears_any w (remote load url) s out none = out.2
 
-pub memory_any : {F S K A : Type 0} (w : World F S K A) (line : Line) (s : ℕ) → Outcome w line s → HearsNone line → s ≡ NO_MEMORY → (OutputStays w)
+pub memory_any : {F S K A : Type 0} (w : World F S K A) (line : Line) (s : ℕ) → Outcome w line s → WantsFirst line → s ≡ NO_MEMORY → (OutputStays w)
 memory_any w (pipe named turns) s out none e = (pipe_unserved w named turns s out.0 (inr e)).1
 memory_any w (task c r t) s out none e =
     task_silent w (from_files c r) t s out.0 (λ d. omega (arith, d, e)) (λ f. omega (arith, f, e))
 memory_any w (drill start count) s out none e = drill_silent w start count s out.0 (λ d. omega (arith, d, e)) (λ f. omega (arith, f, e))
 memory_any w (serve v) s out none e = absurd none
-memory_any w (migrate url) s out none e = migrate_silent w url s out.0 (λ d. omega (arith, d, e)) (λ f. omega (arith, f, e)) (λ f. omega (arith, f, e))
+memory_any w (remote migrate url) s out none e = migrate_silent w url s out.0 (λ d. omega (arith, d, e)) (λ f. omega (arith, f, e)) (λ f. omega (arith, f, e))
+memory_any w (remote dump url) s out none e = absurd none
+memory_any w (remote load url) s out none e = load_silent w url s out.0 (λ d. omega (arith, d, e)) (λ f. omega (arith, f, e))
 
 pub reading_any : {F S K A : Type 0} (w : World F S K A) (line : Line) (s : ℕ) → Outcome w line s → s ≡ READ_FAILED → (FilesFail w) ⊎ (InputFails w)
 reading_any w (pipe named turns) s out e = pipe_reading w named turns s out.0 e
 reading_any w (task c r t) s out e = task_reading w (from_files c r) t s out.0 e
 reading_any w (drill start count) s out e = absurd (drill_never READ_FAILED (λ e. omega (arith, e)) (λ e. omega (arith, e)) (λ e. omega (arith, e)) w start count s out.0 e)
 reading_any w (serve v) s out e = inl (serve_reading w (from_files v.crd v.rules) v.connections s out.0 e)
-reading_any w (migrate url) s out e = absurd (migrate_never READ_FAILED (λ e. omega (arith, e)) (λ e. omega (arith, e)) (λ e. omega (arith, e)) (λ e. omega (arith, e)) (λ e. omega (arith, e)) (λ e. omega (arith, e)) (λ e. omega (arith, e)) w url s out.0 e)
+reading_any w (remote migrate url) s out e = absurd (migrate_never READ_FAILED (λ e. omega (arith, e)) (λ e. omega (arith, e)) (λ e. omega (arith, e)) (λ e. omega (arith, e)) (λ e. omega (arith, e)) (λ e. omega (arith, e)) (λ e. omega (arith, e)) w url s out.0 e)
+reading_any w (remote dump url) s out e = absurd (dump_never READ_FAILED (λ e. omega (arith, e)) (λ e. omega (arith, e)) (λ e. omega (arith, e)) (λ e. omega (arith, e)) (λ e. omega (arith, e)) (λ e. omega (arith, e)) (λ e. omega (arith, e)) w url s out.0 e)
+reading_any w (remote load url) s out e = inr (load_reading w url s out.0 e)
 
 pub writing_any : {F S K A : Type 0} (w : World F S K A) (line : Line) (s : ℕ) → Outcome w line s → s ≡ WRITE_FAILED → (OutputFails w)
 writing_any w (pipe named turns) s out e = pipe_writing w named turns s out.0 e
 writing_any w (task c r t) s out e = (task_broke w (from_files c r) t s out.0 e).0
 writing_any w (drill start count) s out e = (drill_broke w start count s out.0 e).0
 writing_any w (serve v) s out e = serve_writing w (from_files v.crd v.rules) v.connections s out.0 e
-writing_any w (migrate url) s out e = migrate_writing w url s out.0 e
+writing_any w (remote migrate url) s out e = migrate_writing w url s out.0 e
+writing_any w (remote dump url) s out e = dump_writing w url s out.0 e
+writing_any w (remote load url) s out e = load_writing w url s out.0 e
 
 pub hearing_any : {F S K A : Type 0} (w : World F S K A) (line : Line) (s : ℕ) → Outcome w line s → s ≡ LISTEN_FAILED → (EarsFail w)
 hearing_any w (pipe named turns) s out e = absurd (pipe_never LISTEN_FAILED (λ e. omega (arith, e)) (λ e. omega (arith, e)) (λ e. omega (arith, e)) (λ e. omega (arith, e)) (λ e. omega (arith, e)) (λ e. omega (arith, e)) (λ e. omega (arith, e)) w named turns s out.0 e)
 hearing_any w (task c r t) s out e = absurd (task_never LISTEN_FAILED (λ e. omega (arith, e)) (λ e. omega (arith, e)) (λ e. omega (arith, e)) (λ e. omega (arith, e)) (λ e. omega (arith, e)) (λ e. omega (arith, e)) w (from_files c r) t s out.0 e)
 hearing_any w (drill start count) s out e = absurd (drill_never LISTEN_FAILED (λ e. omega (arith, e)) (λ e. omega (arith, e)) (λ e. omega (arith, e)) w start count s out.0 e)
 hearing_any w (serve v) s out e = (serve_failed w (from_files v.crd v.rules) v.connections s out.0 e).0
-hearing_any w (migrate url) s out e = absurd (migrate_never LISTEN_FAILED (λ e. omega (arith, e)) (λ e. omega (arith, e)) (λ e. omega (arith, e)) (λ e. omega (arith, e)) (λ e. omega (arith, e)) (λ e. omega (arith, e)) (λ e. omega (arith, e)) w url s out.0 e)
+hearing_any w (remote migrate url) s out e = absurd (migrate_never LISTEN_FAILED (λ e. omega (arith, e)) (λ e. omega (arith, e)) (λ e. omega (arith, e)) (λ e. omega (arith, e)) (λ e. omega (arith, e)) (λ e. omega (arith, e)) (λ e. omega (arith, e)) w url s out.0 e)
+hearing_any w (remote dump url) s out e = absurd (dump_never LISTEN_FAILED (λ e. omega (arith, e)) (λ e. omega (arith, e)) (λ e. omega (arith, e)) (λ e. omega (arith, e)) (λ e. omega (arith, e)) (λ e. omega (arith, e)) (λ e. omega (arith, e)) w url s out.0 e)
+hearing_any w (remote load url) s out e = absurd (load_never LISTEN_FAILED (λ e. omega (arith, e)) (λ e. omega (arith, e)) (λ e. omega (arith, e)) (λ e. omega (arith, e)) (λ e. omega (arith, e)) (λ e. omega (arith, e)) (λ e. omega (arith, e)) (λ e. omega (arith, e)) (λ e. omega (arith, e)) (λ e. omega (arith, e)) w url s out.0 e)

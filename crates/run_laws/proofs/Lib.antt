@@ -6,3 +6,5 @@ pub mod TaskLaws
 pub mod DrillLaws
 pub mod ServeLaws
 pub mod MigrateLaws
+pub mod DumpLaws
+pub mod LoadLaws

@@ -7,7 +7,7 @@ use Rattle.request_replies.specs.Replies.{Front}
 use Rattle.http_front.specs.Talk.{Conversation}
 use Rattle.crd_loading.specs.Load.{Loads}
 use Rattle.crd_loading.specs.View.{LoadedView}
-use Rattle.command_lines.specs.Lines.{Named, Task, Line, pipe, task, drill, serve, migrate}
+use Rattle.command_lines.specs.Lines.{Named, Task, Line, pipe, task, drill, serve, migrate, dump, load, remote}
 use Rattle.kubeconv_cmd.specs.Listening.{Told, ToldSome}
 use Rattle.kubeconv_cmd.specs.Refusal.{RefusesNamed}
 use Rattle.kubeconv_cmd.specs.Serving.{At, AnswersAndWorks, DrillsTexts, Start, front_of, opening, served_meaning}
@@ -21,7 +21,17 @@ HearsNone (pipe named turns) = Unit {0}
 HearsNone (task crd rules t) = Unit {0}
 HearsNone (drill start count) = Unit {0}
 HearsNone (serve s) = ⊥
-HearsNone (migrate url) = Unit {0}
+HearsNone (remote work url) = Unit {0}
+
+-- the line writes nothing before it has all memory that it wants
+abbrev pub WantsFirst : Line → Type 0
+WantsFirst (pipe named turns) = Unit {0}
+WantsFirst (task crd rules t) = Unit {0}
+WantsFirst (drill start count) = Unit {0}
+WantsFirst (serve s) = ⊥
+WantsFirst (remote migrate url) = Unit {0}
+WantsFirst (remote dump url) = ⊥
+WantsFirst (remote load url) = Unit {0}
 
 -- something of the texts is refused
 abbrev pub RefusesSome : Named → List ℕ → List ℕ → Type 0
@@ -89,14 +99,14 @@ pub record RunsService (connections : Option ℕ) (answered : ℕ → Type 0) (t
 
 -- ---- any line
 
--- What a line with the definition of these texts, which a migration hasn't, does with an input, where nothing fails: what is written behind what was, and
+-- What a line with the definition of these texts, which a line that works on a server from outside hasn't, does with an input, where nothing fails: what is written behind what was, and
 -- the status.
 abbrev pub Ran : Line → List ℕ → List ℕ → Start → List ℕ → Option (List ℕ) → Option (List ℕ) → ℕ → Type 0
 Ran (pipe named turns) crd rules start input before written status = ServesTexts crd rules turns start input before written status
 Ran (task c r t) crd rules start input before written status = RanTask crd rules t input before written status
 Ran (drill x n) crd rules start input before written status = RanDrill crd rules x n before written status
 Ran (serve s) crd rules start input before written status = RanService before written status
-Ran (migrate url) crd rules start input before written status = ⊥
+Ran (remote work url) crd rules start input before written status = ⊥
 
 -- A line that had its definition, where nothing failed: it is done, or memory was wanted; or its input was no whole conversation, or is
 -- refused.
@@ -105,4 +115,4 @@ IsComplete (pipe named turns) status = (status ≡ DONE) ⊎ ((status ≡ NO_MEM
 IsComplete (task c r t) status = (status ≡ DONE) ⊎ ((status ≡ NO_MEMORY) ⊎ (status ≡ BAD_INPUT))
 IsComplete (drill start count) status = (status ≡ DONE) ⊎ (status ≡ NO_MEMORY)
 IsComplete (serve s) status = (status ≡ DONE) ⊎ (status ≡ NO_MEMORY)
-IsComplete (migrate url) status = ⊥
+IsComplete (remote work url) status = ⊥

@@ -5,7 +5,7 @@ ghost use Rattle.kubeconv_cmd.specs.Texts.{Texts};
 ghost use Rattle.kubeconv_cmd.specs.Outcome.{BlamesFile, Outcome, World, FilesFail, InputFails, OutputFails, EarsFail, InputStays, OutputStays, EarsStay};
 ghost use Rattle.kubeconv_cmd.specs.Refusal.{IsServed, RefusesNamed};
 ghost use Rattle.kubeconv_cmd.specs.declared.status.TheConstants.{LISTEN_FAILED, NO_MEMORY, READ_FAILED, REFUSED, WRITE_FAILED};
-ghost use Rattle.run_laws.specs.Ran.{HearsNone, IsComplete, Ran, RefusesSome};
+ghost use Rattle.run_laws.specs.Ran.{HearsNone, IsComplete, Ran, RefusesSome, WantsFirst};
 
 /// Where nothing fails.
 pub fn where_nothing_fails<F, S, K, A>()
@@ -31,7 +31,7 @@ pub fn by_status<F, S, K, A>()
     ensures read_fault { (w : World F S K A) (line : Line) (status : ℕ) → Outcome w line status → status ≡ READ_FAILED → (FilesFail w) ⊎ (InputFails w) }
     ensures write_fault { (w : World F S K A) (line : Line) (status : ℕ) → Outcome w line status → status ≡ WRITE_FAILED → (OutputFails w) }
     ensures ears_fault { (w : World F S K A) (line : Line) (status : ℕ) → Outcome w line status → status ≡ LISTEN_FAILED → (EarsFail w) }
-    // The lines but `serve` ask nothing of the ears, and write nothing where memory is wanted.
+    // The lines but `serve` ask nothing of the ears, and those but `serve` and `dump` write nothing where memory is wanted.
     ensures ears { (w : World F S K A) (line : Line) (status : ℕ) → Outcome w line status → HearsNone line → (EarsStay w) }
-    ensures memory { (w : World F S K A) (line : Line) (status : ℕ) → Outcome w line status → HearsNone line → status ≡ NO_MEMORY → (OutputStays w) }
+    ensures memory { (w : World F S K A) (line : Line) (status : ℕ) → Outcome w line status → WantsFirst line → status ≡ NO_MEMORY → (OutputStays w) }
 {}

@@ -6,6 +6,8 @@
 
 pub mod any_line;
 pub mod drill;
+pub mod dump;
+pub mod load;
 pub mod migrate;
 pub mod pipe;
 pub mod serve;

@@ -52,12 +52,22 @@ fn files_of(alloc: Global, case: &Case) -> Option<MemFiles> {
     Some(MemFiles::new(files, Vec::new(alloc)))
 }
 
+// The input of the program, and the answers of the one link. Of a line of `load` these stand behind the first `~`.
+fn parts(case: &Case) -> (&str, &str) {
+    let all = case.asked.input.as_str();
+    if case.asked.words.starts_with("words load ") {
+        return all.split_once('~').unwrap_or((all, ""));
+    }
+    (all, all)
+}
+
 // The input of the program. There is none where its reads give nothing.
 fn input_of(alloc: Global, case: &Case, outside: Outside) -> Option<Input> {
     if outside.piece == 0 {
         return None;
     }
-    let mut bytes = bytes_of(alloc, case.asked.input.as_str(), false)?;
+    let (input, _) = parts(case);
+    let mut bytes = bytes_of(alloc, input, false)?;
     bytes.truncate(outside.end);
     Some(Input {
         bytes,
@@ -104,10 +114,11 @@ fn ears_of(alloc: Global, case: &Case, outside: Outside) -> Option<MemEars> {
     MemEars::new(alloc, connections, failing).ok()
 }
 
-// A link whose answers are the parts of the input between two `~`.
+// A link whose answers are the parts between two `~`.
 fn link_of(alloc: Global, case: &Case, outside: Outside) -> Option<MemReady> {
     let mut answers = Vec::new(alloc);
-    for part in case.asked.input.split('~') {
+    let (_, all) = parts(case);
+    for part in all.split('~') {
         let answer = part.as_bytes().to_vec(alloc).ok()?;
         answers.push(answer).ok()?;
     }
@@ -116,10 +127,17 @@ fn link_of(alloc: Global, case: &Case, outside: Outside) -> Option<MemReady> {
     MemReady::new(alloc, link).ok()
 }
 
-// Links of which the first is that one, where the line is one that works on a server from outside.
+// Whether the line works on a server from outside.
+fn is_remote(words: &str) -> bool {
+    words.starts_with("words migrate ")
+        || words.starts_with("words dump ")
+        || words.starts_with("words load ")
+}
+
+// Links of which the first is that one, where the line works on a server from outside.
 fn links_of(alloc: Global, case: &Case, outside: Outside) -> Option<MemLinks> {
     let mut ready = Vec::new(alloc);
-    if case.asked.words.starts_with("words migrate ") {
+    if is_remote(case.asked.words.as_str()) {
         let link = link_of(alloc, case, outside)?;
         ready.push(link).ok()?;
     }

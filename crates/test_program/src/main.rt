@@ -14,7 +14,7 @@
 //! | `times NUMBER` | the next line stands so many times |
 //! | `GET TARGET` | a request |
 //! | `POST TARGET`, `PUT TARGET` | a request, whose body is each `part TEXT` and the `body TEXT` that come next |
-//! | `head TEXT`, `input TEXT` | the text in the input, with the end of a line and without |
+//! | `head TEXT`, `Line TEXT`, `input TEXT` | the text in the input, with the end of a line of HTTP, with a line feed and without |
 //! | `size NUMBER` | a read gives so many bytes at most |
 //! | `fails NUMBER`, `unwritten NUMBER` | the read, or the write, with this number fails, counted from 0 |
 //! | `many NUMBER` | the ears have so many connections, each of which holds the input, and not one |
@@ -28,7 +28,7 @@
 //! | `.` | the case ends |
 //!
 //! The ears have one connection, which holds the input too, or as many as the case says. The answers of the one link are the parts of the input
-//! between two `~`. What was written to the connection that was given back last, or asked over the link, is printed behind the output.
+//! between two `~`; of a line of `load` those behind the first `~`, before which the input stands. What was written to the connection that was given back last, or asked over the link, is printed behind the output.
 //!
 //! Nothing here has a contract.
 #![tactic(auto)]

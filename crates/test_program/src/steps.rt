@@ -63,6 +63,10 @@ fn of_requests(alloc: Global, asked: &mut Asked, word: u8, text: &str) -> Option
         b'p' => asked.body.push_str(text).ok()?,
         b'b' => add_body(alloc, asked, text)?,
         b'i' => asked.input.push_str(text).ok()?,
+        b'L' => {
+            asked.input.push_str(text).ok()?;
+            asked.input.push_str("\n").ok()?;
+        }
         _ => {
             asked.input.push_str(text).ok()?;
             asked.input.push_str("\r\n").ok()?;
@@ -100,7 +104,7 @@ fn of_again(alloc: Global, again: &mut Again, word: u8, text: &str) -> Option<()
 fn of_case(alloc: Global, case: &mut Case, word: u8, text: &str) -> Option<()> {
     match word {
         b'd' | b'r' | b'-' | b'+' => of_documents(alloc, &mut case.documents, word, text),
-        b'p' | b'b' | b'i' | b'h' => of_requests(alloc, &mut case.asked, word, text),
+        b'p' | b'b' | b'i' | b'h' | b'L' => of_requests(alloc, &mut case.asked, word, text),
         b'a' | b'e' => of_again(alloc, &mut case.again, word, text),
         _ => of_outside(&mut case.outside, word, text),
     }

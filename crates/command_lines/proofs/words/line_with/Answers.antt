@@ -1,18 +1,17 @@
-use Rattle.std.proofs.Common.{◌≡◌, ◌∙◌, ◌∷◌, map, true, false, sym}
+use Rattle.std.proofs.Common.{◌∷◌, map}
 use Rattle.kj_value.specs.Texts.{bytes_of}
+use Rattle.command_lines.specs.Given.{remote_in}
 use Rattle.command_lines.proofs.LineWords.{address_is, address_only, within_is, within_only}
 use Rattle.command_lines.proofs.words.line_with.Goals as goal
 
-pub returns-then-is_migrate-clause-is : goal.returns-then-is_migrate-clause-is
-returns-then-is_migrate-clause-is c = address_is c.migrate_of.result c.args.word.now (map bytes_of c.args.rest.now) (c.is_migrate.ensures.0 c.if-is_migrate.true) c.migrate_of.ensures.is
+pub returns-in-Some-clause-is : goal.returns-in-Some-clause-is
+returns-in-Some-clause-is c = address_is c.remote_with.result (remote_in c.in-Some.work) c.args.word.now (map bytes_of c.args.rest.now) c.in-Some.ensures c.remote_with.ensures.is
 
-pub returns-then-is_migrate-clause-only : goal.returns-then-is_migrate-clause-only
-returns-then-is_migrate-clause-only c = address_only c.migrate_of.result c.args.word.now (map bytes_of c.args.rest.now) (c.is_migrate.ensures.0 c.if-is_migrate.true) c.migrate_of.ensures.only
+pub returns-in-Some-clause-only : goal.returns-in-Some-clause-only
+returns-in-Some-clause-only c = address_only c.remote_with.result (remote_in c.in-Some.work) c.args.word.now (map bytes_of c.args.rest.now) c.in-Some.ensures c.remote_with.ensures.only
 
-pub returns-else-is_migrate-clause-is : goal.returns-else-is_migrate-clause-is
-returns-else-is_migrate-clause-is c = within_is c.served_with.result (c.args.word.now ∷ map bytes_of c.args.rest.now) c.served_with.ensures.is
+pub returns-in-None-clause-is : goal.returns-in-None-clause-is
+returns-in-None-clause-is c = within_is c.served_with.result (c.args.word.now ∷ map bytes_of c.args.rest.now) c.served_with.ensures.is
 
-pub returns-else-is_migrate-clause-only : goal.returns-else-is_migrate-clause-only
-returns-else-is_migrate-clause-only c =
-    within_only c.served_with.result c.args.word.now (map bytes_of c.args.rest.now)
-    (λ e. let both : true ≡ false = sym (c.is_migrate.ensures.1 e) ∙ c.if-is_migrate.false in cc) c.served_with.ensures.only
+pub returns-in-None-clause-only : goal.returns-in-None-clause-only
+returns-in-None-clause-only c = within_only c.served_with.result c.args.word.now (map bytes_of c.args.rest.now) c.in-None.ensures c.served_with.ensures.only

@@ -5,7 +5,7 @@ use Rattle.command_lines.specs.Given.{named_of, task_of}
 use Rattle.command_lines.specs.Lines.{from_files}
 use Rattle.kubeconv_cmd.specs.Outcome.{unserved, unloaded_task, unloaded_service}
 use Rattle.kubeconv_cmd.proofs.Serving.{converses_at}
-use Rattle.kubeconv_cmd.proofs.Outcomes.{stopped_so, stopped_line, pipe_outcome, task_outcome, tasks_line, drill_outcome, serve_outcome, migrate_outcome, migrated_line, bad_place}
+use Rattle.kubeconv_cmd.proofs.Outcomes.{stopped_so, stopped_line, pipe_outcome, task_outcome, tasks_line, drill_outcome, serve_outcome, migrate_outcome, migrated_line, bad_migration, dump_outcome, dumps_line, bad_dump, load_outcome, loads_line, bad_load}
 use Rattle.kubeconv_cmd.proofs.top.run_command.Goals as goal
 
 pub returns-in-Ok-clause-outcome : goal.returns-in-Ok-clause-outcome
@@ -166,10 +166,62 @@ pub returns-in-Migrate-clause-unlinked : goal.returns-in-Migrate-clause-unlinked
 returns-in-Migrate-clause-unlinked g c = rw c.in-Migrate.is tt
 
 pub returns-in-Migrate-clause-unused : goal.returns-in-Migrate-clause-unused
-returns-in-Migrate-clause-unused g c = λ bad. c.migrate_line-came.ensures.unused (bad_place c.migrate_line-came.result c.tell_migrated.result c.tell_migrated.ensures.status bad)
+returns-in-Migrate-clause-unused g c = λ bad. c.migrate_line-came.ensures.unused (bad_migration c.migrate_line-came.result c.tell_migrated.result c.tell_migrated.ensures.status bad)
 
 pub returns-in-Migrate-clause-errors : goal.returns-in-Migrate-clause-errors
 returns-in-Migrate-clause-errors g c =
     λ other input answer ne.
     subst (λ (text : List ℕ). g.E.Sink.written c.tell_migrated.new.errors ≡ append_known (g.E.Sink.written c.args.errors.now) text)
     (migrated_line c.migrate_line-came.result c.tell_migrated.result c.tell_migrated.ensures.status answer) (c.tell_migrated.ensures.line ne)
+
+pub returns-in-Dump-clause-outcome : goal.returns-in-Dump-clause-outcome
+returns-in-Dump-clause-outcome g c =
+    rw c.in-Dump.is (
+      dump_outcome _ c.in-Dump.url.now c.dump_line-came.result c.tell_dumped.result c.dump_line-came.ensures.dumped c.dump_line-came.ensures.flushed
+          c.dump_line-came.ensures.cause c.dump_line-came.ensures.placeless c.dump_line-came.ensures.untouched (λ e. (ap g.K.Sink.written e, ap g.K.Sink.flushed e))
+          c.tell_dumped.ensures.status c.tell_dumped.ensures.line,
+      refl,
+      refl,
+      refl,
+    )
+
+pub returns-in-Dump-clause-place : goal.returns-in-Dump-clause-place
+returns-in-Dump-clause-place g c = rw c.in-Dump.is tt
+
+pub returns-in-Dump-clause-unlinked : goal.returns-in-Dump-clause-unlinked
+returns-in-Dump-clause-unlinked g c = rw c.in-Dump.is tt
+
+pub returns-in-Dump-clause-unused : goal.returns-in-Dump-clause-unused
+returns-in-Dump-clause-unused g c = λ bad. c.dump_line-came.ensures.unused (bad_dump c.dump_line-came.result c.tell_dumped.result c.tell_dumped.ensures.status bad)
+
+pub returns-in-Dump-clause-errors : goal.returns-in-Dump-clause-errors
+returns-in-Dump-clause-errors g c =
+    λ other input answer ne.
+    subst (λ (text : List ℕ). g.E.Sink.written c.tell_dumped.new.errors ≡ append_known (g.E.Sink.written c.args.errors.now) text)
+    (dumps_line c.dump_line-came.result c.tell_dumped.result c.tell_dumped.ensures.status answer) (c.tell_dumped.ensures.line ne)
+
+pub returns-in-Load-clause-outcome : goal.returns-in-Load-clause-outcome
+returns-in-Load-clause-outcome g c =
+    rw c.in-Load.is (
+      load_outcome _ c.in-Load.url.now c.load_line-came.result c.tell_loaded.result c.load_line-came.ensures.loaded c.load_line-came.ensures.wrote
+          c.load_line-came.ensures.silent c.load_line-came.ensures.end c.load_line-came.ensures.cause c.load_line-came.ensures.unwritten
+          c.load_line-came.ensures.placeless c.load_line-came.ensures.untouched (λ e. (ap g.K.Sink.written e, ap g.K.Sink.flushed e))
+          c.tell_loaded.ensures.status c.tell_loaded.ensures.line,
+      refl,
+      refl,
+    )
+
+pub returns-in-Load-clause-place : goal.returns-in-Load-clause-place
+returns-in-Load-clause-place g c = rw c.in-Load.is tt
+
+pub returns-in-Load-clause-unlinked : goal.returns-in-Load-clause-unlinked
+returns-in-Load-clause-unlinked g c = rw c.in-Load.is tt
+
+pub returns-in-Load-clause-unused : goal.returns-in-Load-clause-unused
+returns-in-Load-clause-unused g c = λ bad. c.load_line-came.ensures.unused (bad_load c.load_line-came.result c.tell_loaded.result c.tell_loaded.ensures.status bad)
+
+pub returns-in-Load-clause-errors : goal.returns-in-Load-clause-errors
+returns-in-Load-clause-errors g c =
+    λ other input answer ne.
+    subst (λ (text : List ℕ). g.E.Sink.written c.tell_loaded.new.errors ≡ append_known (g.E.Sink.written c.args.errors.now) text)
+    (loads_line c.load_line-came.result c.tell_loaded.result c.tell_loaded.ensures.status input answer) (c.tell_loaded.ensures.line ne)
