@@ -1,0 +1,2 @@
+pub mod Hook
+pub mod Turning

@@ -1,0 +1,192 @@
+use Rattle.std.proofs.Common.{◌≡◌, ◌<◌, ◌≤◌, ℕ, None, Some, IsTrue, ap, sym, subst, length, arith}
+use Rattle.std.specs.Prelude.{IfErr}
+use Rattle.kj_value.specs.Json.{depth}
+use Rattle.kube_meta.specs.Document.{document}
+use Rattle.kube_meta.specs.View.{object_of}
+use Rattle.api_calls.specs.Meaning.{Weighs}
+use Rattle.api_calls.specs.Versions.{Refused, request_of}
+use Rattle.api_calls.specs.declared.versions.TheConstants.{OBJECT_LEVELS}
+use Rattle.crd_reading.specs.View.{DefinitionView}
+use Rattle.crd_meaning.specs.Admission.{Passes}
+use Rattle.crd_meaning.specs.Definition.{count_of}
+use Rattle.crd_meaning.specs.Meant.{no_settings}
+use Rattle.crd_loading.specs.Passed.{IsPassed}
+use Rattle.crd_admission.specs.Steps.{with_rules, RefusesBody}
+use Rattle.hook_laws.specs.Hook.{Admits, hook_meaning}
+use Rattle.hook_laws.specs.Turning.{AdmitsBy, OfTurns}
+use Rattle.hook_versions.specs.Facts.{hooked}
+use Rattle.hook_versions.specs.inner.Weighing.{AreBack}
+use Rattle.hook_versions.proofs.Admitting.{let_in, let_in_by, weighs_in, levels_in, refuses_hub, blames_hub, refuses_body, blames_body, refuses_put, blames_put}
+use Rattle.hook_versions.proofs.Free.{passes_free}
+use Rattle.hook_versions.proofs.Objects.{passed_standing}
+use Rattle.hook_versions.proofs.Results.{one_ok, one_err}
+use Rattle.hook_versions.proofs.admission.admitted.Goals as goal
+
+pub pass_body-requires-clause-known : goal.pass_body-requires-clause-known
+pass_body-requires-clause-known g c = subst (λ (v : DefinitionView). c.args.input.now.version < length v.versions) (sym c.definition.ensures) c.requires.known
+
+pub at_hub-requires-clause-standing : goal.at_hub-requires-clause-standing
+at_hub-requires-clause-standing g c =
+    let k = hooked c.args.set.now g.C.Converter.HONEST g.C.Converter.turned in
+    let d = c.args.set.now in
+    let r = request_of c.args.input.now in
+    let x = object_of c.in-Ok.passed.object in
+    let e = c.in-Ok.passed.expected in
+    let passes : Passes d r x e = subst (λ (v : DefinitionView). Passes (with_rules v d.hub d.spokes) r x e) c.definition.ensures (c.in-Ok.ensures.passes d.hub d.spokes) in
+    let passed : IsPassed d r.version x = subst (λ (v : DefinitionView). IsPassed (with_rules v d.hub d.spokes) r.version x) c.definition.ensures (c.in-Ok.ensures.passed d.hub d.spokes) in
+    passed_standing d r.version x passed (passes_free d r x e c.versions.ensures.whole c.requires.known passes)
+
+pub returns-in-Err-clause-refused : goal.returns-in-Err-clause-refused
+returns-in-Err-clause-refused g c =
+    let d = c.args.set.now in
+    let r = request_of c.args.input.now in
+    refuses_body (hooked d g.C.Converter.HONEST g.C.Converter.turned) r _ c.in-Err.fault (subst (λ (v : DefinitionView). Refused (RefusesBody (with_rules v d.hub d.spokes) r) ⊥ c.in-Err.fault) c.definition.ensures (c.in-Err.ensures.refused d.hub d.spokes))
+
+pub returns-in-Err-clause-blames : goal.returns-in-Err-clause-blames
+returns-in-Err-clause-blames g c =
+    let d = c.args.set.now in
+    let r = request_of c.args.input.now in
+    blames_body d (g.C.Converter.turns c.args.tool.now) r c.in-Err.fault (subst (λ (v : DefinitionView). Refused (RefusesBody (with_rules v d.hub d.spokes) r) ⊥ c.in-Err.fault) c.definition.ensures (c.in-Err.ensures.refused d.hub d.spokes))
+
+pub returns-in-Err-at_hub-clause-refused : goal.returns-in-Err-at_hub-clause-refused
+returns-in-Err-at_hub-clause-refused g c =
+    let k = hooked c.args.set.now g.C.Converter.HONEST g.C.Converter.turned in
+    let d = c.args.set.now in
+    let r = request_of c.args.input.now in
+    let x = object_of c.in-Ok.passed.object in
+    let e = c.in-Ok.passed.expected in
+    let passes : Passes d r x e = subst (λ (v : DefinitionView). Passes (with_rules v d.hub d.spokes) r x e) c.definition.ensures (c.in-Ok.ensures.passes d.hub d.spokes) in
+    let a = g.C.Converter.turns c.args.tool.now in
+    let b = g.C.Converter.turns c.at_hub.new.tool in
+    refuses_put k r x e passes a b _ c.in-Err-at_hub.fault c.in-Err-at_hub.ensures.refused
+
+pub returns-in-Err-at_hub-clause-blames : goal.returns-in-Err-at_hub-clause-blames
+returns-in-Err-at_hub-clause-blames g c =
+    let k = hooked c.args.set.now g.C.Converter.HONEST g.C.Converter.turned in
+    let d = c.args.set.now in
+    let r = request_of c.args.input.now in
+    let x = object_of c.in-Ok.passed.object in
+    let e = c.in-Ok.passed.expected in
+    let passes : Passes d r x e = subst (λ (v : DefinitionView). Passes (with_rules v d.hub d.spokes) r x e) c.definition.ensures (c.in-Ok.ensures.passes d.hub d.spokes) in
+    let a = g.C.Converter.turns c.args.tool.now in
+    let b = g.C.Converter.turns c.at_hub.new.tool in
+    blames_put k r x e passes a b (g.C.Tool.faults c.args.tool.now < g.C.Tool.faults c.at_hub.new.tool) c.in-Err-at_hub.fault c.in-Err-at_hub.ensures.refused
+
+pub returns-in-Ok-at_hub-clause-ok : goal.returns-in-Ok-at_hub-clause-ok
+returns-in-Ok-at_hub-clause-ok g c =
+    let k = hooked c.args.set.now g.C.Converter.HONEST g.C.Converter.turned in
+    let d = c.args.set.now in
+    let r = request_of c.args.input.now in
+    let x = object_of c.in-Ok.passed.object in
+    let e = c.in-Ok.passed.expected in
+    let passes : Passes d r x e = subst (λ (v : DefinitionView). Passes (with_rules v d.hub d.spokes) r x e) c.definition.ensures (c.in-Ok.ensures.passes d.hub d.spokes) in
+    let a = g.C.Converter.turns c.args.tool.now in
+    let b = g.C.Converter.turns c.at_hub.new.tool in
+    let z = g.C.Converter.turns c.let_in.new.tool in
+    let h = object_of c.in-Ok-at_hub.hub in
+    one_ok (λ m. (object_of m.hub ≡ h) × (m.expected ≡ e) × (m.shape ≡ None) × AreBack k b z h (count_of d) (Some m.weight)) (λ m. Admits k r (object_of m.hub) m.expected) c.let_in.result
+    (λ m t. let_in k r x h e passes a b z c.in-Ok-at_hub.ensures.put (object_of m.hub) m.expected t.0 t.1 m.weight t.3) c.let_in.ensures.back
+
+pub returns-in-Ok-at_hub-clause-rests : goal.returns-in-Ok-at_hub-clause-rests
+returns-in-Ok-at_hub-clause-rests g c =
+    let k = hooked c.args.set.now g.C.Converter.HONEST g.C.Converter.turned in
+    let d = c.args.set.now in
+    let r = request_of c.args.input.now in
+    let x = object_of c.in-Ok.passed.object in
+    let e = c.in-Ok.passed.expected in
+    let passes : Passes d r x e = subst (λ (v : DefinitionView). Passes (with_rules v d.hub d.spokes) r x e) c.definition.ensures (c.in-Ok.ensures.passes d.hub d.spokes) in
+    let a = g.C.Converter.turns c.args.tool.now in
+    let b = g.C.Converter.turns c.at_hub.new.tool in
+    let z = g.C.Converter.turns c.let_in.new.tool in
+    let h = object_of c.in-Ok-at_hub.hub in
+    one_ok (λ m. (object_of m.hub ≡ h) × (m.expected ≡ e) × (m.shape ≡ None) × AreBack k b z h (count_of d) (Some m.weight)) (λ m. OfTurns a z (λ ts. AdmitsBy d ts r (object_of m.hub) m.expected)) c.let_in.result
+    (λ m t. let_in_by k r x h e passes a b z c.in-Ok-at_hub.ensures.put (object_of m.hub) m.expected t.0 t.1 m.weight t.3) c.let_in.ensures.back
+
+pub returns-in-Ok-at_hub-clause-weighs : goal.returns-in-Ok-at_hub-clause-weighs
+returns-in-Ok-at_hub-clause-weighs g c =
+    let k = hooked c.args.set.now g.C.Converter.HONEST g.C.Converter.turned in
+    let d = c.args.set.now in
+    let r = request_of c.args.input.now in
+    let x = object_of c.in-Ok.passed.object in
+    let e = c.in-Ok.passed.expected in
+    let passes : Passes d r x e = subst (λ (v : DefinitionView). Passes (with_rules v d.hub d.spokes) r x e) c.definition.ensures (c.in-Ok.ensures.passes d.hub d.spokes) in
+    let a = g.C.Converter.turns c.args.tool.now in
+    let b = g.C.Converter.turns c.at_hub.new.tool in
+    let z = g.C.Converter.turns c.let_in.new.tool in
+    let h = object_of c.in-Ok-at_hub.hub in
+    let least = c.versions.ensures.whole.least in
+    one_ok (λ m. (object_of m.hub ≡ h) × (m.expected ≡ e) × (m.shape ≡ None) × AreBack k b z h (count_of d) (Some m.weight)) (λ m. IsTrue k.honest → Weighs (hook_meaning k no_settings) (object_of m.hub) m.weight) c.let_in.result
+    (λ m t. weighs_in k r x h e passes a b z c.in-Ok-at_hub.ensures.put (object_of m.hub) m.expected t.0 t.1 m.weight t.3 (omega (arith, least))) c.let_in.ensures.back
+
+pub returns-in-Ok-at_hub-clause-weight : goal.returns-in-Ok-at_hub-clause-weight
+returns-in-Ok-at_hub-clause-weight g c =
+    let k = hooked c.args.set.now g.C.Converter.HONEST g.C.Converter.turned in
+    let d = c.args.set.now in
+    let r = request_of c.args.input.now in
+    let x = object_of c.in-Ok.passed.object in
+    let e = c.in-Ok.passed.expected in
+    let passes : Passes d r x e = subst (λ (v : DefinitionView). Passes (with_rules v d.hub d.spokes) r x e) c.definition.ensures (c.in-Ok.ensures.passes d.hub d.spokes) in
+    let a = g.C.Converter.turns c.args.tool.now in
+    let b = g.C.Converter.turns c.at_hub.new.tool in
+    let z = g.C.Converter.turns c.let_in.new.tool in
+    let h = object_of c.in-Ok-at_hub.hub in
+    let least = c.versions.ensures.whole.least in
+    one_ok (λ m. (object_of m.hub ≡ h) × (m.expected ≡ e) × (m.shape ≡ None) × AreBack k b z h (count_of d) (Some m.weight)) (λ m. 0 < m.weight) c.let_in.result (λ m t. t.3.some (omega (arith, least))) c.let_in.ensures.back
+
+pub returns-in-Ok-at_hub-clause-shape : goal.returns-in-Ok-at_hub-clause-shape
+returns-in-Ok-at_hub-clause-shape g c =
+    let k = hooked c.args.set.now g.C.Converter.HONEST g.C.Converter.turned in
+    let d = c.args.set.now in
+    let r = request_of c.args.input.now in
+    let x = object_of c.in-Ok.passed.object in
+    let e = c.in-Ok.passed.expected in
+    let passes : Passes d r x e = subst (λ (v : DefinitionView). Passes (with_rules v d.hub d.spokes) r x e) c.definition.ensures (c.in-Ok.ensures.passes d.hub d.spokes) in
+    let a = g.C.Converter.turns c.args.tool.now in
+    let b = g.C.Converter.turns c.at_hub.new.tool in
+    let z = g.C.Converter.turns c.let_in.new.tool in
+    let h = object_of c.in-Ok-at_hub.hub in
+    one_ok (λ m. (object_of m.hub ≡ h) × (m.expected ≡ e) × (m.shape ≡ None) × AreBack k b z h (count_of d) (Some m.weight)) (λ m. m.shape ≡ None) c.let_in.result (λ m t. t.2) c.let_in.ensures.back
+
+pub returns-in-Ok-at_hub-clause-levels : goal.returns-in-Ok-at_hub-clause-levels
+returns-in-Ok-at_hub-clause-levels g c =
+    let k = hooked c.args.set.now g.C.Converter.HONEST g.C.Converter.turned in
+    let d = c.args.set.now in
+    let r = request_of c.args.input.now in
+    let x = object_of c.in-Ok.passed.object in
+    let e = c.in-Ok.passed.expected in
+    let passes : Passes d r x e = subst (λ (v : DefinitionView). Passes (with_rules v d.hub d.spokes) r x e) c.definition.ensures (c.in-Ok.ensures.passes d.hub d.spokes) in
+    let a = g.C.Converter.turns c.args.tool.now in
+    let b = g.C.Converter.turns c.at_hub.new.tool in
+    let z = g.C.Converter.turns c.let_in.new.tool in
+    let h = object_of c.in-Ok-at_hub.hub in
+    one_ok (λ m. (object_of m.hub ≡ h) × (m.expected ≡ e) × (m.shape ≡ None) × AreBack k b z h (count_of d) (Some m.weight)) (λ m. depth (document (object_of m.hub)) ≤ OBJECT_LEVELS) c.let_in.result
+    (λ m t. levels_in k r x h e passes a b z c.in-Ok-at_hub.ensures.put (object_of m.hub) m.expected t.0 t.1 m.weight t.3) c.let_in.ensures.back
+
+pub returns-in-Ok-at_hub-clause-refused : goal.returns-in-Ok-at_hub-clause-refused
+returns-in-Ok-at_hub-clause-refused g c =
+    let k = hooked c.args.set.now g.C.Converter.HONEST g.C.Converter.turned in
+    let d = c.args.set.now in
+    let r = request_of c.args.input.now in
+    let x = object_of c.in-Ok.passed.object in
+    let e = c.in-Ok.passed.expected in
+    let passes : Passes d r x e = subst (λ (v : DefinitionView). Passes (with_rules v d.hub d.spokes) r x e) c.definition.ensures (c.in-Ok.ensures.passes d.hub d.spokes) in
+    let a = g.C.Converter.turns c.args.tool.now in
+    let b = g.C.Converter.turns c.at_hub.new.tool in
+    let z = g.C.Converter.turns c.let_in.new.tool in
+    let h = object_of c.in-Ok-at_hub.hub in
+    let first = c.at_hub.ensures.rises in
+    one_err _ _ c.let_in.result (λ f m. refuses_hub k r x h e passes a b z c.in-Ok-at_hub.ensures.put (g.C.Tool.faults c.at_hub.new.tool < g.C.Tool.faults c.let_in.new.tool) (g.C.Tool.faults c.args.tool.now < g.C.Tool.faults c.let_in.new.tool) f (λ p. omega (arith, first, p)) m) c.let_in.ensures.refused
+
+pub returns-in-Ok-at_hub-clause-blames : goal.returns-in-Ok-at_hub-clause-blames
+returns-in-Ok-at_hub-clause-blames g c =
+    let k = hooked c.args.set.now g.C.Converter.HONEST g.C.Converter.turned in
+    let d = c.args.set.now in
+    let r = request_of c.args.input.now in
+    let x = object_of c.in-Ok.passed.object in
+    let e = c.in-Ok.passed.expected in
+    let passes : Passes d r x e = subst (λ (v : DefinitionView). Passes (with_rules v d.hub d.spokes) r x e) c.definition.ensures (c.in-Ok.ensures.passes d.hub d.spokes) in
+    let a = g.C.Converter.turns c.args.tool.now in
+    let b = g.C.Converter.turns c.at_hub.new.tool in
+    let z = g.C.Converter.turns c.let_in.new.tool in
+    let h = object_of c.in-Ok-at_hub.hub in
+    one_err _ _ c.let_in.result (λ f m. blames_hub k r x h e passes a b z c.in-Ok-at_hub.ensures.put (g.C.Tool.faults c.at_hub.new.tool < g.C.Tool.faults c.let_in.new.tool) f m) c.let_in.ensures.refused
