@@ -2,12 +2,7 @@
 ghost use Rattle.kj_value.specs.Reading.{Reads};
 ghost use Rattle.crontab_example.specs.Documents.{definition_document, rules_document};
 
-/// The definition, a CustomResourceDefinition of apiextensions.k8s.io/v1, as JSON text that ends with a line feed. The same
-/// text stands in `examples/crontabs.json`.
-pub fn definition() -> &'static str
-    ensures { Reads result.now 100 definition_document }
-{
-    r#"{
+const DEFINITION: &str = r#"{
   "apiVersion": "apiextensions.k8s.io/v1",
   "kind": "CustomResourceDefinition",
   "metadata": {"name": "crontabs.example.com"},
@@ -66,7 +61,14 @@ pub fn definition() -> &'static str
     ]
   }
 }
-"#
+"#;
+
+/// The definition, a CustomResourceDefinition of apiextensions.k8s.io/v1, as JSON text that ends with a line feed. The same
+/// text stands in `examples/crontabs.json`.
+pub fn definition() -> &'static str
+    ensures { Reads result.now 100 definition_document }
+{
+    DEFINITION
 }
 
 /// The rules of conversion between its versions, as JSON text that ends with a line feed. The same text stands in
