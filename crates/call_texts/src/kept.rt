@@ -10,7 +10,7 @@ ghost use Rattle.form_cache.specs.Limits.{longest_text};
 use crate::context::Context;
 use api_calls::Versions;
 use api_core::Seen;
-use form_cache::{FormCache, TEXT_BYTES};
+use form_cache::{FormCache, PASS_FORMS, TEXT_BYTES};
 use kj_value::{NoMemory, Txt};
 use kube_meta::Key;
 use std::alloc::Global;
@@ -110,15 +110,18 @@ impl<V: Versions> Context<'_, V> {
         add_found(cache, &seen.key, seen.rv, v, text)
     }
 
-    /// Keeps a text that shows at a version what was seen. Where it is too long, or there is no memory, nothing is kept.
-    pub(crate) fn keep_text(&self, cache: &mut FormCache, v: u8, seen: &Seen, text: Txt)
+    /// Keeps a text that shows at a version what was seen, which stands at a place of a page. Where it is too long, there is no memory, or the
+    /// cache has no room for as many, nothing is kept: so those of a long page don't push each other out.
+    pub(crate) fn keep_text(&self, cache: &mut FormCache, v: u8, seen: &Seen, text: Txt, i: usize)
         ensures cached { (log : List Item) (w : WasSeen (V.meaning self.now.versions.now) log seen.now)
             → IsShown (V.meaning self.now.versions.now) self.now.boot v w.object.h w.object.number w.object.born text.bytes
             → AreCached (V.meaning self.now.versions.now) self.now.boot log cache.old.forms
             → AreCached (V.meaning self.now.versions.now) self.now.boot log cache.new.forms }
         ensures most { cache.new.most ≡ cache.old.most }
     {
-        keep(cache, &seen.key, seen.rv, v, text);
+        if (i as u64) < PASS_FORMS {
+            keep(cache, &seen.key, seen.rv, v, text);
+        }
     }
 
     /// Keeps a copy of a text that shows at a version what was seen. Where it is too long, or there is no memory, nothing is
@@ -136,6 +139,6 @@ impl<V: Versions> Context<'_, V> {
         let Ok(copy) = Txt::of(self.alloc, text.as_str()) else {
             return;
         };
-        self.keep_text(cache, v, seen, copy);
+        self.keep_text(cache, v, seen, copy, 0);
     }
 }

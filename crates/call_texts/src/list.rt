@@ -103,7 +103,7 @@ impl<V: Versions> Context<'_, V> {
         }
         let shown = self.render(tool, v, seen)?;
         add(text, shown.as_str())?;
-        self.keep_text(cache, v, seen, shown);
+        self.keep_text(cache, v, seen, shown, i);
         Ok(())
     }
 
