@@ -3,17 +3,23 @@ use Rattle.std.specs.Prelude.{◌≡◌, ◌<◌, ◌++◌, ◌⊎◌, ℕ, List
 use Rattle.edge_io.specs.Connections.{AddsOne}
 use Rattle.tcp_links.specs.Links.{Ending}
 use Rattle.place.specs.Place.{Names}
-use Rattle.far_migrate.specs.Counts.{Counts, link, memory}
+use Rattle.far_migrate.specs.Counts.{AddsUp, Counts, link, memory}
 use Rattle.far_migrate.specs.Migrates.{Migrates}
-use Rattle.far_migrate.specs.Puts.{Handled, failed}
+use Rattle.far_migrate.specs.Puts.{Handled, all, failed}
 
--- The links made one link and took it back. Where they tell what it did, its exchanges are those of a migration of these objects that
--- came to this, and it failed where they came to that.
+-- a tally adds up: each object that was listed is of one kind
+abbrev pub IsTallied : Handled → Type 0
+IsTallied (all t) = AddsUp t
+IsTallied (failed f) = Unit {0}
+
+-- The links made one link and took it back, and a tally adds up. Where they tell what the link did, its exchanges are those of a migration of
+-- these objects that came to this, and it failed where they came to that.
 pub record Migrated (n : Names) (before now : Option (List Ending)) (h : Handled) : Type 0 where
   pub ending : Ending
   pub back : AddsOne before now ending
   pub made : IfSome ending.exchanges (λ es. Migrates n es h)
   pub broke : h ≡ failed link → 0 < ending.faults
+  pub sum : IsTallied h
 
 -- the same, or memory was wanted for a link, and none was made
 abbrev pub Comes : Names → Option (List Ending) → Option (List Ending) → Handled → Type 0
