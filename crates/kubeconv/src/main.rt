@@ -4,7 +4,8 @@
 use edge_io::{DiskFiles, RealClock, StdSink, StdSource};
 use kj_value::Txt;
 use kubeconv_cmd::{BAD_WORDS, NO_MEMORY, Words, ended, run};
-use std::io::{BufReader, BufWriter};
+use progress_links::ProgressLinks;
+use std::io::{BufReader, BufWriter, IsTerminal};
 use std::process::ExitCode;
 use std::time::Clock;
 use std::{env, io};
@@ -40,6 +41,14 @@ fn boot_number(rt: &HostRuntime) -> u64 {
     }
 }
 
+// Whether the line works on a server from outside, exchange by exchange.
+fn is_remote(words: &Words) -> bool {
+    match words.get(0) {
+        Some(word) => matches!(word.as_str(), "migrate" | "dump" | "load"),
+        None => false,
+    }
+}
+
 fn main(rt: HostRuntime) -> ExitCode {
     let alloc = rt.alloc();
     let mut errors = StdSink::new(rt.stderr());
@@ -58,7 +67,13 @@ fn main(rt: HostRuntime) -> ExitCode {
     let mut input = StdSource::new(reader);
     let mut output = StdSink::new(writer);
     let mut ears = TcpEars::new(&rt, alloc);
-    let mut links = TcpLinks::new(&rt);
+    // Who looks on at a terminal sees the number of exchanges; nothing of it comes into a file.
+    let shown = if is_remote(&words) && rt.stderr().is_terminal() {
+        Some(StdSink::new(rt.stderr()))
+    } else {
+        None
+    };
+    let mut links = ProgressLinks::new(&rt, TcpLinks::new(&rt), shown);
     let clock = RealClock::new(&rt);
     ExitCode::from(run(
         &rt,
