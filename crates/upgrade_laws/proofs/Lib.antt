@@ -1,0 +1,9 @@
+pub mod Replacing
+pub mod Listing
+pub mod Values
+pub mod PageForms
+pub mod Keyed
+pub mod Decided
+pub mod Upgrades
+pub mod Settling
+pub mod Serving
