@@ -7,6 +7,7 @@ use crate::links::asked;
 use crate::texts::cut;
 use crate::tool::Chosen;
 use api_calls::Versions;
+use kj_value::Txt;
 use migrate_core::Worker;
 use shared_api::{Pass, SharedApi, TurnStep, WorkFault};
 use std::alloc::Global;
@@ -53,6 +54,17 @@ fn returned<V: Versions + Drop, R: Wait>(
     format!(in alloc; "given back, {claim:?}").ok()
 }
 
+// The text that shows the definition with the flags of one body and the stored versions of another, whatever stands.
+fn shown<V: Versions>(alloc: Global, versions: &V, order: &str) -> Option<String> {
+    let (_word, bodies) = cut(order);
+    let (flags, stored) = cut(bodies);
+    let flags = versions.read_flags(alloc, flags.as_bytes()).ok()?;
+    let stored = versions.read_keep(alloc, stored.as_bytes()).ok()?;
+    let mut told = Txt::with_room(alloc, versions.show_room()).ok()?;
+    versions.show(&flags, &stored, &mut told);
+    String::from_str(alloc, told.as_str()).ok()
+}
+
 /// What an order answers, behind its pass; there is no answer where it is no order, or memory is wanted.
 pub(crate) fn called<V: Versions + Drop, R: Wait>(
     rt: &R,
@@ -70,6 +82,7 @@ pub(crate) fn called<V: Versions + Drop, R: Wait>(
         b'h' => hired(rt, alloc, api, pass, order),
         b'w' => turned(rt, alloc, api, pass, w),
         b'b' => returned(rt, alloc, api, pass, w),
+        b's' => shown(alloc, api.versions(), order),
         _ => asked(rt, alloc, api, pass, order, input),
     }
 }

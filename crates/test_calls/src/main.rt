@@ -1,5 +1,5 @@
 //! Calls of the server that callers share, over connections: one after another by two passes, and beside each other by two threads. Beside
-//! them stand scripts of what needs no server, which `test_core` and `test_values` tell.
+//! them stand scripts of what needs no server of ours, which `test_core`, `test_far` and `test_values` tell.
 //!
 //! Standard input is scripts, each with an empty line behind it. The first line of a script begins with `#`, tells over which
 //! definition it runs, and is printed as it is; each other line is a call, which is printed with its answer. What is wanted
@@ -11,6 +11,7 @@
 //! | `# built-in: ..` | the one that is built in: `host` at `v1` is `address` at `v1beta1` |
 //! | `# shared: ..` | the one that tests share, with each kind of rule |
 //! | `# core ..: ..` | the small one, over which `test_core` takes turns: the head of its `src/lib.rt` has the lines |
+//! | `# far ..: ..` | none: the head of `src/lib.rt` of `test_far` has the parts and their lines |
 //! | `# values: ..`, `# outside: ..` .. | none: the head of `src/lib.rt` of `test_values` has the parts and their lines |
 //!
 //! There is room for 64 objects. With the word `small` in the first line there is room for two objects in three chunks, for two
@@ -24,6 +25,7 @@
 //! | `work`, `back` | a turn of the pass's worker; its claim is given back. The claim is printed behind the answer |
 //! | `hire TURNS TIMES` | a worker of its own, of so many turns, over a gate that says yes so many times: its end, and what the gate was asked |
 //! | `new NUMBER` | the pass is made anew from the other; its tool fails at the conversion of this number, 0 for none |
+//! | `show SET KEPT` | no call: the text that shows the definition with the flags that the one body sets and the stored versions that the other keeps |
 //! | `unite` | the other pass is met into this one, and is made anew from it |
 //!
 //! A line `> INPUT` is the input of each `link` of its script, with `|` for the end of a line. A line `& CALL ORDER | ORDER` gives two

@@ -230,6 +230,9 @@ pub(crate) fn told<R: Threads + Wait + Sync + Files>(
     case: &Case,
 ) -> Option<String> {
     let head = case.head.as_str();
+    if head.starts_with("# far ") {
+        return test_far::tell(alloc, head, case.lines.as_str());
+    }
     match *head.as_bytes().get(2)? {
         b'f' => over(rt, alloc, TwoNames::new(alloc).ok()?, case),
         b'b' => loaded(rt, alloc, built_in::definition(), built_in::rules(), case),
