@@ -75,7 +75,7 @@ spokes_send = search (spoke_send, fills_send, txt.the_send, sendable, crosses, m
 version_send : IsSend Version.the_row
 version_send = declared_send Version.the_type (txt.the_send, (search sendable, (search sendable, (schema_send, tt))))
 
-definition_send : IsSend Definition.the_row
+pub definition_send : IsSend Definition.the_row
 definition_send = search (version_send, values.crosses, txt.the_send, sendable, crosses, maps.crosses) depth 60 fits 200000
 
 loaded_send : IsSend LoadedVersions.the_row
@@ -122,7 +122,7 @@ spokes_sync = search (spoke_sync, fills_sync, txt.the_sync, sendable, crosses, m
 version_sync : IsSync Version.the_row
 version_sync = declared_sync Version.the_type (txt.the_sync, (search sendable, (search sendable, (schema_sync, tt))))
 
-definition_sync : IsSync Definition.the_row
+pub definition_sync : IsSync Definition.the_row
 definition_sync = search (version_sync, values.crosses, txt.the_sync, sendable, crosses, maps.crosses) depth 60 fits 200000
 
 loaded_sync : IsSync LoadedVersions.the_row

@@ -9,10 +9,10 @@ ghost use Rattle.serve_spans.specs.inner.Keeping.{Going, Job};
 ghost use Rattle.serve_many.specs.Answered.{IsAnswered, front_of};
 ghost use Rattle.serve_many.specs.Jobs.{Retires, Worked};
 
-use crate::gates::{OpenGate, PAUSE_MILLIS, RestingGate};
+use crate::gates::{OpenGate, PAUSE_MILLIS, PatientGate, RestingGate};
 use crate::passes::make_pass;
 use api_calls::{Tools, Versions};
-use migrate_workers::{Gate, WorkEnd, work};
+use migrate_workers::{WorkEnd, work};
 use shared_api::{Pass, SharedApi};
 use std::alloc::Global;
 use std::sync::Wait;
@@ -23,8 +23,8 @@ use thread_jobs::{Flag, Runner, Running, begin, two_flags};
 /// So many turns a worker without a thread has after each connection.
 pub const TURNS_BETWEEN: u64 = 64;
 
-// Works for as long as the gate says yes, and begins again after any other end.
-fn keep_working<V: Versions + Drop, G: Gate, R: Wait>(
+// Works for as long as the gate says yes, and begins again after any other end, where the converter failed after a rest.
+fn keep_working<V: Versions + Drop, G: PatientGate, R: Wait>(
     rt: &R,
     api: &SharedApi<V>,
     pass: &mut Pass<V>,
@@ -39,6 +39,7 @@ fn keep_working<V: Versions + Drop, G: Gate, R: Wait>(
         if end == WorkEnd::Stopped {
             return;
         }
+        gate.rest_after(end);
     }
     unreachable!()
 }
@@ -64,7 +65,8 @@ pub struct Shift<G, P> {
     pub gate: G,
 }
 
-impl<V: Versions + Drop, G: Gate + Drop> Runner<Shift<G, Pass<V>>, Pass<V>> for SharedApi<V> {
+impl<V: Versions + Drop, G: PatientGate + Drop> Runner<Shift<G, Pass<V>>, Pass<V>>
+    for SharedApi<V> {
     ghost use Rattle.shared_api.specs.Passes.{IsOf};
     ghost use Rattle.serve_many.specs.Jobs.{Retires};
 
@@ -84,12 +86,12 @@ impl<V: Versions + Drop, G: Gate + Drop> Runner<Shift<G, Pass<V>>, Pass<V>> for 
 
 /// A worker that runs, and its gate.
 #[derive(Drop)]
-pub struct Hired<V: Versions + Drop, G: Gate + Drop> {
+pub struct Hired<V: Versions + Drop, G: PatientGate + Drop> {
     pub running: Running<SharedApi<V>, Shift<G, Pass<V>>, Pass<V>>,
     shut: Flag,
 }
 
-impl<V: Versions + Drop, G: Gate + Drop> Hired<V, G> {
+impl<V: Versions + Drop, G: PatientGate + Drop> Hired<V, G> {
     // The gate says no from now on.
     fn close(&self) {
         self.shut.raise();
@@ -216,7 +218,7 @@ where
 }
 
 // Joins a worker whose gate says no, and meets its pass into `pass`.
-fn dismiss_one<V: Versions + Drop, G: Gate + Drop, R: Threads>(
+fn dismiss_one<V: Versions + Drop, G: PatientGate + Drop, R: Threads>(
     rt: &R,
     api: &SharedApi<V>,
     pass: &mut Pass<V>,
@@ -232,7 +234,7 @@ fn dismiss_one<V: Versions + Drop, G: Gate + Drop, R: Threads>(
 }
 
 // Shuts all gates, joins all workers, and meets their passes into `pass`.
-pub(crate) fn dismiss<V: Versions + Drop, G: Gate + Drop, R: Threads>(
+pub(crate) fn dismiss<V: Versions + Drop, G: PatientGate + Drop, R: Threads>(
     rt: &R,
     api: &SharedApi<V>,
     pass: &mut Pass<V>,
@@ -254,4 +256,4 @@ pub(crate) fn dismiss<V: Versions + Drop, G: Gate + Drop, R: Threads>(
 }
 
 // Drops the room of workers, of whom none was hired.
-pub(crate) fn disband<V: Versions + Drop, G: Gate + Drop>(_crew: Vec<Hired<V, G>>) {}
+pub(crate) fn disband<V: Versions + Drop, G: PatientGate + Drop>(_crew: Vec<Hired<V, G>>) {}
