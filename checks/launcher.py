@@ -27,7 +27,7 @@ GOOD = (
     ["serve", "--crd", "c", "--rules", "r", "--listen", "x", "--workers=15", "--connections", "1000000"],
     ["serve", "--connections=1", "--listen=x", "--crd", "c", "--rules=r"],
 )
-WORDS = "--crd --rules --to --turns --listen --workers --connections pipe serve drill -- - --x --help --crd= --to=v --turns=1 --turnsx --turns==1 =".split()
+WORDS = "--crd --rules --hub --converter --to --turns --listen --workers --connections pipe serve drill -- - --x --help --crd= --to=v --turns=1 --turnsx --turns==1 =".split()
 VALUES = ["", " ", "0", "1", "01", "15", "16", "1000", "1001", "100000", "100001", "1000000", "1000001", "-1", "+1", "1 ", "9223372036854775808", "99999999999999999999", "*", "a b", ",x", "c=d", "ü"]
 REFUSED = (2, b"kubeconv: bad command line")
 

@@ -11,25 +11,28 @@ use Rattle.command_lines.specs.declared.words.Given.{Given}
 use Rattle.command_lines.specs.declared.words.Command.{Command}
 use Rattle.command_lines.specs.declared.numbers.TheConstants.{MOST_STEPS}
 use Rattle.command_lines.specs.Given.{Within, line_of, values_in, TakesFirst, GivesOne, IsCommand}
-use Rattle.command_lines.specs.Lines.{built_in, from_files, example, no_definition, convert, review, Line, Service, pipe, task, drill, serve, Remote, migrate, dump, load, remote, Flag, crd_flag, rules_flag, to_flag, turns_flag, listen_flag, workers_flag, connections_flag, flag_text, IsValue, IsUnserved, BeginsWithOption, apart, joined, Values, no_values, value_at, with_value, Gives, no_more, one_more, remote_word, command_word, SpellsTurns, SpellsWorkers, SpellsConnections, HasValues, HasOptions, HasNumbers, HasAddress, IsLine}
+use Rattle.command_lines.specs.Lines.{built_in, from_files, example, no_definition, Conversion, convert, review, Line, Service, Listening, pipe, task, drill, serve, Remote, migrate, dump, load, remote, pipe_by, serve_by, Flag, crd_flag, rules_flag, hub_flag, converter_flag, to_flag, turns_flag, listen_flag, workers_flag, connections_flag, flag_text, IsValue, IsUnserved, BeginsWithOption, apart, joined, Values, no_values, value_at, with_value, Gives, no_more, one_more, remote_word, command_word, SpellsTurns, SpellsWorkers, SpellsConnections, HasConversion, HasValues, HasOptions, HasNumbers, HasAddress, IsLine}
 
 -- ---- one option
 
--- the third and the fourth byte of an option's name tell which it is
-named_by : ℕ → ℕ → Flag
-named_by third fourth =
-    if third == 99 then (if fourth == 114 then crd_flag else connections_flag) else (
+-- the third, the fourth and the sixth byte of an option's name tell which it is
+named_by : ℕ → ℕ → ℕ → Flag
+named_by third fourth sixth =
+    if third == 99 then (if fourth == 114 then crd_flag else (if sixth == 118 then converter_flag else connections_flag)) else (
+    if third == 104 then hub_flag else (
     if third == 114 then rules_flag else (
     if third == 116 then (if fourth == 111 then to_flag else turns_flag) else (
-    if third == 108 then listen_flag else workers_flag)))
+    if third == 108 then listen_flag else workers_flag))))
 
 named : List ℕ → Flag
-named s = named_by (get_or s 2 0) (get_or s 3 0)
+named s = named_by (get_or s 2 0) (get_or s 3 0) (get_or s 5 0)
 
 names : (f : Flag) (x : List ℕ) → named (flag_text f ++ x) ≡ f
 unfolding named named_by
 names crd_flag x = refl
 names rules_flag x = refl
+names hub_flag x = refl
+names converter_flag x = refl
 names to_flag x = refl
 names turns_flag x = refl
 names listen_flag x = refl
@@ -45,24 +48,29 @@ same_flag f g x y e =
 flag_alone : (f : Flag) → flag_text f ≡ flag_text f ++ []
 flag_alone crd_flag = refl
 flag_alone rules_flag = refl
+flag_alone hub_flag = refl
+flag_alone converter_flag = refl
 flag_alone to_flag = refl
 flag_alone turns_flag = refl
 flag_alone listen_flag = refl
 flag_alone workers_flag = refl
 flag_alone connections_flag = refl
 
--- a word that begins with no name of these three groups begins with none
+-- a word that begins with no name of these four groups begins with none
 pub no_name : (w : List ℕ) → ((end : List ℕ) → w ≢ flag_text turns_flag ++ end)
     → ((end : List ℕ) → w ≢ flag_text crd_flag ++ end) → ((end : List ℕ) → w ≢ flag_text rules_flag ++ end) → ((end : List ℕ) → w ≢ flag_text to_flag ++ end)
     → ((end : List ℕ) → w ≢ flag_text listen_flag ++ end) → ((end : List ℕ) → w ≢ flag_text workers_flag ++ end) → ((end : List ℕ) → w ≢ flag_text connections_flag ++ end)
+    → ((end : List ℕ) → w ≢ flag_text hub_flag ++ end) → ((end : List ℕ) → w ≢ flag_text converter_flag ++ end)
     → (f : Flag) (end : List ℕ) → w ≢ flag_text f ++ end
-no_name w turns crd rules to listen workers connections crd_flag = crd
-no_name w turns crd rules to listen workers connections rules_flag = rules
-no_name w turns crd rules to listen workers connections to_flag = to
-no_name w turns crd rules to listen workers connections turns_flag = turns
-no_name w turns crd rules to listen workers connections listen_flag = listen
-no_name w turns crd rules to listen workers connections workers_flag = workers
-no_name w turns crd rules to listen workers connections connections_flag = connections
+no_name w turns crd rules to listen workers connections hub converter crd_flag = crd
+no_name w turns crd rules to listen workers connections hub converter rules_flag = rules
+no_name w turns crd rules to listen workers connections hub converter hub_flag = hub
+no_name w turns crd rules to listen workers connections hub converter converter_flag = converter
+no_name w turns crd rules to listen workers connections hub converter to_flag = to
+no_name w turns crd rules to listen workers connections hub converter turns_flag = turns
+no_name w turns crd rules to listen workers connections hub converter listen_flag = listen
+no_name w turns crd rules to listen workers connections hub converter workers_flag = workers
+no_name w turns crd rules to listen workers connections hub converter connections_flag = connections
 
 -- the first word begins with the option's name
 pub front : (w : List ℕ) (ws : List (List ℕ)) (f : Flag) (v : List ℕ) (r : List (List ℕ)) → BeginsWithOption (w ∷ ws) f v r
@@ -162,6 +170,25 @@ one_service s t crd rules place workers connections =
     ∙ ap (λ (n : ℕ). record { crd = t.crd; rules = t.rules; place = t.place; workers = n; connections = s.connections }) workers
     ∙ ap (λ (o : Option ℕ). record t { connections = o }) connections
 
+one_conversion : (c d : Conversion) (v : Values) → HasConversion c v → HasConversion d v → c ≡ d
+one_conversion c d v one other =
+    let file : Some c.crd ≡ Some d.crd = sym one.0 ∙ other.0 in
+    let version : Some c.hub ≡ Some d.hub = sym one.2 ∙ other.2 in
+    let address : Some c.url ≡ Some d.url = sym one.3 ∙ other.3 in
+    let k : c.crd ≡ d.crd = cc in
+    let h : c.hub ≡ d.hub = cc in
+    let u : c.url ≡ d.url = cc in
+    ap (λ (x : List ℕ). record c { crd = x }) k
+    ∙ ap (λ (x : List ℕ). record { crd = d.crd; hub = x; url = c.url }) h
+    ∙ ap (λ (x : List ℕ). record d { url = x }) u
+
+one_listening : (l k : Listening) → Some l.place ≡ Some k.place → l.workers ≡ k.workers → l.connections ≡ k.connections → l ≡ k
+one_listening l k place workers connections =
+    let p : l.place ≡ k.place = cc in
+    ap (λ (x : List ℕ). record l { place = x }) p
+    ∙ ap (λ (n : ℕ). record { place = k.place; workers = n; connections = l.connections }) workers
+    ∙ ap (λ (o : Option ℕ). record k { connections = o }) connections
+
 pub one_line : (a b : Line) (v : Values) → command_word a ≡ command_word b → HasValues a v → HasValues b v → a ≡ b
 one_line (pipe built_in m) (pipe built_in n) v e one other = ap (λ (k : ℕ). pipe built_in k) (one_number v.turns m n one.3 other.3)
 one_line (pipe built_in m) (pipe (from_files d s) n) v e one other = let crd_is : None ≡ Some d = sym one.0 ∙ other.0 in cc
@@ -225,6 +252,41 @@ one_line (serve s) (drill a b) v e one other = absurd other
 one_line (serve s) (serve t) v e one other =
     ap (λ (x : Service). serve x) (one_service s t (sym one.0 ∙ other.0) (sym one.1 ∙ other.1) (sym one.4 ∙ other.4)
     (one_workers v.workers s.workers t.workers one.5 other.5) (one_connections v.connections s.connections t.connections one.6 other.6))
+one_line (pipe built_in m) (pipe_by k n) v e one other = let hub : None ≡ Some k.hub = sym one.5.0 ∙ other.0.2 in cc
+one_line (pipe built_in m) (serve_by k l) v e one other = let hub : None ≡ Some k.hub = sym one.5.0 ∙ other.0.2 in cc
+one_line (pipe (from_files c r) m) (pipe_by k n) v e one other = let hub : None ≡ Some k.hub = sym one.5.0 ∙ other.0.2 in cc
+one_line (pipe (from_files c r) m) (serve_by k l) v e one other = let hub : None ≡ Some k.hub = sym one.5.0 ∙ other.0.2 in cc
+one_line (task c r (convert v2)) (pipe_by k n) v e one other = let hub : None ≡ Some k.hub = sym one.5.0 ∙ other.0.2 in cc
+one_line (task c r (convert v2)) (serve_by k l) v e one other = let hub : None ≡ Some k.hub = sym one.5.0 ∙ other.0.2 in cc
+one_line (task c r review) (pipe_by k n) v e one other = let hub : None ≡ Some k.hub = sym one.5.0 ∙ other.0.2 in cc
+one_line (task c r review) (serve_by k l) v e one other = let hub : None ≡ Some k.hub = sym one.5.0 ∙ other.0.2 in cc
+one_line (serve s) (pipe_by k n) v e one other = let hub : None ≡ Some k.hub = sym one.7.0 ∙ other.0.2 in cc
+one_line (serve s) (serve_by k l) v e one other = let hub : None ≡ Some k.hub = sym one.7.0 ∙ other.0.2 in cc
+one_line (pipe_by k m) (pipe built_in n) v e one other = let hub : Some k.hub ≡ None = sym one.0.2 ∙ other.5.0 in cc
+one_line (pipe_by k m) (pipe (from_files d s) n) v e one other = let hub : Some k.hub ≡ None = sym one.0.2 ∙ other.5.0 in cc
+one_line (pipe_by k m) (task d s (convert w)) v e one other = let hub : Some k.hub ≡ None = sym one.0.2 ∙ other.5.0 in cc
+one_line (pipe_by k m) (task d s review) v e one other = let hub : Some k.hub ≡ None = sym one.0.2 ∙ other.5.0 in cc
+one_line (pipe_by k m) (serve t) v e one other = let hub : Some k.hub ≡ None = sym one.0.2 ∙ other.7.0 in cc
+one_line (pipe_by k m) (pipe example n) v e one other = absurd other
+one_line (pipe_by k m) (pipe no_definition n) v e one other = absurd other
+one_line (pipe_by k m) (remote j u) v e one other = absurd other
+one_line (pipe_by k m) (drill a b) v e one other = absurd other
+one_line (serve_by k l) (pipe built_in n) v e one other = let hub : Some k.hub ≡ None = sym one.0.2 ∙ other.5.0 in cc
+one_line (serve_by k l) (pipe (from_files d s) n) v e one other = let hub : Some k.hub ≡ None = sym one.0.2 ∙ other.5.0 in cc
+one_line (serve_by k l) (task d s (convert w)) v e one other = let hub : Some k.hub ≡ None = sym one.0.2 ∙ other.5.0 in cc
+one_line (serve_by k l) (task d s review) v e one other = let hub : Some k.hub ≡ None = sym one.0.2 ∙ other.5.0 in cc
+one_line (serve_by k l) (serve t) v e one other = let hub : Some k.hub ≡ None = sym one.0.2 ∙ other.7.0 in cc
+one_line (serve_by k l) (pipe example n) v e one other = absurd other
+one_line (serve_by k l) (pipe no_definition n) v e one other = absurd other
+one_line (serve_by k l) (remote j u) v e one other = absurd other
+one_line (serve_by k l) (drill a b) v e one other = absurd other
+one_line (pipe_by k m) (pipe_by j n) v e one other =
+    ap (λ (x : Conversion). pipe_by x m) (one_conversion k j v one.0 other.0) ∙ ap (λ (x : ℕ). pipe_by j x) (one_number v.turns m n one.1 other.1)
+one_line (pipe_by k m) (serve_by j l) v e one other = let listen : None ≡ Some l.place = sym one.2.0 ∙ other.2 in cc
+one_line (serve_by k l) (pipe_by j n) v e one other = let listen : Some l.place ≡ None = sym one.2 ∙ other.2.0 in cc
+one_line (serve_by k l) (serve_by j o) v e one other =
+    ap (λ (x : Conversion). serve_by x l) (one_conversion k j v one.0 other.0) ∙ ap (λ (x : Listening). serve_by j x) (one_listening l o (sym one.2 ∙ other.2)
+    (one_workers v.workers l.workers o.workers one.3 other.3) (one_connections v.connections l.connections o.connections one.4 other.4))
 
 -- a command that isn't `serve` has none of its options
 pub none_unserved : (w : List ℕ) (v : Values) → (w ≡ codes "serve" → ⊥) → (IsUnserved v → ⊥) → (line : Line) → w ≡ command_word line → HasValues line v → ⊥
@@ -237,6 +299,8 @@ none_unserved w v other some (task c r review) e has = some has.4
 none_unserved w v other some (drill start count) e has = has
 none_unserved w v other some (serve s) e has = other e
 none_unserved w v other some (remote k url) e has = has
+none_unserved w v other some (pipe_by c turns) e has = some has.2
+none_unserved w v other some (serve_by c l) e has = other e
 
 -- ---- words in memory
 
@@ -319,6 +383,12 @@ no_drill rest (task c r review) l =
 no_drill rest (drill start count) l = l.has
 no_drill rest (remote k url) l = l.has
 no_drill rest (serve s) l =
+    let e : codes "drill" ≡ codes "serve" = let same : codes "drill" ∷ rest ≡ codes "serve" ∷ l.options = l.command in cc in
+    let first : 100 ≡ 115 = ap (λ (s : List ℕ). get_or s 0 0) e in omega (arith, first)
+no_drill rest (pipe_by k turns) l =
+    let e : codes "drill" ≡ codes "pipe" = let same : codes "drill" ∷ rest ≡ codes "pipe" ∷ l.options = l.command in cc in
+    let first : 100 ≡ 112 = ap (λ (s : List ℕ). get_or s 0 0) e in omega (arith, first)
+no_drill rest (serve_by k s) l =
     let e : codes "drill" ≡ codes "serve" = let same : codes "drill" ∷ rest ≡ codes "serve" ∷ l.options = l.command in cc in
     let first : 100 ≡ 115 = ap (λ (s : List ℕ). get_or s 0 0) e in omega (arith, first)
 
@@ -428,6 +498,12 @@ no_within k rest (task c r review) (inl l) =
 no_within k rest (drill start count) (inl l) = l.has
 no_within k rest (remote j url) (inl l) = l.has
 no_within k rest (serve s) (inl l) =
+    let e : remote_word k ≡ codes "serve" = let same : remote_word k ∷ rest ≡ codes "serve" ∷ l.options = l.command in cc in
+    let third : get_or (remote_word k) 2 0 ≡ 114 = ap (λ (s : List ℕ). get_or s 2 0) e in omega (arith, third, low_third k)
+no_within k rest (pipe_by c turns) (inl l) =
+    let e : remote_word k ≡ codes "pipe" = let same : remote_word k ∷ rest ≡ codes "pipe" ∷ l.options = l.command in cc in
+    let third : get_or (remote_word k) 2 0 ≡ 112 = ap (λ (s : List ℕ). get_or s 2 0) e in omega (arith, third, low_third k)
+no_within k rest (serve_by c s) (inl l) =
     let e : remote_word k ≡ codes "serve" = let same : remote_word k ∷ rest ≡ codes "serve" ∷ l.options = l.command in cc in
     let third : get_or (remote_word k) 2 0 ≡ 114 = ap (λ (s : List ℕ). get_or s 2 0) e in omega (arith, third, low_third k)
 no_within k rest line (inr h) =

@@ -6,6 +6,8 @@ use Rattle.command_lines.specs.declared.words.Named.TheVariants as named
 use Rattle.command_lines.specs.declared.words.Task.{Task as TaskCode}
 use Rattle.command_lines.specs.declared.words.Task.TheVariants as tasks
 use Rattle.command_lines.specs.declared.service.Service.{Service as ServiceCode}
+use Rattle.command_lines.specs.declared.conversion.Conversion.{Conversion as ConversionCode}
+use Rattle.command_lines.specs.declared.conversion.Listening.{Listening as ListeningCode}
 use Rattle.command_lines.specs.declared.words.Command.{Command}
 use Rattle.command_lines.specs.declared.words.Command.TheVariants as commands
 use Rattle.command_lines.specs.declared.words.Remote.{Remote as RemoteCode}
@@ -14,7 +16,7 @@ use Rattle.command_lines.specs.declared.words.Flag.{Flag as FlagCode}
 use Rattle.command_lines.specs.declared.words.Flag.TheVariants as flags
 use Rattle.command_lines.specs.declared.words.Taken.{Taken}
 use Rattle.command_lines.specs.declared.words.Given.{Given}
-use Rattle.command_lines.specs.Lines.{Named, built_in, from_files, Task, convert, review, Remote, migrate, dump, load, Line, Service, pipe, task, drill, serve, remote, Flag, crd_flag, rules_flag, to_flag, turns_flag, listen_flag, workers_flag, connections_flag, BeginsWithOption, Values, Gives, command_word, HasValues, HasOptions, HasNumbers}
+use Rattle.command_lines.specs.Lines.{Named, built_in, from_files, Conversion, Task, convert, review, Remote, migrate, dump, load, Line, Service, Listening, pipe, task, drill, serve, remote, pipe_by, serve_by, Flag, crd_flag, rules_flag, hub_flag, converter_flag, to_flag, turns_flag, listen_flag, workers_flag, connections_flag, BeginsWithOption, Values, Gives, command_word, HasConversion, HasValues, HasOptions, HasNumbers}
 
 abbrev pub named_of : NamedCode → Named
 named_of named.BuiltIn = built_in
@@ -27,6 +29,12 @@ task_of tasks.Review = review
 abbrev pub service_of : ServiceCode → Service
 service_of s = record { crd = s.crd.now; rules = s.rules.now; place = s.place.now; workers = s.workers; connections = s.connections }
 
+abbrev pub conversion_of : ConversionCode → Conversion
+conversion_of c = record { crd = c.crd.now; hub = c.hub.now; url = c.url.now }
+
+abbrev pub listening_of : ListeningCode → Listening
+listening_of l = record { place = l.place.now; workers = l.workers; connections = l.connections }
+
 abbrev pub line_of : Command → Line
 line_of (commands.Pipe n turns) = pipe (named_of n) turns
 line_of (commands.Task crd rules t) = task crd.now rules.now (task_of t)
@@ -35,6 +43,8 @@ line_of (commands.Serve s) = serve (service_of s)
 line_of (commands.Migrate url) = remote migrate url.now
 line_of (commands.Dump url) = remote dump url.now
 line_of (commands.Load url) = remote load url.now
+line_of (commands.PipeBy c turns) = pipe_by (conversion_of c) turns
+line_of (commands.ServeBy c l) = serve_by (conversion_of c) (listening_of l)
 
 abbrev pub remote_in : RemoteCode → Remote
 remote_in remotes.Migrate = migrate
@@ -44,6 +54,8 @@ remote_in remotes.Load = load
 abbrev pub flag_in : FlagCode → Flag
 flag_in flags.Crd = crd_flag
 flag_in flags.Rules = rules_flag
+flag_in flags.Hub = hub_flag
+flag_in flags.Converter = converter_flag
 flag_in flags.To = to_flag
 flag_in flags.Turns = turns_flag
 flag_in flags.Listen = listen_flag
@@ -51,7 +63,7 @@ flag_in flags.Workers = workers_flag
 flag_in flags.Connections = connections_flag
 
 abbrev pub values_in : Given → Values
-values_in g = record { crd = option_map (λ x. x.now) g.crd; rules = option_map (λ x. x.now) g.rules; to = option_map (λ x. x.now) g.to; turns = option_map (λ x. x.now) g.turns; listen = option_map (λ x. x.now) g.listen; workers = option_map (λ x. x.now) g.workers; connections = option_map (λ x. x.now) g.connections }
+values_in g = record { crd = option_map (λ x. x.now) g.crd; rules = option_map (λ x. x.now) g.rules; hub = option_map (λ x. x.now) g.hub; converter = option_map (λ x. x.now) g.converter; to = option_map (λ x. x.now) g.to; turns = option_map (λ x. x.now) g.turns; listen = option_map (λ x. x.now) g.listen; workers = option_map (λ x. x.now) g.workers; connections = option_map (λ x. x.now) g.connections }
 
 -- the option that the words begin with, and none where nothing is told
 abbrev pub TakesFirst : List (List ℕ) → Option Taken → Type 0
@@ -70,6 +82,10 @@ abbrev pub IsCommand : List ℕ → Values → Option Command → Type 0
 IsCommand word values o = MatchOption o
     ((line : Line) → word ≡ command_word line → HasValues line values → ⊥)
     (λ c. (word ≡ command_word (line_of c)) × HasValues (line_of c) values)
+
+-- the definition with a converter that the values name, and none where nothing is told
+abbrev pub IsConversion : Values → Option ConversionCode → Type 0
+IsConversion values o = MatchOption o ((c : Conversion) → HasConversion c values → ⊥) (λ c. HasConversion (conversion_of c) values)
 
 -- the words are this line, which doesn't work on a server from outside
 abbrev pub Within : List (List ℕ) → Line → Type 0

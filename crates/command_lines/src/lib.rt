@@ -4,6 +4,8 @@
 //! of what a line does, nor of what the files hold that it names.
 #![tactic(auto)]
 
+mod conversion;
+mod conversion_words;
 mod drill_words;
 mod numbers;
 mod serve_words;
@@ -11,6 +13,7 @@ mod service;
 mod turns;
 mod words;
 
+pub use conversion::{Conversion, Listening};
 pub use numbers::MOST_STEPS;
 pub use service::{MOST_CONNECTIONS, MOST_WORKERS, Service, USUAL_WORKERS};
 pub use turns::MOST_TURNS;

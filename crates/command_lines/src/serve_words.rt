@@ -1,14 +1,14 @@
 //! The options of `serve`.
 ghost use Rattle.std.specs.Prelude.{◌≡◌, ◌≤◌, ℕ, Option, None, Some, IfSome, MatchBool, MatchOption, option_map, codes};
-ghost use Rattle.command_lines.specs.Lines.{IsUnserved, SpellsConnections, SpellsWorkers};
+ghost use Rattle.command_lines.specs.Lines.{IsUnconverted, IsUnserved, SpellsConnections, SpellsWorkers};
 ghost use Rattle.command_lines.specs.Given.{values_in, IsCommand};
 
 use crate::numbers::number_up_to;
 use crate::service::{MOST_CONNECTIONS, MOST_WORKERS, Service, USUAL_WORKERS};
 use crate::words::{Command, Given};
 
-// So many workers as an option's value spells, or `None` exactly where it spells none that there may be.
-fn workers_of(given: Option<&str>) -> Option<u64>
+/// So many workers as an option's value spells, or `None` exactly where it spells none that there may be.
+pub(crate) fn workers_of(given: Option<&str>) -> Option<u64>
     ensures spelled { MatchOption result ((workers : ℕ) → SpellsWorkers (option_map (λ x. x.now) given.entry) workers → ⊥)
         (λ workers. SpellsWorkers (option_map (λ x. x.now) given.entry) workers) }
     ensures few { IfSome result (λ workers. workers ≤ MOST_WORKERS) }
@@ -36,8 +36,8 @@ fn some_connections(text: &str) -> Option<Option<u64>>
     }
 }
 
-// So many connections as an option's value spells, and no number without the option.
-fn connections_of(given: Option<&str>) -> Option<Option<u64>>
+/// So many connections as an option's value spells, and no number without the option.
+pub(crate) fn connections_of(given: Option<&str>) -> Option<Option<u64>>
     ensures { MatchOption result ((connections : Option ℕ) → SpellsConnections (option_map (λ x. x.now) given.entry) connections → ⊥)
         (λ connections. SpellsConnections (option_map (λ x. x.now) given.entry) connections) }
 {
@@ -65,6 +65,7 @@ pub(crate) fn is_unserved(given: Given<'_>) -> bool
 
 // The line of `serve` with the options that aren't `--to` and `--turns`, where these numbers are spelled.
 fn serve_with<'a>(given: Given<'a>, workers: u64, connections: Option<u64>) -> Option<Command<'a>>
+    requires unconverted { IsUnconverted (values_in given) }
     requires others { ((values_in given).to ≡ None) × ((values_in given).turns ≡ None) }
     requires few { workers ≤ MOST_WORKERS }
     requires workers { SpellsWorkers (values_in given).workers workers }
@@ -91,7 +92,8 @@ fn serve_with<'a>(given: Given<'a>, workers: u64, connections: Option<u64>) -> O
 
 // The line of `serve` with the options that aren't `--to` and `--turns`.
 fn serve_numbers<'a>(given: Given<'a>) -> Option<Command<'a>>
-    requires { ((values_in given).to ≡ None) × ((values_in given).turns ≡ None) }
+    requires unconverted { IsUnconverted (values_in given) }
+    requires others { ((values_in given).to ≡ None) × ((values_in given).turns ≡ None) }
     ensures { IsCommand (codes "serve") (values_in given.entry) result }
 {
     match workers_of(given.workers) {
@@ -103,8 +105,9 @@ fn serve_numbers<'a>(given: Given<'a>) -> Option<Command<'a>>
     }
 }
 
-/// The line of `serve` with these options.
+/// The line of `serve` with these options, of which none is of a converter.
 pub(crate) fn serve_of<'a>(given: Given<'a>) -> Option<Command<'a>>
+    requires { IsUnconverted (values_in given) }
     ensures { IsCommand (codes "serve") (values_in given.entry) result }
 {
     match given.to {

@@ -1,9 +1,11 @@
 //! The words of the command line.
 ghost use Rattle.std.specs.Prelude.{◌≡◌, ◌≢◌, ◌≤◌, ◌<◌, ◌↔◌, ◌++◌, ◌∷◌, [], ℕ, List, None, IfSome, IsTrue, MatchOption, codes, map, length};
 ghost use Rattle.kj_value.specs.Texts.{bytes_of};
-ghost use Rattle.command_lines.specs.Lines.{Line, Remote as RemoteView, remote, remote_word, Flag as FlagView, HasAddress, HasOptions, IsLine, IsUnserved, IsValue, SpellsTurns, crd_flag, rules_flag, to_flag, listen_flag, workers_flag, connections_flag, flag_text, value_at, with_value};
+ghost use Rattle.command_lines.specs.Lines.{Line, Remote as RemoteView, remote, remote_word, Flag as FlagView, HasAddress, HasOptions, IsLine, IsUnconverted, IsUnserved, IsValue, SpellsTurns, crd_flag, rules_flag, hub_flag, converter_flag, to_flag, listen_flag, workers_flag, connections_flag, flag_text, value_at, with_value};
 ghost use Rattle.command_lines.specs.Given.{Within, line_of, remote_in, flag_in, values_in, TakesFirst, GivesOne, IsCommand};
 
+use crate::conversion::{Conversion, Listening};
+use crate::conversion_words::{converted, is_unconverted};
 use crate::drill_words::drill_of;
 use crate::serve_words::{is_unserved, serve_of};
 use crate::service::Service;
@@ -60,6 +62,16 @@ pub enum Command<'a> {
     Load {
         url: &'a str,
     },
+    /// To answer the requests of the input, as `Pipe` does, by a definition whose objects a converter turns.
+    PipeBy {
+        conversion: Conversion<'a>,
+        turns: u64,
+    },
+    /// To answer connections, as `Serve` does, by such a definition.
+    ServeBy {
+        conversion: Conversion<'a>,
+        listening: Listening<'a>,
+    },
 }
 
 // What is done at the place of an address.
@@ -75,6 +87,8 @@ enum Remote {
 enum Flag {
     Crd,
     Rules,
+    Hub,
+    Converter,
     To,
     Turns,
     Listen,
@@ -95,6 +109,8 @@ struct Taken<'a> {
 pub(crate) struct Given<'a> {
     pub(crate) crd: Option<&'a str>,
     pub(crate) rules: Option<&'a str>,
+    pub(crate) hub: Option<&'a str>,
+    pub(crate) converter: Option<&'a str>,
     pub(crate) to: Option<&'a str>,
     pub(crate) turns: Option<&'a str>,
     pub(crate) listen: Option<&'a str>,
@@ -106,6 +122,8 @@ pub(crate) struct Given<'a> {
 const NOTHING: Given<'static> = Given {
     crd: None,
     rules: None,
+    hub: None,
+    converter: None,
     to: None,
     turns: None,
     listen: None,
@@ -148,6 +166,21 @@ fn file_flag_of(word: &str) -> Option<(Flag, &str)>
     }
 }
 
+// The same of those that name a hub and a converter.
+fn converter_flag_of(word: &str) -> Option<(Flag, &str)>
+    ensures { MatchOption result
+        (((end : List ℕ) → word.now ≢ flag_text hub_flag ++ end) × ((end : List ℕ) → word.now ≢ flag_text converter_flag ++ end))
+        (λ p. word.now ≡ flag_text (flag_in p.0) ++ p.1.now) }
+{
+    match behind(word, "--hub") {
+        Some(end) => Some((Flag::Hub, end)),
+        None => match behind(word, "--converter") {
+            Some(end) => Some((Flag::Converter, end)),
+            None => None,
+        },
+    }
+}
+
 // The same of those that say where connections come, and how many.
 fn service_flag_of(word: &str) -> Option<(Flag, &str)>
     ensures { MatchOption result
@@ -177,7 +210,10 @@ fn flag_of(word: &str) -> Option<(Flag, &str)>
             Some((flag, end)) => Some((flag, end)),
             None => match service_flag_of(word) {
                 Some((flag, end)) => Some((flag, end)),
-                None => None,
+                None => match converter_flag_of(word) {
+                    Some((flag, end)) => Some((flag, end)),
+                    None => None,
+                },
             },
         },
     }
@@ -270,6 +306,20 @@ impl<'a> Given<'a> {
                     ..self
                 }),
             },
+            Flag::Hub => match self.hub {
+                Some(_) => None,
+                None => Some(Given {
+                    hub: Some(value),
+                    ..self
+                }),
+            },
+            Flag::Converter => match self.converter {
+                Some(_) => None,
+                None => Some(Given {
+                    converter: Some(value),
+                    ..self
+                }),
+            },
             Flag::To => match self.to {
                 Some(_) => None,
                 None => Some(Given {
@@ -328,6 +378,7 @@ fn give<'a>(words: &'a [Txt], given: Given<'a>) -> Option<Given<'a>>
 // The line of `pipe` with these options, where so many turns are spelled.
 fn pipe_with<'a>(given: Given<'a>, turns: u64) -> Option<Command<'a>>
     requires unserved { IsUnserved (values_in given) }
+    requires unconverted { IsUnconverted (values_in given) }
     requires turns { SpellsTurns (values_in given).turns turns }
     ensures { IsCommand (codes "pipe") (values_in given.entry) result }
 {
@@ -354,7 +405,8 @@ fn pipe_with<'a>(given: Given<'a>, turns: u64) -> Option<Command<'a>>
 
 // The line of `pipe` with these options.
 fn pipe_of<'a>(given: Given<'a>) -> Option<Command<'a>>
-    requires { IsUnserved (values_in given) }
+    requires unserved { IsUnserved (values_in given) }
+    requires unconverted { IsUnconverted (values_in given) }
     ensures { IsCommand (codes "pipe") (values_in given.entry) result }
 {
     match turns_of(given.turns) {
@@ -366,6 +418,7 @@ fn pipe_of<'a>(given: Given<'a>) -> Option<Command<'a>>
 // The line of `convert` with the options that aren't `--turns`.
 fn convert_with<'a>(given: Given<'a>) -> Option<Command<'a>>
     requires unserved { IsUnserved (values_in given) }
+    requires unconverted { IsUnconverted (values_in given) }
     requires turns { (values_in given).turns ≡ None }
     ensures { IsCommand (codes "convert") (values_in given.entry) result }
 {
@@ -387,7 +440,8 @@ fn convert_with<'a>(given: Given<'a>) -> Option<Command<'a>>
 
 // The line of `convert` with these options.
 fn convert_of<'a>(given: Given<'a>) -> Option<Command<'a>>
-    requires { IsUnserved (values_in given) }
+    requires unserved { IsUnserved (values_in given) }
+    requires unconverted { IsUnconverted (values_in given) }
     ensures { IsCommand (codes "convert") (values_in given.entry) result }
 {
     match given.turns {
@@ -399,6 +453,7 @@ fn convert_of<'a>(given: Given<'a>) -> Option<Command<'a>>
 // The line of `review` with the options that aren't `--turns`.
 fn review_with<'a>(given: Given<'a>) -> Option<Command<'a>>
     requires unserved { IsUnserved (values_in given) }
+    requires unconverted { IsUnconverted (values_in given) }
     requires turns { (values_in given).turns ≡ None }
     ensures { IsCommand (codes "review") (values_in given.entry) result }
 {
@@ -420,7 +475,8 @@ fn review_with<'a>(given: Given<'a>) -> Option<Command<'a>>
 
 // The line of `review` with these options.
 fn review_of<'a>(given: Given<'a>) -> Option<Command<'a>>
-    requires { IsUnserved (values_in given) }
+    requires unserved { IsUnserved (values_in given) }
+    requires unconverted { IsUnconverted (values_in given) }
     ensures { IsCommand (codes "review") (values_in given.entry) result }
 {
     match given.turns {
@@ -429,9 +485,10 @@ fn review_of<'a>(given: Given<'a>) -> Option<Command<'a>>
     }
 }
 
-// The line of a command with these options, of which none is of `serve` alone.
+// The line of a command with these options, of which none is of `serve` alone or of a converter.
 fn unserved<'a>(word: &str, given: Given<'a>) -> Option<Command<'a>>
-    requires { IsUnserved (values_in given) }
+    requires unserved { IsUnserved (values_in given) }
+    requires unconverted { IsUnconverted (values_in given) }
     ensures { IsCommand word.now (values_in given.entry) result }
 {
     if word == "pipe" {
@@ -451,8 +508,9 @@ fn is_serve(word: &str) -> bool
     word == "serve"
 }
 
-// The line of a command with these options.
-fn command_named<'a>(word: &str, given: Given<'a>) -> Option<Command<'a>>
+// The line of a command with these options, of which none is of a converter.
+fn ruled<'a>(word: &str, given: Given<'a>) -> Option<Command<'a>>
+    requires { IsUnconverted (values_in given) }
     ensures { IsCommand word.now (values_in given.entry) result }
 {
     if is_serve(word) {
@@ -462,6 +520,17 @@ fn command_named<'a>(word: &str, given: Given<'a>) -> Option<Command<'a>>
         return unserved(word, given);
     }
     None
+}
+
+// The line of a command with these options.
+fn command_named<'a>(word: &str, given: Given<'a>) -> Option<Command<'a>>
+    ensures { IsCommand word.now (values_in given.entry) result }
+{
+    if is_unconverted(given) {
+        ruled(word, given)
+    } else {
+        converted(word, given)
+    }
 }
 
 // The line of a command with the options that the words behind it are.

@@ -6,7 +6,7 @@ use Rattle.std.proofs.lemmas.List.{append-nil, append_cancel_left}
 use Rattle.std.specs.Prelude.{OnErr, map, if◌then◌else◌}
 use Rattle.kube_meta.specs.Key.{KeyView}
 use Rattle.kube_meta.specs.Plan.{Migration, running, may_claim, is_done}
-use Rattle.api_calls.specs.Calls.{Server, Call, work, Told, answered, worked, failed, gave_back, no_memory, IsTurn, Decides, Fails, IsMoved, IsLost, Comes, decided, wants_memory, not_converted, moved, lost}
+use Rattle.api_calls.specs.Calls.{Server, Call, work, Told, answered, worked, failed, gave_back, no_memory, converter, IsTurn, Decides, Fails, IsMoved, IsLost, Comes, decided, wants_memory, not_converted, moved, lost}
 use Rattle.api_calls.specs.Ends.{grown, prepare}
 use Rattle.api_calls.specs.Item.{Item, Logged, items, items_of}
 use Rattle.api_calls.specs.laws.GrowthLaws.{legal-more}
@@ -72,37 +72,37 @@ nobodys n (l ∷ ls) strangers own = absurd (by (nat_eq l.by n) refl)
     by true is = listed n l ls is strangers
     by false is = listed l.by l ls (itself l.by) (own l.by (differs l.by n is))
 
--- ---- replies without a tool's faults
+-- ---- replies by a tool that fails only where it may
 
-unfailing : (s : Server) (rose : Type 0) (stamp : List ℕ) (seen log : List Item) (c : Call) (t : Told) (i : Option Item)
-    → ¬ rose → Comes s rose stamp seen log c t i → Comes s ⊥ stamp seen log c t i
-unfailing s rose stamp seen log c t i never (decided d u j is) = decided d u j is
-unfailing s rose stamp seen log c t i never (wants_memory d u is) = wants_memory d u is
-unfailing s rose stamp seen log c t i never (not_converted d u r converts is) = absurd (never r)
-unfailing s rose stamp seen log c t i never (moved claim is) = moved claim is
-unfailing s rose stamp seen log c t i never (lost claim is) = lost claim is
+failing : (s : Server) (rose fails : Type 0) (stamp : List ℕ) (seen log : List Item) (c : Call) (t : Told) (i : Option Item)
+    → (rose → fails) → Comes s rose stamp seen log c t i → Comes s fails stamp seen log c t i
+failing s rose fails stamp seen log c t i may (decided d u j is) = decided d u j is
+failing s rose fails stamp seen log c t i may (wants_memory d u is) = wants_memory d u is
+failing s rose fails stamp seen log c t i may (not_converted d u r converts is) = not_converted d u (may r) converts is
+failing s rose fails stamp seen log c t i may (moved claim is) = moved claim is
+failing s rose fails stamp seen log c t i may (lost claim is) = lost claim is
 
-unfailing_route : (f : Front) (rose : Type 0) (seen log : List Item) (r : Route) (a : ReplyView) (i : Option Item)
-    → ¬ rose → RoutedReply f rose seen log r a i → RoutedReply f ⊥ seen log r a i
-unfailing_route f rose seen log (route.calls c) a i never reply = record {
+failing_route : (f : Front) (rose fails : Type 0) (seen log : List Item) (r : Route) (a : ReplyView) (i : Option Item)
+    → (rose → fails) → RoutedReply f rose seen log r a i → RoutedReply f fails seen log r a i
+failing_route f rose fails seen log (route.calls c) a i may reply = record {
   stamp = reply.stamp;
   answer = reply.answer;
   may = reply.may;
   told = reply.told;
-  comes = unfailing f.server rose reply.stamp seen log c (answered reply.answer) i never reply.comes;
+  comes = failing f.server rose fails reply.stamp seen log c (answered reply.answer) i may reply.comes;
 }
-unfailing_route f rose seen log route.no_resource a i never reply = reply
-unfailing_route f rose seen log route.method_not_allowed a i never reply = reply
-unfailing_route f rose seen log (route.bad_request why) a i never reply = reply
+failing_route f rose fails seen log route.no_resource a i may reply = reply
+failing_route f rose fails seen log route.method_not_allowed a i may reply = reply
+failing_route f rose fails seen log (route.bad_request why) a i may reply = reply
 
-unfailing_reply : (f : Front) (rose : Type 0) (seen log : List Item) (r : Request) (a : ReplyView) (i : Option Item)
-    → ¬ rose → Replies f rose seen log r a i → Replies f ⊥ seen log r a i
-unfailing_reply f rose seen log r a i never (inl reply) = inl (record {
+failing_reply : (f : Front) (rose fails : Type 0) (seen log : List Item) (r : Request) (a : ReplyView) (i : Option Item)
+    → (rose → fails) → Replies f rose seen log r a i → Replies f fails seen log r a i
+failing_reply f rose fails seen log r a i may (inl reply) = inl (record {
   route = reply.route;
   routes = reply.routes;
-  reply = unfailing_route f rose seen log reply.route a i never reply.reply;
+  reply = failing_route f rose fails seen log reply.route a i may reply.reply;
 })
-unfailing_reply f rose seen log r a i never (inr memory) = inr memory
+failing_reply f rose fails seen log r a i may (inr memory) = inr memory
 
 -- ---- an answer
 
@@ -118,13 +118,13 @@ nothing_behind m seen others more is =
     first_empty (items_of m others) (items_of m more) (sym (items_of-append m others more) ∙ append_cancel_left (items_of m seen) (items_of m (others ++ more)) [] behind)
 
 -- where a pass is alone, its answer is that of a server of one thread
-alone_step : (f : Front) (n : ℕ) (p q : Point) (r : Request) (a : ReplyView) → q.faults ≤ p.faults
+alone_step : (f : Front) (fails : Type 0) (n : ℕ) (p q : Point) (r : Request) (a : ReplyView) → (p.faults < q.faults → fails)
     → ((m : ℕ) → m ≢ n → items_of m q.seen ≡ items_of m p.seen) → StepAnswers f n p r a q
-    → AnswersAlone f (items p.seen) r a (items q.seen)
-alone_step f n p q r a few quiet step = record {
+    → AnswersAlone f fails (items p.seen) r a (items q.seen)
+alone_step f fails n p q r a may quiet step = record {
   item = step.item;
-  replies = subst (λ (log : List Logged). Replies f ⊥ (items p.seen) (items log) r a step.item) same
-      (unfailing_reply f (p.faults < q.faults) (items p.seen) (items (p.seen ++ step.others)) r a step.item (λ rose. omega (arith, rose, few)) step.replies);
+  replies = subst (λ (log : List Logged). Replies f fails (items p.seen) (items log) r a step.item) same
+      (failing_reply f (p.faults < q.faults) fails (items p.seen) (items (p.seen ++ step.others)) r a step.item may step.replies);
   grows = ap (λ (log : List Logged). items log) step.seen
       ∙ ap (λ (log : List Logged). items (log ++ added n log step.item)) same ∙ grown_by n p.seen step.item;
 }
@@ -163,15 +163,15 @@ would_take s w (suc n) l =
       subst (λ (k : ℕ). TakesTurns s w k (turned s so_far.0)) same (one_more n so_far.0 (turned s so_far.0) so_far.2 (inl refl)),
     )
 
-module _ (f : Front) (turns : ℕ) (p q : Point) (claim : Option ℕ) (known left before written : Option (List ℕ)) (few : q.faults ≤ p.faults)
+module _ (f : Front) (fails : Type 0) (turns : ℕ) (p q : Point) (claim : Option ℕ) (known left before written : Option (List ℕ)) (may : p.faults < q.faults → fails)
     (quiet : (m : ℕ) → m ≢ 0 → items_of m q.seen ≡ items_of m p.seen) where
   pub answered_and_worked : (closes : Bool) (u : At) → AnswersOne (StepAnswers f 0) closes p q known left before written → TakesTurns f.server (at q.seen claim) turns u
-      → AnswersOne (AnswersAndWorks f turns) closes (at p.seen claim) u known left before written
+      → AnswersOne (AnswersAndWorks f fails turns) closes (at p.seen claim) u known left before written
   answered_and_worked closes u one works = record {
     exchange = one.exchange;
     step = record {
       mid = items q.seen;
-      answers = alone_step f 0 p q one.exchange.request one.exchange.answer few quiet one.step;
+      answers = alone_step f fails 0 p q one.exchange.request one.exchange.answer may quiet one.step;
       works = works;
     };
     reads = one.reads;
@@ -190,7 +190,7 @@ module _ (f : Front) (turns : ℕ) (p q : Point) (claim : Option ℕ) (known lef
   unread_at did = (ap (λ (w : Point). at w.seen claim) did.0, did.1)
 
   pub broke_at : legal f.server.meaning f.server.limits (items q.seen) → Did (StepAnswers f 0) steps.WriteFault p q known left before written
-      → (u : At) × legal f.server.meaning f.server.limits u.log × Did (AnswersAndWorks f turns) steps.WriteFault (at p.seen claim) u known left before written
+      → (u : At) × legal f.server.meaning f.server.limits u.log × Did (AnswersAndWorks f fails turns) steps.WriteFault (at p.seen claim) u known left before written
   broke_at l did = elim did [
     | inl broke ↦
         let after = would_take f.server (at q.seen claim) turns l in (
@@ -200,7 +200,7 @@ module _ (f : Front) (turns : ℕ) (p q : Point) (claim : Option ℕ) (known lef
             exchange = broke.exchange;
             step = record {
               mid = items q.seen;
-              answers = alone_step f 0 p q broke.exchange.request broke.exchange.answer few quiet broke.step;
+              answers = alone_step f fails 0 p q broke.exchange.request broke.exchange.answer may quiet broke.step;
               works = after.2;
             };
             reads = broke.reads;
@@ -276,24 +276,30 @@ at_both : (p q : At) → p.log ≡ q.log → p.claim ≡ q.claim → p ≡ q
 at_both p q logs claims = ap (λ (log : List Item). let w : At = record { log = log; claim = p.claim } in w) logs
     ∙ ap (λ (claim : Option ℕ). let w : At = record { log = q.log; claim = claim } in w) claims
 
--- how a turn comes out where no other calls, and the tool has no fault
-turn_comes : (s : Server) (rose : Type 0) (stamp : List ℕ) (p q : At) (c : Call) (t : Told) (i : Option Item) → ¬ rose → c ≡ work p.claim
+-- how a turn comes out where no other calls
+turn_comes : (s : Server) (rose : Type 0) (stamp : List ℕ) (p q : At) (c : Call) (t : Told) (i : Option Item) → c ≡ work p.claim
     → Comes s rose stamp p.log p.log c t i → Leaves t q.claim → FailsOf t (IsToPrepare s.meaning q.log p.claim) → q.log ≡ grown p.log i → TakesTurn s p q
-turn_comes s rose stamp p q c t i never is (decided d u j how) leaves why grows =
+turn_comes s rose stamp p q c t i is (decided d u j how) leaves why grows =
     let turn : IsTurn (turn_at s p) u j = subst (λ (x : Call). Decides s stamp p.log x u j) is how in
     inl (at_both q (turned s p)
     (grows ∙ ap (λ (x : Option Item). grown p.log x) turn.1)
     (subst (λ (x : Told). Leaves x q.claim) turn.0 leaves))
-turn_comes s rose stamp p q c t i never is (wants_memory d u how) leaves why grows =
+turn_comes s rose stamp p q c t i is (wants_memory d u how) leaves why grows =
     let fails : u ≡ failed no_memory p.claim = subst (λ (x : Call). Fails no_memory x u) is how in
     let asked : IsToPrepare s.meaning q.log p.claim = subst (λ (x : Told). FailsOf x (IsToPrepare s.meaning q.log p.claim)) fails why in
     inr (
       subst (λ (log : List Item). IsToPrepare s.meaning log p.claim) grows asked,
       at_both q p grows (subst (λ (x : Told). Leaves x q.claim) fails leaves),
     )
-turn_comes s rose stamp p q c t i never is (not_converted d u r converts how) leaves why grows = absurd (never r)
-turn_comes s rose stamp p q c t i never is (moved claim how) leaves why grows = absurd (not_moved s.meaning p.log claim how)
-turn_comes s rose stamp p q c t i never is (lost claim how) leaves why grows = absurd (not_lost s.meaning p.log claim how)
+turn_comes s rose stamp p q c t i is (not_converted d u r converts how) leaves why grows =
+    let fails : u ≡ failed converter p.claim = subst (λ (x : Call). Fails converter x u) is how in
+    let asked : IsToPrepare s.meaning q.log p.claim = subst (λ (x : Told). FailsOf x (IsToPrepare s.meaning q.log p.claim)) fails why in
+    inr (
+      subst (λ (log : List Item). IsToPrepare s.meaning log p.claim) grows asked,
+      at_both q p grows (subst (λ (x : Told). Leaves x q.claim) fails leaves),
+    )
+turn_comes s rose stamp p q c t i is (moved claim how) leaves why grows = absurd (not_moved s.meaning p.log claim how)
+turn_comes s rose stamp p q c t i is (lost claim how) leaves why grows = absurd (not_lost s.meaning p.log claim how)
 
 grown_addition : {B : Type 0} (v : View B) (log : List Logged) (item : Option Item) → items (log ++ addition v log item) ≡ grown (items log) item
 grown_addition v log None = ap (λ (ls : List Logged). items ls) (append-nil log)
@@ -301,10 +307,10 @@ grown_addition v log (Some i) = items_both log (addition v log (Some i))
 
 -- a turn on a pass that no other calls beside
 pub turn_alone : {B : Type 0} (s : Server) (rose : Type 0) (v z : View B) (claim left : Option ℕ) (came : Result TurnStep WorkFault) (t : Told)
-    → ¬ rose → IsAlone v → IsTold came left t → OnErr came (IsToPrepare s.meaning (items z.seen) claim) → CallsOn s rose [] v z (work claim) t
+    → IsAlone v → IsTold came left t → OnErr came (IsToPrepare s.meaning (items z.seen) claim) → CallsOn s rose [] v z (work claim) t
     → TakesTurn s (record { log = items v.seen; claim = claim }) (record { log = items z.seen; claim = left })
-turn_alone {B = B} s rose v z claim left came t never alone told why calls =
-    turn_comes s rose [] (record { log = items v.seen; claim = claim }) (record { log = items z.seen; claim = left }) (work claim) t calls.item never refl
+turn_alone {B = B} s rose v z claim left came t alone told why calls =
+    turn_comes s rose [] (record { log = items v.seen; claim = claim }) (record { log = items z.seen; claim = left }) (work claim) t calls.item refl
     (subst (λ (log : List Logged). Comes s rose [] (items v.seen) (items log) (work claim) t calls.item) same calls.comes)
     (told_leaves came left t told)
     (told_fails came left t (IsToPrepare s.meaning (items z.seen) claim) told why)

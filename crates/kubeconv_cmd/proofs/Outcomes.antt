@@ -7,13 +7,16 @@ use Rattle.crd_loading.specs.Load.{Loads}
 use Rattle.crd_loading.specs.Set.{set_of}
 use Rattle.crd_loading.specs.View.{LoadedView}
 use Rattle.crd_meaning.specs.Definition.{Definition}
-use Rattle.command_lines.specs.Lines.{Named, example, Task, Line, pipe, task, drill, serve, migrate, dump, load, remote}
+use Rattle.command_lines.specs.Lines.{Named, example, Conversion, Task, Line, pipe, task, drill, serve, migrate, dump, load, remote, pipe_by, serve_by}
 use Rattle.kubeconv_cmd.specs.Listening.{Told, ToldSome, Announced}
-use Rattle.kubeconv_cmd.specs.Beside.{ServesAll}
+use Rattle.kubeconv_cmd.specs.Beside.{AnsweredAll, ServesAll}
+use Rattle.kubeconv_cmd.specs.Converting.{RefusesConverted, converted_meaning, converter_faults}
+use Rattle.hook_versions.specs.Loads.{LoadsHook}
+use Rattle.http_address.specs.Address.{AddressView, IsAddress}
 use Rattle.kubeconv_cmd.specs.Tasks.{AnswersDocument, RefusesDocument, Wrote, Broke}
 use Rattle.http_front.specs.Link.{UnlessUnwritten}
-use Rattle.kubeconv_cmd.specs.Serving.{Blames, Converses, DrillsTexts, link_end}
-use Rattle.kubeconv_cmd.specs.Refusal.{RefusesNamed}
+use Rattle.kubeconv_cmd.specs.Serving.{Blames, Conversed, Converses, DrillsTexts, MayRise, front_of, link_end}
+use Rattle.kubeconv_cmd.specs.Refusal.{IsText, RefusesNamed}
 use Rattle.place.specs.Place.{IsPlace, OnBadPlace, PlaceView}
 use Rattle.place.specs.declared.PlaceFault.{PlaceFault}
 use Rattle.place.specs.declared.PlaceFault.TheVariants as places
@@ -38,14 +41,16 @@ use Rattle.far_lines.specs.declared.end.LoadEnd.TheVariants as loads
 use Rattle.kubeconv_cmd.specs.inner.Backups.{dumped_line, dumped_status, loaded_line, loaded_status}
 use Rattle.kubeconv_cmd.specs.inner.Migrations.{migrate_end_line, migrate_status}
 use Rattle.kubeconv_cmd.specs.Status.{dump_status, error_line, pipe_status, restore_status}
-use Rattle.kubeconv_cmd.specs.Outcome.{World, OfTexts, OfInput, HasLoaded, HasHandedOn, Says, IsSilent, HearsNobody, AnswersSo, Stopped, unreadable, refused, wanting, PipeOutcome, talked, unserved, TaskOutcome, wrote_line, broke_line, refused_input, unread_input, wanting_task, unloaded_task, DrillOutcome, wrote_drill, broke_drill, wanting_drill, ServeOutcome, answered, answered_fewer, unheard, untold, wanting_service, unloaded_service, MigratedAt, MigrateOutcome, settled, contested, broke_tally, forgotten, misanswered, unlinked, wanting_migration, placeless, Unplaced, wanting_place, bad_place, DumpOutcome, dumped, undumped, TellsCounts, LoadOutcome, restored, broke_counts, unloaded, IsPlaceless, Outcome, FilesFail, InputFails, OutputFails, EarsFail, FilesStay, InputStays, OutputStays, EarsStay}
-use Rattle.kubeconv_cmd.specs.inner.Ends.{OnRefused, OnUnread, stop_status, stop_line, talk_status, why_text}
+use Rattle.kubeconv_cmd.specs.Outcome.{World, OfTexts, OfInput, OfFile, HasLoaded, HasLoadedBy, HasHandedOn, Says, IsSilent, HearsNobody, AnswersSo, AnswersSoBy, Stopped, unreadable, refused, wanting, StoppedBy, unreadable_file, refused_file, wanting_memory, addressless, PipeOutcome, PipeByOutcome, talked, unserved, TaskOutcome, wrote_line, broke_line, refused_input, unread_input, wanting_task, unloaded_task, DrillOutcome, wrote_drill, broke_drill, wanting_drill, ServeOutcome, ServeByOutcome, answered, answered_fewer, unheard, untold, wanting_service, unloaded_service, MigratedAt, MigrateOutcome, settled, contested, broke_tally, forgotten, misanswered, unlinked, wanting_migration, placeless, Unplaced, wanting_place, bad_place, DumpOutcome, dumped, undumped, TellsCounts, LoadOutcome, restored, broke_counts, unloaded, IsPlaceless, Outcome, FilesFail, InputFails, OutputFails, EarsFail, FilesStay, InputStays, OutputStays, EarsStay}
+use Rattle.kubeconv_cmd.specs.inner.Ends.{OnBadAddress, OnRefused, OnStopped, OnUnread, stop_status, stop_line, talk_status, unconverted_line, unconverted_status, why_text}
 use Rattle.kubeconv_cmd.specs.inner.Halts.{OnHalt, Unwritten, task_status, task_line}
 use Rattle.kubeconv_cmd.specs.inner.Served.{OnUnheard, UnlessUnheard, OnUntold, Silent, served_status}
 use Rattle.kubeconv_cmd.specs.declared.pipe.PipeEnd.{PipeEnd}
 use Rattle.kubeconv_cmd.specs.declared.pipe.PipeEnd.TheVariants.{Closed, Torn, Refused, Spent, ReadFault, WriteFault}
 use Rattle.kubeconv_cmd.specs.declared.stop.Stop.{Stop}
 use Rattle.kubeconv_cmd.specs.declared.stop.Stop.TheVariants as stops
+use Rattle.kubeconv_cmd.specs.declared.stop.Unconverted.{Unconverted}
+use Rattle.kubeconv_cmd.specs.declared.stop.Unconverted.TheVariants as unconverted
 use Rattle.kubeconv_cmd.specs.declared.halt.Halt.{Halt}
 use Rattle.kubeconv_cmd.specs.declared.halt.Halt.TheVariants as halts
 use Rattle.kubeconv_cmd.specs.declared.serve_line.Unserved.{Unserved}
@@ -91,6 +96,73 @@ pub pipe_outcome : {F S K A : Type 0} (w : World F S K A) (named : Named) (turns
 pipe_outcome w named turns (Ok end) s loaded talk blames flushed untouched same is =
     talked loaded (record { end = end; conversed = talk; blames = blames; hands_on = flushed; is_status = is })
 pipe_outcome w named turns (Err e) s loaded talk blames flushed untouched same is = unserved (wanting is) untouched.0 (silent_so w untouched.1 same)
+
+-- ---- a definition with a converter
+
+-- why the line did nothing
+pub stopped_by : {F S K A : Type 0} (w : World F S K A) (c : Conversion) (fault : Unconverted) (s : ℕ)
+    → OfFile w c (λ crd. OnStopped fault (λ stop. OnRefused stop (λ name why. (name ≡ c.crd) × RefusesConverted crd c.hub why)))
+    → OnStopped fault (λ stop. OnUnread stop (FilesFail w)) → OnBadAddress fault (((a : AddressView) → IsAddress c.url a → ⊥) × (FilesStay w)) → (EarsStay w)
+    → s ≡ unconverted_status fault → Says w (unconverted_line fault) → StoppedBy w c s
+stopped_by w c unconverted.BadAddress s bad fails none ears is says = addressless is none.0 none.1 ears
+stopped_by w c (unconverted.Stopped stops.ReadFailed) s bad fails none ears is says = unreadable_file is fails
+stopped_by w c (unconverted.Stopped (stops.Refused file why)) s bad fails none ears is says =
+    refused_file file.now (why_text why) is bad says
+stopped_by w c (unconverted.Stopped stops.NoMemory) s bad fails none ears is says = wanting_memory is
+
+pub unconverted_says : (fault : Unconverted) (s : ℕ) → s ≡ unconverted_status fault → s ≢ REFUSED → unconverted_line fault ≡ error_line s
+unconverted_says unconverted.BadAddress s is other = ap error_line (sym is)
+unconverted_says (unconverted.Stopped stop) s is other = stopped_line stop s is other
+
+-- the definition that was loaded is that of the file
+abbrev pub FoundBy : {F S K A : Type 0} → World F S K A → Conversion → Definition → Type 0
+FoundBy w c d = OfFile w c (λ crd. LoadsHook crd c.hub d)
+
+loaded_by : {F S K A : Type 0} (w : World F S K A) (c : Conversion) (d : Definition) → OfFile w c (λ crd. IsText crd) → FoundBy w c d
+    → (a : AddressView) × IsAddress c.url a → HasLoadedBy w c
+loaded_by w c d texts found address = (λ crd is. ((texts crd is).short, d, found crd is), address)
+
+pub pipe_by_outcome : {F S K A : Type 0} (w : World F S K A) (c : Conversion) (d : Definition) (turns : ℕ) (came : Result PipeEnd NoMemory) (s : ℕ) → OfFile w c (λ crd. IsText crd) → FoundBy w c d → (a : AddressView) × IsAddress c.url a
+    → ((b : List ℕ) → w.input ≡ Some b → IfOk came (Conversed (front_of (converted_meaning d) w.start) (MayRise converter_faults) turns b w.written_before w.written))
+    → IfOk came (λ end. Blames end (InputFails w) (OutputFails w)) → IfOk came (λ end. UnlessUnwritten (link_end end) (HasHandedOn w))
+    → OnErr came ((InputStays w) × (OutputStays w)) → StaysSilent w
+    → s ≡ talk_status came → PipeByOutcome w c turns s
+pipe_by_outcome w c d turns (Ok end) s texts found address talk blames flushed untouched same is =
+    talked (loaded_by w c d texts found address) (record {
+      end = end;
+      conversed = λ crd b file input. record { definition = d; loads = found crd file; conversed = talk b input };
+      blames = blames;
+      hands_on = flushed;
+      is_status = is;
+    })
+pipe_by_outcome w c d turns (Err e) s texts found address talk blames flushed untouched same is = unserved (wanting_memory is) untouched.0 (silent_so w untouched.1 same)
+
+-- so many connections were answered by it
+abbrev pub AnsweredBy : {F S K A : Type 0} → World F S K A → Definition → ℕ → Type 0
+AnsweredBy w d count = AnsweredAll converter_faults (converted_meaning d) w.start count w.handed_before w.handed w.returned_before w.returned
+
+serves_by : {F S K A : Type 0} (w : World F S K A) (c : Conversion) (d : Definition) (count : ℕ) → FoundBy w c d → AnsweredBy w d count → AnswersSoBy w c count
+serves_by w c d count found answers crd file = record { definition = d; loads = found crd file; answered = answers }
+
+heard_fewer_by : {F S K A : Type 0} (w : World F S K A) (c : Conversion) (connections : Option ℕ) (d : Definition) (s : ℕ) → HasLoadedBy w c → FoundBy w c d → s ≡ LISTEN_FAILED → (EarsFail w)
+    → (w.written ≡ w.written_before) ⊎ Told w.written_before w.written
+    → HearsNobody w ⊎ ((count : ℕ) × IfSome connections (λ n. count < n) × AnsweredBy w d count × Announced w.written_before w.written w.flushed)
+    → ServeByOutcome w c connections s
+heard_fewer_by w c connections d s loaded found is fails silent (inl nobody) = unheard is fails loaded silent nobody
+heard_fewer_by w c connections d s loaded found is fails silent (inr f) = answered_fewer f.0 is fails f.1 loaded f.3 (serves_by w c d f.0 found f.2)
+
+pub serve_by_outcome : {F S K A : Type 0} (w : World F S K A) (c : Conversion) (connections : Option ℕ) (d : Definition) (came : Result Unit Unserved) (s : ℕ)
+    → OfFile w c (λ crd. IsText crd) → FoundBy w c d → (a : AddressView) × IsAddress c.url a
+    → OnOk came ((count : ℕ) × (connections ≡ Some count) × AnsweredBy w d count) → OnOk came (Announced w.written_before w.written w.flushed)
+    → IfErr came (Silent (w.written ≡ w.written_before) (ToldSome w.written_before w.written) (Told w.written_before w.written))
+    → IfErr came (OnUnheard ((EarsFail w) × (HearsNobody w ⊎ ((count : ℕ) × IfSome connections (λ n. count < n) × AnsweredBy w d count × Announced w.written_before w.written w.flushed))))
+    → IfErr came (OnUntold (OutputFails w)) → IfErr came (UnlessUnheard (HearsNobody w))
+    → s ≡ served_status came → ServeByOutcome w c connections s
+serve_by_outcome w c connections d (Ok u) s texts found address done told silent fewer front untouched is = answered done.0 is done.1 (loaded_by w c d texts found address) told (serves_by w c d done.0 found done.2)
+serve_by_outcome w c connections d (Err ends.NotListening) s texts found address done told silent fewer front untouched is =
+    heard_fewer_by w c connections d s (loaded_by w c d texts found address) found is fewer.0 silent fewer.1
+serve_by_outcome w c connections d (Err ends.WriteFailed) s texts found address done told silent fewer front untouched is = untold is front (loaded_by w c d texts found address) silent untouched
+serve_by_outcome w c connections d (Err ends.NoMemory) s texts found address done told silent fewer front untouched is = wanting_service is silent untouched
 
 -- ---- `convert` and `review`
 
@@ -364,7 +436,37 @@ only_placeless w url s (unlinked is at silent) e = absurd (omega (arith, is, e))
 only_placeless w url s (wanting_migration is silent) e = absurd (omega (arith, is, e))
 only_placeless w url s (placeless is none stays silent) e = (none, silent.0)
 
--- a line whose words are told to be bad has a place that is none, and touches nothing
+only_addressless : {F S K A : Type 0} (w : World F S K A) (c : Conversion) (s : ℕ) → StoppedBy w c s → s ≡ BAD_WORDS → ((a : AddressView) → IsAddress c.url a → ⊥) × (FilesStay w) × (EarsStay w)
+only_addressless w c s (unreadable_file is fails) e = absurd (omega (arith, is, e))
+only_addressless w c s (refused_file name why is bad says) e = absurd (omega (arith, is, e))
+only_addressless w c s (wanting_memory is) e = absurd (omega (arith, is, e))
+only_addressless w c s (addressless is none files ears) e = (none, files, ears)
+
+pub never_held : (came : Result PipeEnd NoMemory) (s : ℕ) → s ≡ talk_status came → s ≡ BAD_WORDS → ⊥
+never_held (Ok end) s is e = never_talked end s is e
+never_held (Err fault) s is e = omega (arith, is, e)
+
+pub never_connected : (came : Result Unit Unserved) (s : ℕ) → s ≡ served_status came → s ≡ BAD_WORDS → ⊥
+never_connected (Ok u) s is e = omega (arith, is, e)
+never_connected (Err ends.NotListening) s is e = omega (arith, is, e)
+never_connected (Err ends.WriteFailed) s is e = omega (arith, is, e)
+never_connected (Err ends.NoMemory) s is e = omega (arith, is, e)
+
+only_piped_by : {F S K A : Type 0} (w : World F S K A) (c : Conversion) (turns s : ℕ) → PipeByOutcome w c turns s → s ≡ BAD_WORDS
+    → ((a : AddressView) → IsAddress c.url a → ⊥) × (FilesStay w) × (InputStays w) × (OutputStays w)
+only_piped_by w c turns s (talked loaded held) e = absurd (never_talked held.end s held.is_status e)
+only_piped_by w c turns s (unserved stopped input output) e = let found = only_addressless w c s stopped e in (found.0, found.1, input, output.0)
+
+only_served_by : {F S K A : Type 0} (w : World F S K A) (c : Conversion) (connections : Option ℕ) (s : ℕ) → ServeByOutcome w c connections s → s ≡ BAD_WORDS
+    → ((a : AddressView) → IsAddress c.url a → ⊥) × (FilesStay w) × (OutputStays w) × (EarsStay w)
+only_served_by w c connections s (answered count is all loaded told serves) e = absurd (omega (arith, is, e))
+only_served_by w c connections s (answered_fewer count is fails few loaded told serves) e = absurd (omega (arith, is, e))
+only_served_by w c connections s (unheard is fails loaded told nobody) e = absurd (omega (arith, is, e))
+only_served_by w c connections s (untold is fails loaded told nobody) e = absurd (omega (arith, is, e))
+only_served_by w c connections s (wanting_service is told nobody) e = absurd (omega (arith, is, e))
+only_served_by w c connections s (unloaded_service stopped silent nobody) e = let found = only_addressless w c s stopped e in (found.0, found.1, silent.0, found.2)
+
+-- a line whose words are told to be bad has a place or a converter's address that is none, and touches nothing
 pub bad_words : {F S K A : Type 0} (w : World F S K A) (line : Line) (s : ℕ) → Outcome w line s → s ≡ BAD_WORDS → IsPlaceless line × (FilesStay w) × (InputStays w) × (OutputStays w) × (EarsStay w)
 bad_words w (pipe named turns) s out e = absurd (never_piped w named turns s out.0 e)
 bad_words w (task c r t) s out e = absurd (never_tasked w _ t s out.0 e)
@@ -372,4 +474,6 @@ bad_words w (drill start count) s out e = absurd (never_drilled w start count s 
 bad_words w (serve v) s out e = absurd (never_served w _ v.connections s out.0 e)
 bad_words w (remote migrate url) s out e = let found = only_placeless w url s out.0 e in (found.0, out.1, out.2, found.1, out.3)
 bad_words w (remote dump url) s out e = let found = only_undumped w url s out.0 e in (found.0, out.1, out.2, found.1, out.3)
+bad_words w (pipe_by c turns) s out e = let found = only_piped_by w c turns s out.0 e in (found.0, found.1, found.2, found.3, out.1)
+bad_words w (serve_by c l) s out e = let found = only_served_by w c l.connections s out.0 e in (found.0, found.1, out.1, found.2, found.3)
 bad_words w (remote load url) s out e = let found = only_unloaded w url s out.0 e in (found.0, out.1, found.1, found.2, out.2)

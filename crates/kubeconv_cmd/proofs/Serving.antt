@@ -17,7 +17,7 @@ use Rattle.shared_api.specs.Base.{server_of}
 use Rattle.shared_api.specs.Passes.{ApiOf}
 use Rattle.shared_api.specs.declared.cell.CoreBase.{CoreBase}
 use Rattle.http_front.specs.Link.{Links}
-use Rattle.kubeconv_cmd.specs.Serving.{At, AnswersAndWorks, Conversed, Converses, Start, front_of, link_end, meaning_of, opening}
+use Rattle.kubeconv_cmd.specs.Serving.{At, AnswersAndWorks, Conversed, Converses, MayRise, Start, front_of, link_end, meaning_of, no_faults, opening}
 use Rattle.kubeconv_cmd.specs.declared.pipe.PipeEnd.{PipeEnd}
 
 -- the first pass of a server has the number 0, and is alone
@@ -28,37 +28,37 @@ pub first_alone : {B : Type 0} (base : B) (v : View B) → v ≡ opening_view ba
 first_alone {B = B} base v new = subst (λ (w : View B). IsAlone w) (sym new) refl
 
 -- What the server has of its definition, its limits and its number is what it was opened with, and its first pass has seen nothing.
-pub opened : {V : Type 0} (meaning : V → Meaning) (a : ApiOf (CoreBase V)) (v : View (CoreBase V)) (versions : V) (start : Start) (turns : ℕ) (b : List ℕ)
+pub opened : {V : Type 0} (meaning : V → Meaning) (a : ApiOf (CoreBase V)) (v : View (CoreBase V)) (versions : V) (start : Start) (fails : Type 0) (turns : ℕ) (b : List ℕ)
     (left before written : Option (List ℕ)) (end : PipeEnd) (after : At)
     → a.base ≡ record { versions = versions; limits = STANDING; boot = start.boot } → v ≡ opening_view a.base → left ≡ Some b
     → legal (meaning a.base.versions) a.base.limits after.log
-    → Links (AnswersAndWorks (record { server = server_of meaning a.base; told = start.told }) turns) MOST_REQUESTS ⊥ (link_end end)
+    → Links (AnswersAndWorks (record { server = server_of meaning a.base; told = start.told }) fails turns) MOST_REQUESTS ⊥ (link_end end)
     (record { log = items v.seen; claim = None }) after left before written
-    → Conversed (front_of (meaning versions) start) turns b before written end
-opened {V = V} meaning a v versions start turns b left before written end after base new known guards link = (
+    → Conversed (front_of (meaning versions) start) fails turns b before written end
+opened {V = V} meaning a v versions start fails turns b left before written end after base new known guards link = (
   after,
   subst (λ (c : CoreBase V). legal (meaning c.versions) c.limits after.log) base guards,
-  subst (λ (k : Option (List ℕ)). Links (AnswersAndWorks (front_of (meaning versions) start) turns) MOST_REQUESTS ⊥ (link_end end) opening after k before written) known
-      (subst (λ (c : CoreBase V). Links (AnswersAndWorks (record { server = server_of meaning c; told = start.told }) turns) MOST_REQUESTS ⊥ (link_end end) opening after left before written) base
-      (subst (λ (w : View (CoreBase V)). Links (AnswersAndWorks (record { server = server_of meaning a.base; told = start.told }) turns) MOST_REQUESTS ⊥ (link_end end)
+  subst (λ (k : Option (List ℕ)). Links (AnswersAndWorks (front_of (meaning versions) start) fails turns) MOST_REQUESTS ⊥ (link_end end) opening after k before written) known
+      (subst (λ (c : CoreBase V). Links (AnswersAndWorks (record { server = server_of meaning c; told = start.told }) fails turns) MOST_REQUESTS ⊥ (link_end end) opening after left before written) base
+      (subst (λ (w : View (CoreBase V)). Links (AnswersAndWorks (record { server = server_of meaning a.base; told = start.told }) fails turns) MOST_REQUESTS ⊥ (link_end end)
       (record { log = items w.seen; claim = None }) after left before written) new link)),
 )
 
 -- a definition that was loaded means what its texts do
 pub converses : (crd rules : List ℕ) (turns : ℕ) (start : Start) (b : List ℕ) (before written : Option (List ℕ)) (end : PipeEnd) (d : Definition) (l : LoadedView)
     → Loads crd rules l → d ≡ set_of l
-    → Conversed (front_of (meaning_of d) start) turns b before written end
+    → Conversed (front_of (meaning_of d) start) (MayRise no_faults) turns b before written end
     → Converses crd rules turns start b before written end
 converses crd rules turns start b before written end d l loads is talk = record {
   loaded = l;
   loads = loads;
-  conversed = subst (λ (x : Definition). Conversed (front_of (meaning_of x) start) turns b before written end) is talk;
+  conversed = subst (λ (x : Definition). Conversed (front_of (meaning_of x) start) (MayRise no_faults) turns b before written end) is talk;
 }
 
 -- however it ended
 pub converses_at : (result : Result PipeEnd NoMemory) (crd rules : List ℕ) (turns : ℕ) (start : Start) (b : List ℕ) (before written : Option (List ℕ)) (d : Definition) (l : LoadedView)
     → Loads crd rules l → d ≡ set_of l
-    → IfOk result (Conversed (front_of (meaning_of d) start) turns b before written)
+    → IfOk result (Conversed (front_of (meaning_of d) start) (MayRise no_faults) turns b before written)
     → IfOk result (Converses crd rules turns start b before written)
 converses_at (Ok end) crd rules turns start b before written d l loads is talk = converses crd rules turns start b before written end d l loads is talk
 converses_at (Err e) crd rules turns start b before written d l loads is talk = tt

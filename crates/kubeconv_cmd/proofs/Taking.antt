@@ -15,6 +15,8 @@ use Rattle.crd_versions.specs.Set.{definition_of}
 use Rattle.crd_versions.specs.declared.set.VersionSet.{VersionSet}
 use Rattle.command_lines.specs.Lines.{from_files}
 use Rattle.kubeconv_cmd.specs.Refusal.{IsText, IsUnfit, IsFirstRefused, IsServed, DontLoad, file_of}
+use Rattle.hook_versions.specs.Loads.{RefusesHook}
+use Rattle.kubeconv_cmd.specs.Converting.{DoesntLoad, RefusesConverted}
 use Rattle.kubeconv_cmd.specs.inner.Ends.{OnRefused}
 use Rattle.kubeconv_cmd.specs.declared.stop.Stop.{Stop}
 use Rattle.kubeconv_cmd.specs.declared.stop.Stop.TheVariants as stops
@@ -63,3 +65,27 @@ pub served : (result : Result VersionSet Stop) (crd rules k r : List ℕ) → On
     → OnOk result (IsServed (from_files crd rules) k r)
 served (Ok s) crd rules k r texts loads = (texts.0.short, texts.1.short, loads.0, loads.1)
 served (Err stop) crd rules k r texts loads = tt
+
+-- ---- a definition with a converter
+
+-- no rules are refused of it
+pub no_rules : (crd hub : List ℕ) (fault : LoadFault) (which : Which) (path word : Txt) → RefusesHook crd hub fault → fault ≡ faults.Refused which path word → which ≡ Rules → ⊥
+no_rules crd hub (faults.Refused Crd p w) which path word bad is rules = cc
+no_rules crd hub (faults.Refused Rules p w) which path word bad is rules = bad
+no_rules crd hub faults.NoMemory which path word bad is rules = cc
+
+-- its file isn't taken
+pub file_unfit : (stop : Stop) (crd k hub : List ℕ) → OnRefused stop (λ name why. (name ≡ crd) × IsUnfit k why)
+    → OnRefused stop (λ name why. (name ≡ crd) × RefusesConverted k hub why)
+file_unfit stops.ReadFailed crd k hub bad = tt
+file_unfit (stops.Refused file why) crd k hub bad = (bad.0, inl bad.1)
+file_unfit stops.NoMemory crd k hub bad = tt
+
+-- it is taken, and doesn't load
+pub file_unloaded : {X : Type 0} (result : Result X Stop) (crd k hub : List ℕ) → IsText k
+    → IfErr result (λ stop. OnRefused stop (λ name why. IsText k → (name ≡ crd) × DoesntLoad k hub why))
+    → IfErr result (λ stop. OnRefused stop (λ name why. (name ≡ crd) × RefusesConverted k hub why))
+file_unloaded (Ok s) crd k hub text bad = tt
+file_unloaded (Err stops.ReadFailed) crd k hub text bad = tt
+file_unloaded (Err (stops.Refused file why)) crd k hub text bad = let found = bad text in (found.0, inr found.1)
+file_unloaded (Err stops.NoMemory) crd k hub text bad = tt

@@ -4,7 +4,6 @@ use Rattle.kube_meta.specs.declared.limits.TheConstants.Limits.{STANDING}
 use Rattle.api_calls.specs.Item.{Logged}
 use Rattle.api_calls.specs.Legal.{IsLegal}
 use Rattle.api_calls.specs.Meaning.{Meaning}
-use Rattle.api_calls.specs.declared.tool.NoTool.{NoTool}
 use Rattle.edge_io.specs.Connections.{Origin, Ending}
 use Rattle.crd_loading.specs.Load.{Loads}
 use Rattle.crd_loading.specs.View.{LoadedView}
@@ -12,16 +11,12 @@ use Rattle.serve_spans.specs.Owners.{At, Within, IsWork}
 use Rattle.serve_spans.specs.Served.{Among, origins_of, HandsOutAll, AddsAll}
 use Rattle.serve_spans.specs.Spans.{Span, AllServed, AreApart}
 use Rattle.serve_many.specs.Answered.{IsAnswered}
-use Rattle.kubeconv_cmd.specs.Serving.{Start, front_of, served_meaning}
-
--- there is no tool that could fail
-abbrev pub no_faults : NoTool → ℕ
-no_faults tool = 0
+use Rattle.kubeconv_cmd.specs.Serving.{Start, front_of, no_faults, served_meaning}
 
 -- So many connections were handed out, and as many were given back. One list tells what they were answered: it is legal, begins with
 -- nothing entered, and has for each connection a span in which one pass served it. No two share an item, and each item is one of a
--- connection's or a worker's.
-pub record AnsweredAll (m : Meaning) (start : Start) (count : ℕ) (h0 handed : Option (List Origin)) (g0 given : Option (List Ending)) : Type 0 where
+-- connection's or a worker's. Each pass has a tool, whose faults are counted so.
+pub record AnsweredAll {A : Type 0} (faults : A → ℕ) (m : Meaning) (start : Start) (count : ℕ) (h0 handed : Option (List Origin)) (g0 given : Option (List Ending)) : Type 0 where
   pub log : List Logged
   pub legal : IsLegal m STANDING log
   pub origins : List (Option Origin)
@@ -31,12 +26,12 @@ pub record AnsweredAll (m : Meaning) (start : Start) (count : ℕ) (h0 handed : 
   pub given_back : AddsAll g0 endings given
   pub counted : (length origins ≡ count) × (length endings ≡ count)
   pub each : (o : Option Origin) → Among o origins → Among o (origins_of endings)
-  pub served : AllServed (IsAnswered no_faults (front_of m start)) log endings spans
+  pub served : AllServed (IsAnswered faults (front_of m start)) log endings spans
   pub apart : AreApart spans
   pub owned : (i : ℕ) (x : Logged) → At log i x → Within spans i x ⊎ IsWork x.item
 
--- the same by the definition and the rules that two texts are
+-- the same by the definition and the rules that two texts are, without a tool
 pub record ServesAll (crd rules : List ℕ) (start : Start) (count : ℕ) (h0 handed : Option (List Origin)) (g0 given : Option (List Ending)) : Type 0 where
   pub loaded : LoadedView
   pub loads : Loads crd rules loaded
-  pub answered : AnsweredAll (served_meaning loaded) start count h0 handed g0 given
+  pub answered : AnsweredAll no_faults (served_meaning loaded) start count h0 handed g0 given

@@ -3,6 +3,7 @@ pub mod Tasks
 pub mod Listening
 pub mod Serving
 pub mod Beside
+pub mod Converting
 pub mod Outcome
 pub mod Status
 pub mod Refusal

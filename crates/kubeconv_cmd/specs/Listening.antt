@@ -2,7 +2,7 @@
 use Rattle.std.specs.Prelude.{◌≡◌, ◌⊎◌, ◌++◌, ℕ, List, Option, codes}
 use Rattle.std.specs.Io.KnownBytes.{append_known}
 use Rattle.edge_io.specs.Sends.{AddsSome}
-use Rattle.command_lines.specs.Lines.{Line, Service, pipe, task, drill, serve, remote}
+use Rattle.command_lines.specs.Lines.{Line, pipe, task, drill, serve, remote, pipe_by, serve_by}
 use Rattle.kubeconv_cmd.specs.Tasks.{ended_line}
 
 -- the line that names a place
@@ -33,9 +33,11 @@ pub record Names (may : List ℕ → Type 0) (before written : Option (List ℕ)
 abbrev pub NamesPlace : (List ℕ → Type 0) → Option (List ℕ) → Option (List ℕ) → Type 0
 NamesPlace may before written = (written ≡ before) ⊎ Names may before written
 
--- of a line of `serve`
-abbrev pub IfServes : Line → (Service → Type 0) → Type 0
-IfServes (serve s) p = p s
+-- of the place of a line of `serve`
+abbrev pub IfServes : Line → (List ℕ → Type 0) → Type 0
+IfServes (serve s) p = p s.place
+IfServes (serve_by c l) p = p l.place
+IfServes (pipe_by c turns) p = Unit {0}
 IfServes (pipe named turns) p = Unit {0}
 IfServes (task crd rules t) p = Unit {0}
 IfServes (drill start count) p = Unit {0}

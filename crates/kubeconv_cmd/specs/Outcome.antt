@@ -2,6 +2,7 @@
 use Rattle.std.specs.Prelude.{◌≡◌, ◌<◌, ◌⊎◌, ⊤, ℕ, List, Option, Some, IfSome}
 use Rattle.edge_io.specs.Sends.{AddsSome}
 use Rattle.tcp_links.specs.Links.{Ending as LinkEnding}
+use Rattle.http_address.specs.Address.{AddressView, IsAddress}
 use Rattle.place.specs.Place.{IsPlace, Names, PlaceView}
 use Rattle.far_migrate.specs.Counts.{Counts, answer, link, restarted}
 use Rattle.far_migrate.specs.Puts.{Handled, all, failed}
@@ -16,14 +17,16 @@ use Rattle.far_lines.specs.Loaded.{LoadedAt, count_lines}
 use Rattle.std.specs.Io.KnownBytes.{append_known, IsAtEnd}
 use Rattle.edge_io.specs.Causes.{Rose}
 use Rattle.edge_io.specs.Connections.{Origin, Ending}
-use Rattle.command_lines.specs.Lines.{Named, from_files, example, Task, Line, pipe, task, drill, serve, migrate, dump, load, remote}
+use Rattle.command_lines.specs.Lines.{Named, from_files, example, Conversion, Task, Line, pipe, task, drill, serve, migrate, dump, load, remote, pipe_by, serve_by}
 use Rattle.kubeconv_cmd.specs.Texts.{Texts}
 use Rattle.kubeconv_cmd.specs.Listening.{Told, ToldSome, Announced}
 use Rattle.kubeconv_cmd.specs.Beside.{ServesAll}
+use Rattle.kubeconv_cmd.specs.Converting.{ConversesBy, IsConvertible, RefusesConverted, ServesAllBy}
 use Rattle.kubeconv_cmd.specs.Tasks.{AnswersTexts, RefusesTexts, Wrote, Broke}
 use Rattle.kubeconv_cmd.specs.Serving.{Start, Converses, DrillsTexts, WasHeld}
 use Rattle.kubeconv_cmd.specs.Refusal.{RefusesNamed, IsServed}
 use Rattle.kubeconv_cmd.specs.Status.{answer_line, dump_status, dump_error_line, line_saying, refusal_line, restore_status, restore_error_line}
+use Rattle.kubeconv_cmd.specs.declared.pipe.PipeEnd.{PipeEnd}
 use Rattle.kubeconv_cmd.specs.declared.status.TheConstants.{DONE, BAD_WORDS, REFUSED, BAD_INPUT, READ_FAILED, WRITE_FAILED, NO_MEMORY, LISTEN_FAILED, LINK_FAILED, BAD_ANSWER, UNSETTLED}
 
 -- ---- the outside
@@ -115,6 +118,18 @@ OfInput w named P = (crd rules b : List ℕ) → Texts w.file named crd rules �
 abbrev pub HasLoaded : {F S K A : Type 0} → World F S K A → Named → Type 0
 HasLoaded w named = OfTexts w named (λ crd rules. IsServed named crd rules)
 
+-- P holds of the text of the file of a definition with a converter, where the files tell it
+abbrev pub OfFile : {F S K A : Type 0} → World F S K A → Conversion → (List ℕ → Type 0) → Type 0
+OfFile w c P = (crd : List ℕ) → w.file c.crd ≡ Some crd → P crd
+
+-- P holds of it and of the bytes of the input, where the input tells them too
+abbrev pub OfFileAndInput : {F S K A : Type 0} → World F S K A → Conversion → (List ℕ → List ℕ → Type 0) → Type 0
+OfFileAndInput w c P = (crd b : List ℕ) → w.file c.crd ≡ Some crd → w.input ≡ Some b → P crd b
+
+-- the text is a definition that has the hub, it was loaded, and the address is one
+abbrev pub HasLoadedBy : {F S K A : Type 0} → World F S K A → Conversion → Type 0
+HasLoadedBy w c = OfFile w c (λ crd. IsConvertible crd c.hub) × ((a : AddressView) × IsAddress c.url a)
+
 -- this was written on the error stream, unless that failed
 abbrev pub Says : {F S K A : Type 0} → World F S K A → List ℕ → Type 0
 Says w line = ¬ (ErrorsFail w) → w.said ≡ append_known w.said_before line
@@ -147,15 +162,29 @@ pub data Stopped {F S K A : Type 0} (w : World F S K A) (named : Named) (status 
   refused : status ≡ REFUSED → BlamesFile w named → Stopped w named status
   wanting : status ≡ NO_MEMORY → Stopped w named status
 
+-- Why a line with a converter did nothing: the same, of its one file; or the text isn't the address of a converter, and nothing was touched.
+pub data StoppedBy {F S K A : Type 0} (w : World F S K A) (c : Conversion) (status : ℕ) : Type 0 where
+  unreadable_file : status ≡ READ_FAILED → (FilesFail w) → StoppedBy w c status
+  refused_file : (name why : List ℕ) → status ≡ REFUSED → OfFile w c (λ crd. (name ≡ c.crd) × RefusesConverted crd c.hub why) → Says w (refusal_line name why) → StoppedBy w c status
+  wanting_memory : status ≡ NO_MEMORY → StoppedBy w c status
+  addressless : status ≡ BAD_WORDS → ((a : AddressView) → IsAddress c.url a → ⊥) → (FilesStay w) → (EarsStay w) → StoppedBy w c status
+
 -- ---- each line
 
-pub data PipeOutcome {F S K A : Type 0} (w : World F S K A) (named : Named) (turns status : ℕ) : Type 0 where
+-- Where there is a definition, `loaded` says so, and `converses` that a conversation was held by it to an end; and `stopped` why there is none.
+pub data HeldOutcome {F S K A : Type 0} (w : World F S K A) (loaded : Type 0) (converses : PipeEnd → Type 0) (stopped : Type 0) (status : ℕ) : Type 0 where
   -- a conversation was held to some end
-  talked : HasLoaded w named
-      → WasHeld (λ end. OfInput w named (λ crd rules b. Converses crd rules turns w.start b w.written_before w.written end)) (InputFails w) (OutputFails w) (HasHandedOn w) status
-      → PipeOutcome w named turns status
+  talked : loaded → WasHeld converses (InputFails w) (OutputFails w) (HasHandedOn w) status → HeldOutcome w loaded converses stopped status
   -- none was: nothing was read of the input, and nothing written
-  unserved : Stopped w named status → (InputStays w) → IsSilent w → PipeOutcome w named turns status
+  unserved : stopped → (InputStays w) → IsSilent w → HeldOutcome w loaded converses stopped status
+
+abbrev pub PipeOutcome : {F S K A : Type 0} → World F S K A → Named → ℕ → ℕ → Type 0
+PipeOutcome w named turns status =
+    HeldOutcome w (HasLoaded w named) (λ end. OfInput w named (λ crd rules b. Converses crd rules turns w.start b w.written_before w.written end)) (Stopped w named status) status
+
+abbrev pub PipeByOutcome : {F S K A : Type 0} → World F S K A → Conversion → ℕ → ℕ → Type 0
+PipeByOutcome w c turns status =
+    HeldOutcome w (HasLoadedBy w c) (λ end. OfFileAndInput w c (λ crd b. ConversesBy crd c.hub turns w.start b w.written_before w.written end)) (StoppedBy w c status) status
 
 pub data TaskOutcome {F S K A : Type 0} (w : World F S K A) (named : Named) (t : Task) (status : ℕ) : Type 0 where
   -- the whole input was read, and its line was written and handed on
@@ -187,24 +216,34 @@ pub data DrillOutcome {F S K A : Type 0} (w : World F S K A) (start count status
 abbrev pub AnswersSo : {F S K A : Type 0} → World F S K A → Named → ℕ → Type 0
 AnswersSo w named count = OfTexts w named (λ crd rules. ServesAll crd rules w.start count w.handed_before w.handed w.returned_before w.returned)
 
+abbrev pub AnswersSoBy : {F S K A : Type 0} → World F S K A → Conversion → ℕ → Type 0
+AnswersSoBy w c count = OfFile w c (λ crd. ServesAllBy crd c.hub w.start count w.handed_before w.handed w.returned_before w.returned)
+
 -- nothing was written, or it was told where connections come
 abbrev pub MayHaveTold : {F S K A : Type 0} → World F S K A → Type 0
 MayHaveTold w = (w.written ≡ w.written_before) ⊎ Told w.written_before w.written
 
-pub data ServeOutcome {F S K A : Type 0} (w : World F S K A) (named : Named) (connections : Option ℕ) (status : ℕ) : Type 0 where
+-- Where there is a definition, `loaded` says so, and `answers` that so many connections were answered by it; and `stopped` why there is none.
+pub data ServiceOutcome {F S K A : Type 0} (w : World F S K A) (loaded : Type 0) (answers : ℕ → Type 0) (stopped : Type 0) (connections : Option ℕ) (status : ℕ) : Type 0 where
   -- it was told where connections come, and then as many were answered as were asked for
-  answered : (count : ℕ) → status ≡ DONE → connections ≡ Some count → HasLoaded w named → Announced w.written_before w.written w.flushed → AnswersSo w named count
-      → ServeOutcome w named connections status
+  answered : (count : ℕ) → status ≡ DONE → connections ≡ Some count → loaded → Announced w.written_before w.written w.flushed → answers count
+      → ServiceOutcome w loaded answers stopped connections status
   -- it was told, and fewer were answered than were asked for, as no further one could be had
-  answered_fewer : (count : ℕ) → status ≡ LISTEN_FAILED → (EarsFail w) → IfSome connections (λ n. count < n) → HasLoaded w named
-      → Announced w.written_before w.written w.flushed → AnswersSo w named count → ServeOutcome w named connections status
+  answered_fewer : (count : ℕ) → status ≡ LISTEN_FAILED → (EarsFail w) → IfSome connections (λ n. count < n) → loaded
+      → Announced w.written_before w.written w.flushed → answers count → ServiceOutcome w loaded answers stopped connections status
   -- nobody can listen at the place, or no connection could be had
-  unheard : status ≡ LISTEN_FAILED → (EarsFail w) → HasLoaded w named → MayHaveTold w → HearsNobody w → ServeOutcome w named connections status
+  unheard : status ≡ LISTEN_FAILED → (EarsFail w) → loaded → MayHaveTold w → HearsNobody w → ServiceOutcome w loaded answers stopped connections status
   -- a front of where connections come was written, and then the output failed
-  untold : status ≡ WRITE_FAILED → (OutputFails w) → HasLoaded w named → ToldSome w.written_before w.written → HearsNobody w → ServeOutcome w named connections status
+  untold : status ≡ WRITE_FAILED → (OutputFails w) → loaded → ToldSome w.written_before w.written → HearsNobody w → ServiceOutcome w loaded answers stopped connections status
   -- memory was wanted before any connection came
-  wanting_service : status ≡ NO_MEMORY → MayHaveTold w → HearsNobody w → ServeOutcome w named connections status
-  unloaded_service : Stopped w named status → IsSilent w → HearsNobody w → ServeOutcome w named connections status
+  wanting_service : status ≡ NO_MEMORY → MayHaveTold w → HearsNobody w → ServiceOutcome w loaded answers stopped connections status
+  unloaded_service : stopped → IsSilent w → HearsNobody w → ServiceOutcome w loaded answers stopped connections status
+
+abbrev pub ServeOutcome : {F S K A : Type 0} → World F S K A → Named → Option ℕ → ℕ → Type 0
+ServeOutcome w named connections status = ServiceOutcome w (HasLoaded w named) (AnswersSo w named) (Stopped w named status) connections status
+
+abbrev pub ServeByOutcome : {F S K A : Type 0} → World F S K A → Conversion → Option ℕ → ℕ → Type 0
+ServeByOutcome w c connections status = ServiceOutcome w (HasLoadedBy w c) (AnswersSoBy w c) (StoppedBy w c status) connections status
 
 -- the link that was made to the place of the address made the exchanges of a migration that came to this, and was given back
 pub record MigratedAt {F S K A : Type 0} (w : World F S K A) (url : List ℕ) (h : Handled) : Type 0 where
@@ -268,21 +307,25 @@ pub data LoadOutcome {F S K A : Type 0} (w : World F S K A) (url : List ℕ) (st
       → AddsSome w.written_before w.written (count_lines created present) → LoadOutcome w url status
   unloaded : Unplaced url status → w.linked ≡ w.linked_before → (InputStays w) → IsSilent w → LoadOutcome w url status
 
--- the line works at an address that is that of no place
+-- the line works at an address that is that of no place, or has a converter at an address that is none
 abbrev pub IsPlaceless : Line → Type 0
 IsPlaceless (pipe named turns) = ⊥
 IsPlaceless (task crd rules t) = ⊥
 IsPlaceless (drill start count) = ⊥
 IsPlaceless (serve s) = ⊥
 IsPlaceless (remote work url) = (p : PlaceView) → IsPlace url p → ⊥
+IsPlaceless (pipe_by c turns) = (a : AddressView) → IsAddress c.url a → ⊥
+IsPlaceless (serve_by c l) = (a : AddressView) → IsAddress c.url a → ⊥
 
--- P holds of a line that works on no server from outside
+-- P holds of a line that works on no server from outside and has no converter
 abbrev pub IfUnlinked : Line → Type 0 → Type 0
 IfUnlinked (pipe named turns) P = P
 IfUnlinked (task crd rules t) P = P
 IfUnlinked (drill start count) P = P
 IfUnlinked (serve s) P = P
 IfUnlinked (remote work url) P = Unit {0}
+IfUnlinked (pipe_by c turns) P = Unit {0}
+IfUnlinked (serve_by c l) P = Unit {0}
 
 -- ---- any line
 
@@ -296,3 +339,5 @@ Outcome w (serve s) status = ServeOutcome w (from_files s.crd s.rules) s.connect
 Outcome w (remote migrate url) status = MigrateOutcome w url status × (FilesStay w) × (InputStays w) × (EarsStay w)
 Outcome w (remote dump url) status = DumpOutcome w url status × (FilesStay w) × (InputStays w) × (EarsStay w)
 Outcome w (remote load url) status = LoadOutcome w url status × (FilesStay w) × (EarsStay w)
+Outcome w (pipe_by c turns) status = PipeByOutcome w c turns status × (EarsStay w)
+Outcome w (serve_by c l) status = ServeByOutcome w c l.connections status × (InputStays w)

@@ -1,5 +1,5 @@
 -- What it is to serve the definition that two texts are.
-use Rattle.std.specs.Prelude.{◌≡◌, ◌⊎◌, ◌+◌, ℕ, List, [], Option, None, Some}
+use Rattle.std.specs.Prelude.{◌≡◌, ◌⊎◌, ◌+◌, ◌<◌, ℕ, List, [], Option, None, Some}
 use Rattle.kube_meta.specs.declared.limits.TheConstants.Limits.{STANDING}
 use Rattle.api_calls.specs.Calls.{Server}
 use Rattle.api_calls.specs.Ends.{grown}
@@ -9,6 +9,7 @@ use Rattle.api_calls.specs.Meaning.{Meaning}
 use Rattle.api_calls.specs.Reply.{ReplyView}
 use Rattle.api_calls.specs.State.{revision, state}
 use Rattle.api_calls.specs.Work.{Turn, work_decision}
+use Rattle.api_calls.specs.declared.tool.NoTool.{NoTool}
 use Rattle.crd_meaning.specs.Definition.{Definition}
 use Rattle.crd_laws.specs.Loaded.{loaded_meaning}
 use Rattle.crd_settings.specs.SettledLaws.{settings_of}
@@ -36,13 +37,23 @@ pub record Start : Type 0 where
 abbrev pub front_of : Meaning → Start → Front
 front_of m start = record { server = record { meaning = m; limits = STANDING; boot = start.boot }; told = start.told }
 
+-- ---- what may fail
+
+-- there is no tool that could fail
+abbrev pub no_faults : NoTool → ℕ
+no_faults tool = 0
+
+-- a tool whose faults are counted so may fail: there are two states of it between which the count rises
+abbrev pub MayRise : {A : Type 0} → (A → ℕ) → Type 0
+MayRise {A} faults = (before : A) × (now : A) × (faults before < faults now)
+
 -- ---- a server of one thread
 
--- The reply to a request at the history, and the history after it, which nothing but what the requests enter is in. There is no
--- tool that could fail.
-pub record AnswersAlone (f : Front) (log : List Item) (r : Request) (a : ReplyView) (after : List Item) : Type 0 where
+-- The reply to a request at the history, and the history after it, which nothing but what the requests enter is in. The tool fails only
+-- where it may.
+pub record AnswersAlone (f : Front) (fails : Type 0) (log : List Item) (r : Request) (a : ReplyView) (after : List Item) : Type 0 where
   pub item : Option Item
-  pub replies : Replies f ⊥ log log r a item
+  pub replies : Replies f fails log log r a item
   pub grows : after ≡ grown log item
 
 -- ---- a worker beside it
@@ -64,7 +75,7 @@ turn_at s p = work_decision (revision p.log + 1) (state s.meaning p.log) p.claim
 abbrev pub turned : Server → At → At
 turned s p = record { log = grown p.log (turn_at s p).decision.item; claim = (turn_at s p).claim }
 
--- The worker takes a turn, which is as it is decided; or it is to prepare an object, memory is wanted for that, and nothing
+-- The worker takes a turn, which is as it is decided; or it is to prepare an object, memory is wanted for that or the tool fails, and nothing
 -- changes.
 abbrev pub TakesTurn : Server → At → At → Type 0
 TakesTurn s p q = (q ≡ turned s p) ⊎ (IsToPrepare s.meaning p.log p.claim × (q ≡ p))
@@ -75,9 +86,9 @@ pub data TakesTurns (s : Server) (p : At) : ℕ → At → Type 0 where
   one_more : (n : ℕ) (mid q : At) → TakesTurns s p n mid → TakesTurn s mid q → TakesTurns s p (n + 1) q
 
 -- A request is answered at the history, and then the worker takes so many turns.
-pub record AnswersAndWorks (f : Front) (turns : ℕ) (p : At) (r : Request) (a : ReplyView) (q : At) : Type 0 where
+pub record AnswersAndWorks (f : Front) (fails : Type 0) (turns : ℕ) (p : At) (r : Request) (a : ReplyView) (q : At) : Type 0 where
   pub mid : List Item
-  pub answers : AnswersAlone f p.log r a mid
+  pub answers : AnswersAlone f fails p.log r a mid
   pub works : TakesTurns f.server (record { log = mid; claim = p.claim }) turns q
 
 -- ---- a connection
@@ -93,10 +104,10 @@ link_end WriteFault = links.WriteFault
 
 -- The input was answered from a history with nothing in it to this end, with so many turns of the worker after each answer, and
 -- what was entered until then is a legal list. A fault of reading comes behind the answers to the first requests. A fault of writing
--- comes behind those and a front of one more response.
-abbrev pub Conversed : Front → ℕ → List ℕ → Option (List ℕ) → Option (List ℕ) → PipeEnd → Type 0
-Conversed f turns input before written end =
-    (after : At) × legal f.server.meaning f.server.limits after.log × Links (AnswersAndWorks f turns) MOST_REQUESTS ⊥ (link_end end) opening after (Some input) before written
+-- comes behind those and a front of one more response. A tool's fault ends nothing.
+abbrev pub Conversed : Front → Type 0 → ℕ → List ℕ → Option (List ℕ) → Option (List ℕ) → PipeEnd → Type 0
+Conversed f fails turns input before written end =
+    (after : At) × legal f.server.meaning f.server.limits after.log × Links (AnswersAndWorks f fails turns) MOST_REQUESTS ⊥ (link_end end) opening after (Some input) before written
 
 -- a fault of reading has this cause, and one of writing that
 abbrev pub Blames : PipeEnd → Type 0 → Type 0 → Type 0
@@ -111,11 +122,11 @@ meaning_of d = loaded_meaning d (settings_of d.view)
 abbrev pub served_meaning : LoadedView → Meaning
 served_meaning l = meaning_of (set_of l)
 
--- The input was answered to this end by the definition and the rules that two texts are.
+-- The input was answered to this end by the definition and the rules that two texts are, without a tool.
 pub record Converses (crd rules : List ℕ) (turns : ℕ) (start : Start) (input : List ℕ) (before written : Option (List ℕ)) (end : PipeEnd) : Type 0 where
   pub loaded : LoadedView
   pub loads : Loads crd rules loaded
-  pub conversed : Conversed (front_of (served_meaning loaded) start) turns input before written end
+  pub conversed : Conversed (front_of (served_meaning loaded) start) (MayRise no_faults) turns input before written end
 
 -- A conversation was held to this end, and the status is that of the end. A fault of the input has one cause, and one of the output
 -- another. Unless the output failed, what is written is handed on, also where the input failed.

@@ -27,6 +27,9 @@ mod drill_line;
 // The work of `serve`.
 mod serve_line;
 
+// The work of `pipe` and `serve` with a converter.
+mod converting;
+
 // The statuses, and the top call.
 mod status;
 mod top;

@@ -79,8 +79,12 @@ pub(crate) fn load_example(alloc: Global) -> Result<VersionSet, NoMemory>
     }
 }
 
-// The text of a file.
-fn read_text<'a, F: Files>(alloc: Global, files: &mut F, path: &'a str) -> Result<Txt, Stop<'a>>
+/// The text of a file.
+pub(crate) fn read_text<'a, F: Files>(
+    alloc: Global,
+    files: &mut F,
+    path: &'a str,
+) -> Result<Txt, Stop<'a>>
     ensures text { (bytes : List ℕ) → F.file files.old path.now ≡ Some bytes
         → IfOk result (λ text. IsText bytes × (text.bytes ≡ bytes)) }
     ensures refused { (bytes : List ℕ) → F.file files.old path.now ≡ Some bytes

@@ -9,9 +9,9 @@ ghost use Rattle.shared_api.specs.Base.{server_of};
 ghost use Rattle.shared_api.specs.Passes.{IsOf};
 ghost use Rattle.http_front.specs.Link.{Links, UnlessUnwritten};
 ghost use Rattle.http_front.specs.Steps.{IsSameBut};
-ghost use Rattle.kubeconv_cmd.specs.Serving.{At, AnswersAndWorks, Blames, Conversed, TakesTurns, front_of, link_end};
+ghost use Rattle.kubeconv_cmd.specs.Serving.{At, AnswersAndWorks, Blames, Conversed, MayRise, TakesTurns, front_of, link_end};
 
-use api_calls::{NoTool, Versions};
+use api_calls::Versions;
 use edge_io::{Clock, Sink, Source};
 use http_front::{OneEnd, serve_one};
 use http_wire::{Inbox, MOST_REQUESTS, WireFault};
@@ -37,8 +37,9 @@ pub enum PipeEnd {
     WriteFault,
 }
 
-// The worker takes so many turns on a pass that no other calls beside. One that wants memory to prepare an object comes to nothing.
-fn take_turns<V: Versions<Tool = NoTool> + Drop, R: Wait>(
+// The worker takes so many turns on a pass that no other calls beside. One that wants memory to prepare an object, or whose converter fails,
+// comes to nothing.
+fn take_turns<V: Versions + Drop, R: Wait>(
     rt: &R,
     api: &SharedApi<V>,
     pass: &mut Pass<V>,
@@ -59,7 +60,7 @@ fn take_turns<V: Versions<Tool = NoTool> + Drop, R: Wait>(
 
 // Answers the requests of the input on a pass that no other calls beside, over an inbox that holds nothing, and lets the worker
 // take so many turns after each answer.
-fn converse<V: Versions<Tool = NoTool> + Drop, R: Wait, S: Source, K: Sink, C: Clock>(
+fn converse<V: Versions + Drop, R: Wait, S: Source, K: Sink, C: Clock>(
     rt: &R,
     alloc: Global,
     api: &SharedApi<V>,
@@ -75,7 +76,7 @@ fn converse<V: Versions<Tool = NoTool> + Drop, R: Wait, S: Source, K: Sink, C: C
     requires number { pass.old.view.number ≡ Some 0 }
     requires alone { IsAlone pass.old.view }
     requires empty { inbox.old.bytes ≡ [] }
-    ensures talk { (after : At) × legal (V.meaning api.now.base.versions) api.now.base.limits after.log × Links (AnswersAndWorks (record { server = server_of V.meaning api.now.base; told = C.told clock.now }) turns) MOST_REQUESTS ⊥ (link_end result)
+    ensures talk { (after : At) × legal (V.meaning api.now.base.versions) api.now.base.limits after.log × Links (AnswersAndWorks (record { server = server_of V.meaning api.now.base; told = C.told clock.now }) (MayRise V.Tool.faults) turns) MOST_REQUESTS ⊥ (link_end result)
         (record { log = items pass.old.view.seen; claim = worker.old.claim }) after (S.left input.old) (K.written output.old) (K.written output.new) }
     ensures blames { Blames result (Rose (S.faults input.old) (S.faults input.new)) (Rose (K.faults output.old) (K.faults output.new)) }
     ensures flushed { UnlessUnwritten (link_end result) (K.flushed output.old ≡ K.written output.old → K.flushed output.new ≡ K.written output.new) }
@@ -97,13 +98,14 @@ fn converse<V: Versions<Tool = NoTool> + Drop, R: Wait, S: Source, K: Sink, C: C
     PipeEnd::Spent
 }
 
-/// Answers the requests of the input by a definition, from a server that begins with nothing entered, and which no other
+/// Answers the requests of the input by a definition and its tool, from a server that begins with nothing entered, and which no other
 /// calls. After each answer its one worker takes so many turns. Where memory is wanted for the server, nothing is read and
 /// nothing is written.
-pub(crate) fn serve<V: Versions<Tool = NoTool> + Drop, R: Wait, S: Source, K: Sink, C: Clock>(
+pub(crate) fn serve<V: Versions + Drop, R: Wait, S: Source, K: Sink, C: Clock>(
     rt: &R,
     alloc: Global,
     versions: V,
+    tool: V::Tool,
     input: &mut S,
     output: &mut K,
     clock: &C,
@@ -111,13 +113,13 @@ pub(crate) fn serve<V: Versions<Tool = NoTool> + Drop, R: Wait, S: Source, K: Si
     turns: u64,
 ) -> Result<PipeEnd, NoMemory>
     ensures talk { (b : List ℕ) → S.left input.old ≡ Some b
-        → IfOk result (Conversed (front_of (V.meaning versions) (record { boot = boot; told = C.told clock.now })) turns b (K.written output.old) (K.written output.new)) }
+        → IfOk result (Conversed (front_of (V.meaning versions) (record { boot = boot; told = C.told clock.now })) (MayRise V.Tool.faults) turns b (K.written output.old) (K.written output.new)) }
     ensures blames { IfOk result (λ end. Blames end (Rose (S.faults input.old) (S.faults input.new)) (Rose (K.faults output.old) (K.faults output.new))) }
     ensures flushed { IfOk result (λ end. UnlessUnwritten (link_end end) (K.flushed output.old ≡ K.written output.old → K.flushed output.new ≡ K.written output.new)) }
     ensures untouched { OnErr result ((input.new ≡ input.old) × (output.new ≡ output.old)) }
 {
     let mut inbox = Inbox::open(alloc)?;
-    let (api, mut pass) = SharedApi::open(alloc, versions, NoTool, Limits::STANDING, boot)?;
+    let (api, mut pass) = SharedApi::open(alloc, versions, tool, Limits::STANDING, boot)?;
     let mut worker = Worker { claim: None };
     let end = converse(
         rt,

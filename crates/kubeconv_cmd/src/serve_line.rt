@@ -14,7 +14,7 @@ ghost use Rattle.kubeconv_cmd.specs.inner.Served.{OnUnheard, UnlessUnheard, OnUn
 
 use crate::status::{DONE, LISTEN_FAILED, NO_MEMORY, WRITE_FAILED, ended};
 use crate::tasks::write_line;
-use api_calls::{NoTool, NoTools, Versions};
+use api_calls::{NoTools, Tools, Versions};
 use command_lines::Service;
 use crd_versions::VersionSet;
 use edge_io::{Clock, Ears, Failed, Sink, send};
@@ -76,9 +76,10 @@ fn listen_at<K: Sink, A: Ears + Place>(
     }
 }
 
-// Answers connections by a definition, from a server that begins with nothing entered.
-fn serve_connections<
-    V: Versions<Tool = NoTool> + Drop + Send + Sync,
+/// Answers connections by a definition, from a server that begins with nothing entered. Each pass has a tool of its own.
+pub(crate) fn serve_connections<
+    V: Versions + Drop + Send + Sync,
+    M: Tools<V::Tool>,
     R: Threads + Wait + time::Clock + Sync,
     K: Sink,
     A: Ears + Place + Send,
@@ -87,6 +88,7 @@ fn serve_connections<
     rt: &R,
     alloc: Global,
     versions: V,
+    tools: &mut M,
     place: &str,
     workers: u64,
     connections: Option<u64>,
@@ -95,22 +97,26 @@ fn serve_connections<
     clock: &C,
     boot: u64,
 ) -> Result<(), Unserved>
+where
+    V::Tool: Send,
     requires { workers ≤ 15 }
     ensures done { OnOk result ((count : ℕ) × (connections ≡ Some count)
-        × AnsweredAll (V.meaning versions) (record { boot = boot; told = C.told clock.now }) count (A.origins ears.old) (A.origins ears.new) (A.returned ears.old) (A.returned ears.new)) }
+        × AnsweredAll V.Tool.faults (V.meaning versions) (record { boot = boot; told = C.told clock.now }) count (A.origins ears.old) (A.origins ears.new) (A.returned ears.old) (A.returned ears.new)) }
     ensures place { NamesPlace (A.is_told place.now) (K.written output.old) (K.written output.new) }
     ensures told { OnOk result (Announced (K.written output.old) (K.written output.new) (K.flushed output.new)) }
     ensures silent { IfErr result (Silent (K.written output.new ≡ K.written output.old) (ToldSome (K.written output.old) (K.written output.new)) (Told (K.written output.old) (K.written output.new))) }
     ensures unheard { IfErr result (OnUnheard (Rose (A.faults ears.old) (A.faults ears.new)
         × (((A.origins ears.new ≡ A.origins ears.old) × (A.returned ears.new ≡ A.returned ears.old))
         ⊎ ((count : ℕ) × IfSome connections (λ n. count < n)
-        × AnsweredAll (V.meaning versions) (record { boot = boot; told = C.told clock.now }) count (A.origins ears.old) (A.origins ears.new) (A.returned ears.old) (A.returned ears.new)
+        × AnsweredAll V.Tool.faults (V.meaning versions) (record { boot = boot; told = C.told clock.now }) count (A.origins ears.old) (A.origins ears.new) (A.returned ears.old) (A.returned ears.new)
         × Announced (K.written output.old) (K.written output.new) (K.flushed output.new))))) }
     ensures untold { IfErr result (OnUntold (Rose (K.faults output.old) (K.faults output.new))) }
     ensures untouched { IfErr result (UnlessUnheard ((A.origins ears.new ≡ A.origins ears.old) × (A.returned ears.new ≡ A.returned ears.old))) }
 {
-    let Ok((api, mut pass)) = SharedApi::open(alloc, versions, NoTool, Limits::STANDING, boot)
-    else {
+    let Ok(tool) = tools.make(alloc) else {
+        return Err(Unserved::NoMemory);
+    };
+    let Ok((api, mut pass)) = SharedApi::open(alloc, versions, tool, Limits::STANDING, boot) else {
         return Err(Unserved::NoMemory);
     };
     match listen_at(alloc, place, output, ears) {
@@ -122,7 +128,7 @@ fn serve_connections<
         alloc,
         &api,
         &mut pass,
-        &mut NoTools,
+        tools,
         ears,
         clock,
         workers,
@@ -169,6 +175,7 @@ pub(crate) fn serve_set<
         rt,
         alloc,
         versions,
+        &mut NoTools,
         service.place,
         service.workers(),
         service.connections,

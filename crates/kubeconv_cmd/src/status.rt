@@ -5,14 +5,14 @@ ghost use Rattle.edge_io.specs.Causes.{HasCause, Rose};
 ghost use Rattle.edge_io.specs.Sends.{Sends};
 ghost use Rattle.kubeconv_cmd.specs.Status.{pipe_status, answer_line, bad_line as bad_line_of, restore_error_line, restore_status, error_line as error_line_of, line_saying, refusal_line};
 ghost use Rattle.kubeconv_cmd.specs.Refusal.{blame_text};
-ghost use Rattle.kubeconv_cmd.specs.inner.Ends.{stop_line, stop_status, talk_status, why_text};
+ghost use Rattle.kubeconv_cmd.specs.inner.Ends.{stop_line, stop_status, talk_status, unconverted_line, unconverted_status, why_text};
 ghost use Rattle.kubeconv_cmd.specs.inner.Halts.{task_line, task_status};
 ghost use Rattle.kubeconv_cmd.specs.inner.Backups.{dumped_line, dumped_status, loaded_line, loaded_status, place_status as place_status_of};
 ghost use Rattle.kubeconv_cmd.specs.inner.Migrations.{migrate_end_line, migrate_status};
 
 use crate::halt::Halt;
 use crate::pipe::PipeEnd;
-use crate::stop::{Stop, Why};
+use crate::stop::{Stop, Unconverted, Why};
 use edge_io::{Failed, Sink, send};
 use far_lines::{LoadEnd, MigrateEnd};
 use itoa::Buffer;
@@ -26,7 +26,7 @@ pub const DONE: u8 = 0;
 /// The words aren't a line of the program.
 pub const BAD_WORDS: u8 = 2;
 
-/// A file is too long, isn't text, or something of it is refused.
+/// A file is too long, isn't text, or something of it is refused, or no version of it has the name of the hub.
 pub const REFUSED: u8 = 3;
 
 /// The input of `convert` or `review` is too long or refused, or no version has the name that is wanted; or a line of the input of `load` is refused.
@@ -220,6 +220,18 @@ pub(crate) fn tell_stop<E: Sink>(errors: &mut E, stop: Stop<'_>) -> u8
         Stop::ReadFailed => ended(errors, READ_FAILED),
         Stop::Refused { file, why } => refused(errors, file, &why),
         Stop::NoMemory => ended(errors, NO_MEMORY),
+    }
+}
+
+/// Ends a run that has no definition with a converter.
+pub(crate) fn tell_unconverted<E: Sink>(errors: &mut E, fault: Unconverted<'_>) -> u8
+    ensures status { result ≡ unconverted_status fault.entry }
+    ensures line { ¬ (Rose (E.faults errors.old) (E.faults errors.new))
+        → E.written errors.new ≡ append_known (E.written errors.old) (unconverted_line fault.entry) }
+{
+    match fault {
+        Unconverted::BadAddress => ended(errors, BAD_WORDS),
+        Unconverted::Stopped(stop) => tell_stop(errors, stop),
     }
 }
 

@@ -19,3 +19,12 @@ pub(crate) enum Stop<'a> {
     Refused { file: &'a str, why: Why },
     NoMemory,
 }
+
+/// Why nothing is served by a converter.
+#[derive(Drop)]
+pub(crate) enum Unconverted<'a> {
+    /// The text isn't the address of a converter.
+    BadAddress,
+    /// There is no definition.
+    Stopped(Stop<'a>),
+}

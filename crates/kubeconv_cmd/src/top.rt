@@ -8,15 +8,17 @@ ghost use Rattle.kubeconv_cmd.specs.Outcome.{IfUnlinked, IsPlaceless, Outcome};
 ghost use Rattle.kubeconv_cmd.specs.Status.{error_line};
 ghost use Rattle.command_lines.specs.Given.{line_of};
 
+use crate::converting::{connect_converted, load_converted, serve_converted};
 use crate::drill_line::do_drill;
 use crate::loading::load_named;
 use crate::pipe::serve;
 use crate::serve_line::{serve_set, tell_served};
 use crate::status::{
     BAD_ANSWER, BAD_INPUT, BAD_WORDS, REFUSED, ended, tell_dumped, tell_loaded, tell_migrated,
-    tell_pipe, tell_stop, tell_task,
+    tell_pipe, tell_stop, tell_task, tell_unconverted,
 };
 use crate::tasks::do_task;
+use api_calls::NoTool;
 use command_lines::{Command, Named, Words, command_of};
 use edge_io::{Clock, Ears, Files, Sink, Source};
 use far_lines::{dump_line, load_line, migrate_line};
@@ -50,6 +52,8 @@ fn run_command<
     clock: &C,
     boot: u64,
 ) -> u8
+where
+    L::One: Sync,
     ensures outcome { Outcome (record {
       file = F.file files.old;
       start = record { boot = boot; told = C.told clock.now };
@@ -86,7 +90,7 @@ fn run_command<
       ears_before = ears.old;
       ears = ears.new;
     }) (line_of command.entry) result }
-    ensures place { IfServes (line_of command.entry) (λ s. NamesPlace (A.is_told s.place) (K.written output.old) (K.written output.new)) }
+    ensures place { IfServes (line_of command.entry) (λ place. NamesPlace (A.is_told place) (K.written output.old) (K.written output.new)) }
     ensures unlinked { IfUnlinked (line_of command.entry) (links.new ≡ links.old) }
     ensures unused { result ≡ BAD_WORDS → links.new ≡ links.old }
     ensures errors { result ≢ REFUSED → result ≢ BAD_INPUT → result ≢ BAD_ANSWER → ¬ (Rose (E.faults errors.old) (E.faults errors.new))
@@ -96,7 +100,9 @@ fn run_command<
     match command {
         Command::Pipe { named, turns } => match load_named(alloc, files, named) {
             Ok(versions) => {
-                let came = serve(rt, alloc, versions, input, output, clock, boot, turns);
+                let came = serve(
+                    rt, alloc, versions, NoTool, input, output, clock, boot, turns,
+                );
                 tell_pipe(errors, came)
             }
             Err(stop) => tell_stop(errors, stop),
@@ -139,6 +145,27 @@ fn run_command<
             let came = load_line(alloc, url, links, input, output);
             tell_loaded(errors, came)
         }
+        Command::PipeBy { conversion, turns } => match load_converted(alloc, files, conversion) {
+            Ok(found) => {
+                let held = serve_converted(
+                    rt, alloc, found, links, input, output, clock, boot, turns,
+                );
+                tell_pipe(errors, held)
+            }
+            Err(fault) => tell_unconverted(errors, fault),
+        },
+        Command::ServeBy {
+            conversion,
+            listening,
+        } => match load_converted(alloc, files, conversion) {
+            Ok(found) => {
+                let came = connect_converted(
+                    rt, alloc, found, links, listening, output, ears, clock, boot,
+                );
+                tell_served(errors, came)
+            }
+            Err(fault) => tell_unconverted(errors, fault),
+        },
     }
 }
 
@@ -149,6 +176,10 @@ fn run_command<
 ///   definition that is built in or by that of the two files, from a server that begins with no objects and has the number `boot`.
 ///   After each answer one worker of migrations takes N turns, 0 to 1,000, and 0 where no number is given. N is spelled in decimal
 ///   digits without leading zeros. The worker keeps its claim from one answer to the next.
+/// - `pipe --crd FILE --hub VERSION --converter URL`, with `--turns N`: the same by the definition of the file, with the version as its hub and
+///   without rules. Its objects are turned by the converter at the URL, `http://HOST[:PORT][/PATH]`, which is asked over a link that `links`
+///   make. Where it fails, or an answer of it fails a test, the request is answered 502 and enters nothing, and a worker's turn comes to
+///   nothing; the input is answered on.
 /// - `convert --crd FILE --rules FILE --to VERSION`: `input` is one document, and what is written is the text of its value at the
 ///   version, with the end of a line.
 /// - `review --crd FILE --rules FILE`: `input` is a review of a request, and what is written is the text of its response, with the
@@ -161,6 +192,8 @@ fn run_command<
 ///   1,000,000: `ears` listen at the address, and `listening on ADDRESS` is written with the end of a line, where the address has the port
 ///   that was taken. Then connections are answered beside each other, so many or, where no number is given, as many as come, with so many
 ///   workers of migrations beside them. It reads no input.
+/// - `serve --crd FILE --hub VERSION --converter URL --listen ADDRESS`, with the same options: the same by such a definition. Each connection
+///   and each worker asks the converter over a link of its own.
 ///
 /// - `migrate URL`, the address of a place `http://HOST[:PORT]/apis/GROUP/VERSION/PLURAL`: over one link that `links` make to its server all
 ///   objects are listed, and each is put back as it came. Then five lines are written, of a word, a space and a number: how many objects the
@@ -179,8 +212,8 @@ fn run_command<
 /// | status | comes where |
 /// |---|---|
 /// | 0 | of `pipe` the input was read to its end between two requests, or an answered request asked for closing; of `serve` as many connections were given back as were asked for; of the others what is written was written |
-/// | 2 | exactly where the words are no such line, or the URL isn't the address of a place; nothing is read or written then but the error line |
-/// | 3 | a file is longer than 4,194,304 bytes, isn't UTF-8, or something of it is refused |
+/// | 2 | exactly where the words are no such line, or the URL isn't the address of a place or of a converter; nothing is read or written then but the error line |
+/// | 3 | a file is longer than 4,194,304 bytes, isn't UTF-8, or something of it is refused, or no version of it has the name of the hub |
 /// | 4 | the input of `convert` or `review` is too long or refused, or no version has the name, or a line of the input of `load` is refused; nothing is written then but the error line |
 /// | 5 | only where the count of faults of `files` or of `input` rose |
 /// | 6 | only where the count of faults of `output` rose |
@@ -222,6 +255,8 @@ pub fn run<
     clock: &C,
     boot: u64,
 ) -> u8
+where
+    L::One: Sync,
     // Whatever the outside does, a line of the program comes to one of its outcomes.
     ensures outcome { (line : Line) → IsLine words.now line → Outcome (record {
       file = F.file files.old;
@@ -260,13 +295,13 @@ pub fn run<
       ears = ears.new;
     }) line result }
     // What `serve` writes names a place that the ears may tell where they were asked for that of the words.
-    ensures place { (line : Line) → IsLine words.now line → IfServes line (λ s. NamesPlace (A.is_told s.place) (K.written output.old) (K.written output.new)) }
+    ensures place { (line : Line) → IsLine words.now line → IfServes line (λ place. NamesPlace (A.is_told place) (K.written output.old) (K.written output.new)) }
     ensures is_line { result ≢ BAD_WORDS → (line : Line) × IsLine words.now line }
-    // Where the words are no line the status is 2. It comes for no others, but where the address of their place is that of none, and then nothing is
-    // touched but the error stream.
+    // Where the words are no line the status is 2. It comes for no others, but where the address of their place or converter is that of none, and
+    // then nothing is touched but the error stream.
     ensures words_refused { (result ≡ BAD_WORDS → (line : Line) → IsLine words.now line → IsPlaceless line) × (((line : Line) → IsLine words.now line → ⊥) → result ≡ BAD_WORDS) }
     ensures unused { result ≡ BAD_WORDS → (files.new ≡ files.old) × (input.new ≡ input.old) × (output.new ≡ output.old) × (ears.new ≡ ears.old) × (links.new ≡ links.old) }
-    // The lines that work on no server from outside ask nothing of the links.
+    // The lines that work on no server from outside and have no converter ask nothing of the links.
     ensures unlinked { (line : Line) → IsLine words.now line → IfUnlinked line (links.new ≡ links.old) }
     // Each status but 3, 4 and 12 puts its line on the error stream, and no run changes a file.
     ensures errors { result ≢ REFUSED → result ≢ BAD_INPUT → result ≢ BAD_ANSWER → ¬ (Rose (E.faults errors.old) (E.faults errors.new))

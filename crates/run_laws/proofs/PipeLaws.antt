@@ -1,5 +1,5 @@
 -- What holds of a line of `pipe`.
-use Rattle.std.proofs.Common.{◌≡◌, ◌≢◌, ◌∙◌, ◌⊎◌, ℕ, List, Bool, true, false, Option, Some, inl, inr, refl, ap, sym, arith}
+use Rattle.std.proofs.Common.{◌≡◌, ◌≢◌, ◌∙◌, ◌⊎◌, ℕ, List, Bool, true, false, Some, inl, inr, refl, ap, sym, arith}
 use Rattle.std.specs.Prelude.{if◌then◌else◌}
 use Rattle.http_wire.specs.Head.{Request}
 use Rattle.http_wire.specs.Stream.{End, closed, closing, spent, torn, refused as refused_end, Asks, SameEnd, IsFreeEnd}
@@ -15,7 +15,7 @@ use Rattle.kubeconv_cmd.specs.Status.{status_of, pipe_status}
 use Rattle.kubeconv_cmd.specs.Outcome.{World, OfInput, BlamesFile, HasHandedOn, Stopped, unreadable, refused, wanting, PipeOutcome, talked, unserved, FilesFail, InputFails, OutputFails, InputStays, OutputStays}
 use Rattle.kubeconv_cmd.specs.declared.pipe.PipeEnd.{PipeEnd}
 use Rattle.kubeconv_cmd.specs.declared.pipe.PipeEnd.TheVariants.{Closed, Torn, Refused, Spent, ReadFault, WriteFault}
-use Rattle.kubeconv_cmd.specs.declared.status.TheConstants.{DONE, REFUSED, BAD_INPUT, READ_FAILED, WRITE_FAILED, NO_MEMORY, LISTEN_FAILED, CUT, TOO_MANY}
+use Rattle.kubeconv_cmd.specs.declared.status.TheConstants.{DONE, REFUSED, READ_FAILED, WRITE_FAILED, NO_MEMORY, CUT, TOO_MANY}
 use Rattle.run_laws.specs.Ran.{RefusesSome, ServesTexts, IsUnheld}
 use Rattle.run_laws.proofs.Refusing.{not_both}
 use Rattle.run_laws.proofs.Ends.{stopped_talk, stopped_refuses, stopped_blames, stopped_reading, stopped_never, stopped_wanting, ended_never}
@@ -74,7 +74,7 @@ pipe_exact w named turns s crd rules b requests end one (inr (inl bad)) served a
     absurd (not_both named crd rules bad.1.0 bad.1.1 served bad.1.2)
 pipe_exact w named turns s crd rules b requests end one (inr (inr memory)) served asks = inr memory
 
-complete_end : (end : PipeEnd) (s : ℕ) (reads writes : Type 0) → s ≡ pipe_status end → Blames end reads writes → ¬ reads → ¬ writes
+pub complete_end : (end : PipeEnd) (s : ℕ) (reads writes : Type 0) → s ≡ pipe_status end → Blames end reads writes → ¬ reads → ¬ writes
     → (s ≡ DONE) ⊎ ((s ≡ NO_MEMORY) ⊎ ((s ≡ CUT) ⊎ (s ≡ TOO_MANY)))
 complete_end Closed s reads writes is blames nr nw = inl is
 complete_end (Torn held) s reads writes is blames nr nw = inr (inr (inl is))
@@ -107,7 +107,7 @@ pub pipe_held : {F S K A : Type 0} (w : World F S K A) (named : Named) (turns s 
 pipe_held w named turns s (talked loaded held) = inl held
 pipe_held w named turns s (unserved stopped input output) = inr (unheld w named s stopped, input, output.0)
 
-handed_end : (end : PipeEnd) (s : ℕ) (handed_on : Type 0) → s ≡ pipe_status end → UnlessUnwritten (link_end end) handed_on → s ≢ WRITE_FAILED → handed_on
+pub handed_end : (end : PipeEnd) (s : ℕ) (handed_on : Type 0) → s ≡ pipe_status end → UnlessUnwritten (link_end end) handed_on → s ≢ WRITE_FAILED → handed_on
 handed_end Closed s handed_on is h other = h
 handed_end (Torn held) s handed_on is h other = h
 handed_end (Refused f) s handed_on is h other = h
@@ -126,7 +126,7 @@ pipe_blames w named turns s (talked loaded held) e =
     absurd (ended_never REFUSED (λ e. omega (arith, e)) (λ e. omega (arith, e)) (λ e. omega (arith, e)) (λ e. omega (arith, e)) (λ e. omega (arith, e)) held.end s held.is_status e)
 pipe_blames w named turns s (unserved stopped input output) e = stopped_blames w named s stopped e
 
-unread_end : (end : PipeEnd) (s : ℕ) (reads writes : Type 0) → s ≡ pipe_status end → Blames end reads writes → s ≡ READ_FAILED → (end ≡ ReadFault) × reads
+pub unread_end : (end : PipeEnd) (s : ℕ) (reads writes : Type 0) → s ≡ pipe_status end → Blames end reads writes → s ≡ READ_FAILED → (end ≡ ReadFault) × reads
 unread_end Closed s reads writes is blames e = absurd (omega (arith, is, e))
 unread_end (Torn held) s reads writes is blames e = absurd (omega (arith, is, e))
 unread_end (Refused f) s reads writes is blames e = absurd (omega (arith, is, e))
@@ -134,7 +134,7 @@ unread_end Spent s reads writes is blames e = absurd (omega (arith, is, e))
 unread_end ReadFault s reads writes is blames e = (refl, blames)
 unread_end WriteFault s reads writes is blames e = absurd (omega (arith, is, e))
 
-unwritten_end : (end : PipeEnd) (s : ℕ) (reads writes : Type 0) → s ≡ pipe_status end → Blames end reads writes → s ≡ WRITE_FAILED → (end ≡ WriteFault) × writes
+pub unwritten_end : (end : PipeEnd) (s : ℕ) (reads writes : Type 0) → s ≡ pipe_status end → Blames end reads writes → s ≡ WRITE_FAILED → (end ≡ WriteFault) × writes
 unwritten_end Closed s reads writes is blames e = absurd (omega (arith, is, e))
 unwritten_end (Torn held) s reads writes is blames e = absurd (omega (arith, is, e))
 unwritten_end (Refused f) s reads writes is blames e = absurd (omega (arith, is, e))

@@ -6,7 +6,7 @@ use Rattle.kubeconv_cmd.specs.Texts.{Texts}
 use Rattle.kubeconv_cmd.specs.Listening.{Announced}
 use Rattle.kubeconv_cmd.specs.Refusal.{RefusesNamed}
 use Rattle.kubeconv_cmd.specs.Outcome.{World, Stopped, unreadable, refused, wanting, BlamesFile, AnswersSo, HearsNobody, ServeOutcome, answered, answered_fewer, unheard, untold, wanting_service, unloaded_service, FilesFail, OutputFails, EarsFail, OutputStays}
-use Rattle.kubeconv_cmd.specs.declared.status.TheConstants.{DONE, REFUSED, BAD_INPUT, READ_FAILED, WRITE_FAILED, NO_MEMORY, LISTEN_FAILED}
+use Rattle.kubeconv_cmd.specs.declared.status.TheConstants.{DONE, REFUSED, READ_FAILED, WRITE_FAILED, NO_MEMORY, LISTEN_FAILED}
 use Rattle.run_laws.specs.Ran.{RefusesSome, RanService, served, failed, SaysOfService, told_all, told_none, told_front, told_or_not, RunsService}
 use Rattle.run_laws.proofs.Refusing.{not_both}
 use Rattle.run_laws.proofs.Ends.{stopped_talk, stopped_refuses, stopped_blames, stopped_reading, stopped_never, stopped_wanting}

@@ -7,7 +7,7 @@ use Rattle.kubeconv_cmd.specs.Refusal.{RefusesNamed}
 use Rattle.kubeconv_cmd.specs.Status.{line_saying}
 use Rattle.kubeconv_cmd.specs.Tasks.{AnswersTexts, RefusesTexts, Wrote, Broke}
 use Rattle.kubeconv_cmd.specs.Outcome.{World, OfInput, Says, BlamesFile, TaskOutcome, wrote_line, broke_line, refused_input, unread_input, wanting_task, unloaded_task, FilesFail, InputFails, OutputFails, InputStays, OutputStays}
-use Rattle.kubeconv_cmd.specs.declared.status.TheConstants.{DONE, REFUSED, BAD_INPUT, READ_FAILED, WRITE_FAILED, NO_MEMORY, LISTEN_FAILED}
+use Rattle.kubeconv_cmd.specs.declared.status.TheConstants.{DONE, REFUSED, BAD_INPUT, READ_FAILED, WRITE_FAILED, NO_MEMORY}
 use Rattle.run_laws.specs.Ran.{RefusesSome, RanTask, answered, refused}
 use Rattle.run_laws.proofs.Refusing.{not_both}
 use Rattle.run_laws.proofs.Ends.{stopped_talk, stopped_refuses, stopped_blames, stopped_reading, stopped_never, stopped_wanting}

@@ -7,10 +7,10 @@ use Rattle.request_replies.specs.Replies.{Front}
 use Rattle.http_front.specs.Talk.{Conversation}
 use Rattle.crd_loading.specs.Load.{Loads}
 use Rattle.crd_loading.specs.View.{LoadedView}
-use Rattle.command_lines.specs.Lines.{Named, Task, Line, pipe, task, drill, serve, migrate, dump, load, remote}
+use Rattle.command_lines.specs.Lines.{Named, Task, Line, pipe, task, drill, serve, migrate, dump, load, remote, pipe_by, serve_by}
 use Rattle.kubeconv_cmd.specs.Listening.{Told, ToldSome}
 use Rattle.kubeconv_cmd.specs.Refusal.{RefusesNamed}
-use Rattle.kubeconv_cmd.specs.Serving.{At, AnswersAndWorks, DrillsTexts, Start, front_of, opening, served_meaning}
+use Rattle.kubeconv_cmd.specs.Serving.{At, AnswersAndWorks, DrillsTexts, MayRise, Start, front_of, no_faults, opening, served_meaning}
 use Rattle.kubeconv_cmd.specs.Status.{status_of}
 use Rattle.kubeconv_cmd.specs.Tasks.{AnswersTexts, RefusesTexts, Wrote}
 use Rattle.kubeconv_cmd.specs.declared.status.TheConstants.{DONE, REFUSED, BAD_INPUT, READ_FAILED, WRITE_FAILED, NO_MEMORY, LISTEN_FAILED, CUT, TOO_MANY}
@@ -22,6 +22,8 @@ HearsNone (task crd rules t) = Unit {0}
 HearsNone (drill start count) = Unit {0}
 HearsNone (serve s) = ⊥
 HearsNone (remote work url) = Unit {0}
+HearsNone (pipe_by c turns) = Unit {0}
+HearsNone (serve_by c l) = ⊥
 
 -- the line writes nothing before it has all memory that it wants
 abbrev pub WantsFirst : Line → Type 0
@@ -32,6 +34,8 @@ WantsFirst (serve s) = ⊥
 WantsFirst (remote migrate url) = Unit {0}
 WantsFirst (remote dump url) = ⊥
 WantsFirst (remote load url) = Unit {0}
+WantsFirst (pipe_by c turns) = Unit {0}
+WantsFirst (serve_by c l) = ⊥
 
 -- something of the texts is refused
 abbrev pub RefusesSome : Named → List ℕ → List ℕ → Type 0
@@ -45,7 +49,7 @@ pub record Answered (f : Front) (turns : ℕ) (input : List ℕ) (before written
   pub end : End
   pub after : At
   pub is_legal : legal f.server.meaning f.server.limits after.log
-  pub conversation : Conversation (AnswersAndWorks f turns) MOST_REQUESTS opening after (Some input) before written end
+  pub conversation : Conversation (AnswersAndWorks f (MayRise no_faults) turns) MOST_REQUESTS opening after (Some input) before written end
   pub is_status : status ≡ status_of end
 
 -- the same by the definition and the rules that two texts are
@@ -99,7 +103,7 @@ pub record RunsService (connections : Option ℕ) (answered : ℕ → Type 0) (t
 
 -- ---- any line
 
--- What a line with the definition of these texts, which a line that works on a server from outside hasn't, does with an input, where nothing fails: what is written behind what was, and
+-- What a line with the definition of these texts, which a line that works on a server from outside or has a converter hasn't, does with an input, where nothing fails: what is written behind what was, and
 -- the status.
 abbrev pub Ran : Line → List ℕ → List ℕ → Start → List ℕ → Option (List ℕ) → Option (List ℕ) → ℕ → Type 0
 Ran (pipe named turns) crd rules start input before written status = ServesTexts crd rules turns start input before written status
@@ -107,6 +111,8 @@ Ran (task c r t) crd rules start input before written status = RanTask crd rules
 Ran (drill x n) crd rules start input before written status = RanDrill crd rules x n before written status
 Ran (serve s) crd rules start input before written status = RanService before written status
 Ran (remote work url) crd rules start input before written status = ⊥
+Ran (pipe_by c turns) crd rules start input before written status = ⊥
+Ran (serve_by c l) crd rules start input before written status = ⊥
 
 -- A line that had its definition, where nothing failed: it is done, or memory was wanted; or its input was no whole conversation, or is
 -- refused.
@@ -116,3 +122,5 @@ IsComplete (task c r t) status = (status ≡ DONE) ⊎ ((status ≡ NO_MEMORY) �
 IsComplete (drill start count) status = (status ≡ DONE) ⊎ (status ≡ NO_MEMORY)
 IsComplete (serve s) status = (status ≡ DONE) ⊎ (status ≡ NO_MEMORY)
 IsComplete (remote work url) status = ⊥
+IsComplete (pipe_by c turns) status = ⊥
+IsComplete (serve_by c l) status = ⊥

@@ -5,6 +5,7 @@
 #![tactic(auto)]
 
 pub mod any_line;
+pub mod converting;
 pub mod drill;
 pub mod dump;
 pub mod load;

@@ -19,6 +19,8 @@ ghost use Rattle.kubeconv_cmd.specs.Serving.{At, Converses, Start, TakesTurn, fr
 ghost use Rattle.kubeconv_cmd.specs.declared.pipe.PipeEnd.{PipeEnd};
 ghost use Rattle.serve_laws.specs.Moves.{MovesNumbers};
 
+pub mod converting;
+
 /// What is entered beside the connections of a line of `serve` is a worker's, and moves the resource version of one object at
 /// most, with the version at which it is stored. No value changes, no object comes or goes, and the flags and the stored versions
 /// stay.

@@ -52,10 +52,16 @@ fn files_of(alloc: Global, case: &Case) -> Option<MemFiles> {
     Some(MemFiles::new(files, Vec::new(alloc)))
 }
 
-// The input of the program, and the answers of the one link. Of a line of `load` these stand behind the first `~`.
+// Whether the line has a converter.
+fn is_converted(words: &str) -> bool {
+    words.contains(" --converter")
+}
+
+// The input of the program, and the answers of the one link. Of a line of `load` and of one with a converter these stand behind the first
+// `~`.
 fn parts(case: &Case) -> (&str, &str) {
     let all = case.asked.input.as_str();
-    if case.asked.words.starts_with("words load ") {
+    if case.asked.words.starts_with("words load ") || is_converted(case.asked.words.as_str()) {
         return all.split_once('~').unwrap_or((all, ""));
     }
     (all, all)
@@ -83,7 +89,8 @@ fn input_of(alloc: Global, case: &Case, outside: Outside) -> Option<Input> {
 fn source_of(alloc: Global, case: &Case, failing_read: u64) -> Option<MemSource>
     ensures { IfSome result IsUnread }
 {
-    let bytes = bytes_of(alloc, case.asked.input.as_str(), false)?;
+    let (input, _) = parts(case);
+    let bytes = bytes_of(alloc, input, false)?;
     let failing = vec![in alloc; failing_read].ok()?;
     Some(MemSource::new(bytes, 4_096, failing))
 }
@@ -127,17 +134,18 @@ fn link_of(alloc: Global, case: &Case, outside: Outside) -> Option<MemReady> {
     MemReady::new(alloc, link).ok()
 }
 
-// Whether the line works on a server from outside.
-fn is_remote(words: &str) -> bool {
+// Whether the line works on a server from outside, or has a converter.
+fn is_linked(words: &str) -> bool {
     words.starts_with("words migrate ")
+        || is_converted(words)
         || words.starts_with("words dump ")
         || words.starts_with("words load ")
 }
 
-// Links of which the first is that one, where the line works on a server from outside.
+// Links of which the first is that one, where the line asks over one.
 fn links_of(alloc: Global, case: &Case, outside: Outside) -> Option<MemLinks> {
     let mut ready = Vec::new(alloc);
-    if is_remote(case.asked.words.as_str()) {
+    if is_linked(case.asked.words.as_str()) {
         let link = link_of(alloc, case, outside)?;
         ready.push(link).ok()?;
     }
@@ -214,7 +222,10 @@ fn status_of<
     errors: &mut E,
     ears: &mut A,
     links: &mut L,
-) -> u8 {
+) -> u8
+where
+    L::One: Sync,
+{
     let clock = FixedClock::new(Stamp {
         text: *b"2024-01-02T03:04:05Z",
     });

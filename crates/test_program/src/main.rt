@@ -28,7 +28,7 @@
 //! | `.` | the case ends |
 //!
 //! The ears have one connection, which holds the input too, or as many as the case says. The answers of the one link are the parts of the input
-//! between two `~`; of a line of `load` those behind the first `~`, before which the input stands. What was written to the connection that was given back last, or asked over the link, is printed behind the output.
+//! between two `~`; of a line of `load` and of one with a converter those behind the first `~`, before which the input stands. What was written to the connection that was given back last, or asked over the link, is printed behind the output.
 //!
 //! Nothing here has a contract.
 #![tactic(auto)]

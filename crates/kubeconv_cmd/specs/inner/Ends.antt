@@ -6,7 +6,9 @@ use Rattle.kubeconv_cmd.specs.declared.stop.Why.{Why}
 use Rattle.kubeconv_cmd.specs.declared.stop.Why.TheVariants as whys
 use Rattle.kubeconv_cmd.specs.declared.stop.Stop.{Stop}
 use Rattle.kubeconv_cmd.specs.declared.stop.Stop.TheVariants as stops
-use Rattle.kubeconv_cmd.specs.declared.status.TheConstants.{REFUSED, READ_FAILED, NO_MEMORY}
+use Rattle.kubeconv_cmd.specs.declared.stop.Unconverted.{Unconverted}
+use Rattle.kubeconv_cmd.specs.declared.stop.Unconverted.TheVariants as unconverted
+use Rattle.kubeconv_cmd.specs.declared.status.TheConstants.{BAD_WORDS, REFUSED, READ_FAILED, NO_MEMORY}
 use Rattle.kubeconv_cmd.specs.Status.{pipe_status, error_line, refusal_line}
 use Rattle.kubeconv_cmd.specs.Refusal.{blame_text}
 
@@ -39,6 +41,25 @@ abbrev pub stop_line : Stop → List ℕ
 stop_line stops.ReadFailed = error_line READ_FAILED
 stop_line (stops.Refused file why) = refusal_line file.now (why_text why)
 stop_line stops.NoMemory = error_line NO_MEMORY
+
+-- where a line has no definition, P holds of why
+abbrev pub OnStopped : Unconverted → (Stop → Type 0) → Type 0
+OnStopped unconverted.BadAddress P = Unit {0}
+OnStopped (unconverted.Stopped stop) P = P stop
+
+-- where its text isn't the address of a converter, P holds
+abbrev pub OnBadAddress : Unconverted → Type 0 → Type 0
+OnBadAddress unconverted.BadAddress P = P
+OnBadAddress (unconverted.Stopped stop) P = Unit {0}
+
+-- the status of a line that has no definition with a converter, and its error line
+abbrev pub unconverted_status : Unconverted → ℕ
+unconverted_status unconverted.BadAddress = BAD_WORDS
+unconverted_status (unconverted.Stopped stop) = stop_status stop
+
+abbrev pub unconverted_line : Unconverted → List ℕ
+unconverted_line unconverted.BadAddress = error_line BAD_WORDS
+unconverted_line (unconverted.Stopped stop) = stop_line stop
 
 -- the status of how a conversation ended, where there was memory for one
 abbrev pub talk_status : Result PipeEnd NoMemory → ℕ

@@ -4,10 +4,10 @@ use Rattle.api_calls.specs.Item.{Logged, items, items_of}
 use Rattle.http_wire.specs.Stream.{End, closed, torn, refused}
 use Rattle.shared_api.specs.Base.{server_of}
 use Rattle.request_replies.specs.Replies.{Front}
-use Rattle.http_front.specs.Steps.{Point}
+use Rattle.http_front.specs.Steps.{Point, point_of}
 use Rattle.http_front.proofs.Calling.{same_number, same_on}
 use Rattle.http_front.proofs.Talking.{so_far_from, so_far_more, ended_so, ended_last, ended_spent, broke_reading, broke}
-use Rattle.kubeconv_cmd.specs.Serving.{At, AnswersAndWorks}
+use Rattle.kubeconv_cmd.specs.Serving.{At, AnswersAndWorks, MayRise}
 use Rattle.kubeconv_cmd.proofs.Alone.{alone_on, answered_and_worked, broke_at, ended_at, unread_at}
 use Rattle.kubeconv_cmd.proofs.pipe.converse.Goals as goal
 
@@ -25,8 +25,8 @@ loop-count-init g c = record {
 pub loop-count-preserved : goal.loop-count-preserved
 loop-count-preserved g c =
     let f : Front = record { server = server_of g.V.Versions.meaning c.args.api.now.base; told = g.C.Clock.told c.args.clock.now } in
-    let p : Point = record { seen = c.loop-count.pass.view.seen; faults = 0 } in
-    let q : Point = record { seen = c.serve_one.new.pass.view.seen; faults = 0 } in
+    let p : Point = point_of g.V.Tool.Tool.faults c.loop-count.pass in
+    let q : Point = point_of g.V.Tool.Tool.faults c.serve_one.new.pass in
     let number = same_number c.args.pass.now.view c.loop-count.pass.view 0 c.loop-count.invariant.same c.requires.number in
     let alone = alone_on c.args.pass.now.view c.loop-count.pass.view c.loop-count.invariant.same c.requires.alone in
     let quiet : (m : ℕ) → m ≢ 0 → items_of m q.seen ≡ items_of m p.seen = λ m other. c.in-Answered.ensures.quiet 0 number m other (inr alone) in
@@ -36,8 +36,8 @@ loop-count-preserved g c =
     let written : Option (List ℕ) = g.K.Sink.written c.serve_one.new.output in
     record {
       of = c.take_turns.ensures.of;
-      so_far = so_far_more (AnswersAndWorks f c.args.turns) _ _ _ _ _ _ _ _ _ _ c.loop-count.invariant.so_far
-          (answered_and_worked f c.args.turns p q c.loop-count.worker.claim known left before written (omega arith) quiet false _ (c.in-Answered.ensures.did 0 number) c.take_turns.ensures.took);
+      so_far = so_far_more (AnswersAndWorks f (MayRise g.V.Tool.Tool.faults) c.args.turns) _ _ _ _ _ _ _ _ _ _ c.loop-count.invariant.so_far
+          (answered_and_worked f (MayRise g.V.Tool.Tool.faults) c.args.turns p q c.loop-count.worker.claim known left before written (λ rose. (c.loop-count.pass.tool, c.serve_one.new.pass.tool, rose)) quiet false _ (c.in-Answered.ensures.did 0 number) c.take_turns.ensures.took);
       same = same_on c.args.pass.now.view c.serve_one.new.pass.view c.take_turns.new.pass.view
           (same_on c.args.pass.now.view c.loop-count.pass.view c.serve_one.new.pass.view c.loop-count.invariant.same c.in-Answered.ensures.same) c.take_turns.ensures.same;
       flushed = λ first. c.in-Answered.ensures.flushed;
@@ -49,8 +49,8 @@ loop-count-preserved g c =
 pub returns-in-Last-clause-talk : goal.returns-in-Last-clause-talk
 returns-in-Last-clause-talk g c =
     let f : Front = record { server = server_of g.V.Versions.meaning c.args.api.now.base; told = g.C.Clock.told c.args.clock.now } in
-    let p : Point = record { seen = c.loop-count.pass.view.seen; faults = 0 } in
-    let q : Point = record { seen = c.serve_one.new.pass.view.seen; faults = 0 } in
+    let p : Point = point_of g.V.Tool.Tool.faults c.loop-count.pass in
+    let q : Point = point_of g.V.Tool.Tool.faults c.serve_one.new.pass in
     let number = same_number c.args.pass.now.view c.loop-count.pass.view 0 c.loop-count.invariant.same c.requires.number in
     let alone = alone_on c.args.pass.now.view c.loop-count.pass.view c.loop-count.invariant.same c.requires.alone in
     let quiet : (m : ℕ) → m ≢ 0 → items_of m q.seen ≡ items_of m p.seen = λ m other. c.in-Last.ensures.quiet 0 number m other (inr alone) in
@@ -61,15 +61,15 @@ returns-in-Last-clause-talk g c =
     let after : At = record { log = items c.take_turns-in-Last.new.pass.view.seen; claim = c.take_turns-in-Last.new.worker.claim } in (
       after,
       c.take_turns-in-Last.ensures.of.legal.guards,
-      inr (ended_last (AnswersAndWorks f c.args.turns) _ _ _ _ _ _ _ _ _ _ _ c.loop-count.invariant.so_far c.loop-count-test.true
-          (answered_and_worked f c.args.turns p q c.loop-count.worker.claim known left before written (omega arith) quiet true after (c.in-Last.ensures.did 0 number) c.take_turns-in-Last.ensures.took)),
+      inr (ended_last (AnswersAndWorks f (MayRise g.V.Tool.Tool.faults) c.args.turns) _ _ _ _ _ _ _ _ _ _ _ c.loop-count.invariant.so_far c.loop-count-test.true
+          (answered_and_worked f (MayRise g.V.Tool.Tool.faults) c.args.turns p q c.loop-count.worker.claim known left before written (λ rose. (c.loop-count.pass.tool, c.serve_one.new.pass.tool, rose)) quiet true after (c.in-Last.ensures.did 0 number) c.take_turns-in-Last.ensures.took)),
     )
 
 pub returns-in-Closed-clause-talk : goal.returns-in-Closed-clause-talk
 returns-in-Closed-clause-talk g c =
     let f : Front = record { server = server_of g.V.Versions.meaning c.args.api.now.base; told = g.C.Clock.told c.args.clock.now } in
-    let p : Point = record { seen = c.loop-count.pass.view.seen; faults = 0 } in
-    let q : Point = record { seen = c.serve_one.new.pass.view.seen; faults = 0 } in
+    let p : Point = point_of g.V.Tool.Tool.faults c.loop-count.pass in
+    let q : Point = point_of g.V.Tool.Tool.faults c.serve_one.new.pass in
     let number = same_number c.args.pass.now.view c.loop-count.pass.view 0 c.loop-count.invariant.same c.requires.number in
     let alone = alone_on c.args.pass.now.view c.loop-count.pass.view c.loop-count.invariant.same c.requires.alone in
     let quiet : (m : ℕ) → m ≢ 0 → items_of m q.seen ≡ items_of m p.seen = λ m other. c.in-Closed.ensures.quiet 0 number m other (inr alone) in
@@ -79,15 +79,15 @@ returns-in-Closed-clause-talk g c =
     let written : Option (List ℕ) = g.K.Sink.written c.serve_one.new.output in (
       record { log = items q.seen; claim = c.loop-count.worker.claim },
       c.in-Closed.ensures.of.legal.guards,
-      inl (ended_so (AnswersAndWorks f c.args.turns) _ _ _ _ _ _ _ None _ _ _ c.loop-count.invariant.so_far closed c.loop-count-test.true
-          (ended_at f c.args.turns p q c.loop-count.worker.claim known left before written (omega arith) quiet closed (c.in-Closed.ensures.did 0 number))),
+      inl (ended_so (AnswersAndWorks f (MayRise g.V.Tool.Tool.faults) c.args.turns) _ _ _ _ _ _ _ None _ _ _ c.loop-count.invariant.so_far closed c.loop-count-test.true
+          (ended_at f (MayRise g.V.Tool.Tool.faults) c.args.turns p q c.loop-count.worker.claim known left before written (λ rose. (c.loop-count.pass.tool, c.serve_one.new.pass.tool, rose)) quiet closed (c.in-Closed.ensures.did 0 number))),
     )
 
 pub returns-in-Torn-clause-talk : goal.returns-in-Torn-clause-talk
 returns-in-Torn-clause-talk g c =
     let f : Front = record { server = server_of g.V.Versions.meaning c.args.api.now.base; told = g.C.Clock.told c.args.clock.now } in
-    let p : Point = record { seen = c.loop-count.pass.view.seen; faults = 0 } in
-    let q : Point = record { seen = c.serve_one.new.pass.view.seen; faults = 0 } in
+    let p : Point = point_of g.V.Tool.Tool.faults c.loop-count.pass in
+    let q : Point = point_of g.V.Tool.Tool.faults c.serve_one.new.pass in
     let number = same_number c.args.pass.now.view c.loop-count.pass.view 0 c.loop-count.invariant.same c.requires.number in
     let alone = alone_on c.args.pass.now.view c.loop-count.pass.view c.loop-count.invariant.same c.requires.alone in
     let quiet : (m : ℕ) → m ≢ 0 → items_of m q.seen ≡ items_of m p.seen = λ m other. c.in-Torn.ensures.quiet 0 number m other (inr alone) in
@@ -97,15 +97,15 @@ returns-in-Torn-clause-talk g c =
     let written : Option (List ℕ) = g.K.Sink.written c.serve_one.new.output in (
       record { log = items q.seen; claim = c.loop-count.worker.claim },
       c.in-Torn.ensures.of.legal.guards,
-      (ended_so (AnswersAndWorks f c.args.turns) _ _ _ _ _ _ _ None _ _ _ c.loop-count.invariant.so_far (torn c.in-Torn.held) c.loop-count-test.true
-          (ended_at f c.args.turns p q c.loop-count.worker.claim known left before written (omega arith) quiet (torn c.in-Torn.held) (c.in-Torn.ensures.did 0 number))),
+      (ended_so (AnswersAndWorks f (MayRise g.V.Tool.Tool.faults) c.args.turns) _ _ _ _ _ _ _ None _ _ _ c.loop-count.invariant.so_far (torn c.in-Torn.held) c.loop-count-test.true
+          (ended_at f (MayRise g.V.Tool.Tool.faults) c.args.turns p q c.loop-count.worker.claim known left before written (λ rose. (c.loop-count.pass.tool, c.serve_one.new.pass.tool, rose)) quiet (torn c.in-Torn.held) (c.in-Torn.ensures.did 0 number))),
     )
 
 pub returns-in-Refused-clause-talk : goal.returns-in-Refused-clause-talk
 returns-in-Refused-clause-talk g c =
     let f : Front = record { server = server_of g.V.Versions.meaning c.args.api.now.base; told = g.C.Clock.told c.args.clock.now } in
-    let p : Point = record { seen = c.loop-count.pass.view.seen; faults = 0 } in
-    let q : Point = record { seen = c.serve_one.new.pass.view.seen; faults = 0 } in
+    let p : Point = point_of g.V.Tool.Tool.faults c.loop-count.pass in
+    let q : Point = point_of g.V.Tool.Tool.faults c.serve_one.new.pass in
     let number = same_number c.args.pass.now.view c.loop-count.pass.view 0 c.loop-count.invariant.same c.requires.number in
     let alone = alone_on c.args.pass.now.view c.loop-count.pass.view c.loop-count.invariant.same c.requires.alone in
     let quiet : (m : ℕ) → m ≢ 0 → items_of m q.seen ≡ items_of m p.seen = λ m other. c.in-Refused.ensures.quiet 0 number m other (inr alone) in
@@ -115,15 +115,15 @@ returns-in-Refused-clause-talk g c =
     let written : Option (List ℕ) = g.K.Sink.written c.serve_one.new.output in (
       record { log = items q.seen; claim = c.loop-count.worker.claim },
       c.in-Refused.ensures.of.legal.guards,
-      (ended_so (AnswersAndWorks f c.args.turns) _ _ _ _ _ _ _ None _ _ _ c.loop-count.invariant.so_far (refused c.in-Refused.fault) c.loop-count-test.true
-          (ended_at f c.args.turns p q c.loop-count.worker.claim known left before written (omega arith) quiet (refused c.in-Refused.fault) (c.in-Refused.ensures.did 0 number))),
+      (ended_so (AnswersAndWorks f (MayRise g.V.Tool.Tool.faults) c.args.turns) _ _ _ _ _ _ _ None _ _ _ c.loop-count.invariant.so_far (refused c.in-Refused.fault) c.loop-count-test.true
+          (ended_at f (MayRise g.V.Tool.Tool.faults) c.args.turns p q c.loop-count.worker.claim known left before written (λ rose. (c.loop-count.pass.tool, c.serve_one.new.pass.tool, rose)) quiet (refused c.in-Refused.fault) (c.in-Refused.ensures.did 0 number))),
     )
 
 pub returns-in-ReadFault-clause-talk : goal.returns-in-ReadFault-clause-talk
 returns-in-ReadFault-clause-talk g c =
     let f : Front = record { server = server_of g.V.Versions.meaning c.args.api.now.base; told = g.C.Clock.told c.args.clock.now } in
-    let p : Point = record { seen = c.loop-count.pass.view.seen; faults = 0 } in
-    let q : Point = record { seen = c.serve_one.new.pass.view.seen; faults = 0 } in
+    let p : Point = point_of g.V.Tool.Tool.faults c.loop-count.pass in
+    let q : Point = point_of g.V.Tool.Tool.faults c.serve_one.new.pass in
     let number = same_number c.args.pass.now.view c.loop-count.pass.view 0 c.loop-count.invariant.same c.requires.number in
     let alone = alone_on c.args.pass.now.view c.loop-count.pass.view c.loop-count.invariant.same c.requires.alone in
     let quiet : (m : ℕ) → m ≢ 0 → items_of m q.seen ≡ items_of m p.seen = λ m other. c.in-ReadFault.ensures.quiet 0 number m other (inr alone) in
@@ -133,15 +133,15 @@ returns-in-ReadFault-clause-talk g c =
     let written : Option (List ℕ) = g.K.Sink.written c.serve_one.new.output in (
       record { log = items q.seen; claim = c.loop-count.worker.claim },
       c.in-ReadFault.ensures.of.legal.guards,
-      broke_reading (AnswersAndWorks f c.args.turns) _ _ _ _ _ _ _ None _ _ _ c.loop-count.invariant.so_far c.loop-count.invariant.few
-          (unread_at f c.args.turns p q c.loop-count.worker.claim known left before written (omega arith) quiet (c.in-ReadFault.ensures.did 0 number)),
+      broke_reading (AnswersAndWorks f (MayRise g.V.Tool.Tool.faults) c.args.turns) _ _ _ _ _ _ _ None _ _ _ c.loop-count.invariant.so_far c.loop-count.invariant.few
+          (unread_at f (MayRise g.V.Tool.Tool.faults) c.args.turns p q c.loop-count.worker.claim known left before written (λ rose. (c.loop-count.pass.tool, c.serve_one.new.pass.tool, rose)) quiet (c.in-ReadFault.ensures.did 0 number)),
     )
 
 pub returns-in-WriteFault-clause-talk : goal.returns-in-WriteFault-clause-talk
 returns-in-WriteFault-clause-talk g c =
     let f : Front = record { server = server_of g.V.Versions.meaning c.args.api.now.base; told = g.C.Clock.told c.args.clock.now } in
-    let p : Point = record { seen = c.loop-count.pass.view.seen; faults = 0 } in
-    let q : Point = record { seen = c.serve_one.new.pass.view.seen; faults = 0 } in
+    let p : Point = point_of g.V.Tool.Tool.faults c.loop-count.pass in
+    let q : Point = point_of g.V.Tool.Tool.faults c.serve_one.new.pass in
     let number = same_number c.args.pass.now.view c.loop-count.pass.view 0 c.loop-count.invariant.same c.requires.number in
     let alone = alone_on c.args.pass.now.view c.loop-count.pass.view c.loop-count.invariant.same c.requires.alone in
     let quiet : (m : ℕ) → m ≢ 0 → items_of m q.seen ≡ items_of m p.seen = λ m other. c.in-WriteFault.ensures.quiet 0 number m other (inr alone) in
@@ -149,8 +149,8 @@ returns-in-WriteFault-clause-talk g c =
     let left : Option (List ℕ) = prepend_known c.serve_one.new.inbox.bytes (g.S.Source.left c.serve_one.new.input) in
     let before : Option (List ℕ) = g.K.Sink.written c.loop-count.output in
     let written : Option (List ℕ) = g.K.Sink.written c.serve_one.new.output in
-    let after = broke_at f c.args.turns p q c.loop-count.worker.claim known left before written (omega arith) quiet c.in-WriteFault.ensures.of.legal.guards (c.in-WriteFault.ensures.did 0 number) in
-    (after.0, after.1, broke (AnswersAndWorks f c.args.turns) _ _ _ _ _ _ _ _ _ _ _ c.loop-count.invariant.so_far _ c.loop-count-test.true after.2)
+    let after = broke_at f (MayRise g.V.Tool.Tool.faults) c.args.turns p q c.loop-count.worker.claim known left before written (λ rose. (c.loop-count.pass.tool, c.serve_one.new.pass.tool, rose)) quiet c.in-WriteFault.ensures.of.legal.guards (c.in-WriteFault.ensures.did 0 number) in
+    (after.0, after.1, broke (AnswersAndWorks f (MayRise g.V.Tool.Tool.faults) c.args.turns) _ _ _ _ _ _ _ _ _ _ _ c.loop-count.invariant.so_far _ c.loop-count-test.true after.2)
 
 pub returns-clause-talk : goal.returns-clause-talk
 returns-clause-talk g c = (

@@ -6,13 +6,13 @@ use Rattle.shared_api.specs.Base.{server_of}
 use Rattle.shared_api.specs.Passes.{IsOf}
 use Rattle.http_front.specs.Steps.{IsSameBut}
 use Rattle.http_front.proofs.Talking.{SoFar}
-use Rattle.kubeconv_cmd.specs.Serving.{AnswersAndWorks}
+use Rattle.kubeconv_cmd.specs.Serving.{AnswersAndWorks, MayRise}
 use Rattle.kubeconv_cmd.proofs.pipe.converse.Given as goal
 
 abbrev pub invariant-loop-count : goal.invariant-loop-count
 invariant-loop-count g l = record {
   of : IsOf g.V.Versions.meaning l.api l.pass;
-  so_far : SoFar (AnswersAndWorks (record { server = server_of g.V.Versions.meaning l.api.base; told = g.C.Clock.told l.clock }) l.turns)
+  so_far : SoFar (AnswersAndWorks (record { server = server_of g.V.Versions.meaning l.api.base; told = g.C.Clock.told l.clock }) (MayRise g.V.Tool.Tool.faults) l.turns)
       (record { log = items l.initial.pass.view.seen; claim = l.initial.worker.claim }) (record { log = items l.pass.view.seen; claim = l.worker.claim }) l.count
       (g.S.Source.left l.initial.input) (prepend_known l.inbox.bytes (g.S.Source.left l.input)) (g.K.Sink.written l.initial.output) (g.K.Sink.written l.output);
   same : IsSameBut l.initial.pass.view l.pass.view;

@@ -1,3 +1,4 @@
+use Rattle.kubeconv_cmd.specs.Serving.{MayRise}
 use Rattle.kubeconv_cmd.proofs.Serving.{first_alone, first_number, opened}
 use Rattle.kubeconv_cmd.proofs.pipe.serve.Goals as goal
 
@@ -11,6 +12,6 @@ pub returns-clause-talk : goal.returns-clause-talk
 returns-clause-talk g c = λ b left.
     let talk = c.converse-end.ensures.talk in
     opened g.V.Versions.meaning c.in_ok-api.api c.in_ok-api.pass.view c.args.versions
-    (record { boot = c.args.boot; told = g.C.Clock.told c.args.clock.now }) c.args.turns b
+    (record { boot = c.args.boot; told = g.C.Clock.told c.args.clock.now }) (MayRise g.V.Tool.Tool.faults) c.args.turns b
     (g.S.Source.left c.args.input.now) (g.K.Sink.written c.args.output.now) (g.K.Sink.written c.converse-end.new.output) c.converse-end.result talk.0
     c.in_ok-api.ensures.base c.in_ok-api.ensures.new left talk.1 talk.2

@@ -1,4 +1,4 @@
-use Rattle.std.proofs.Common.{◌<◌, refl, arith}
+use Rattle.std.proofs.Common.{refl}
 use Rattle.api_calls.specs.Item.{items}
 use Rattle.shared_api.specs.Base.{server_of}
 use Rattle.http_front.proofs.Calling.{same_but, same_on}
@@ -18,7 +18,7 @@ loop-turn-preserved g c =
       of = c.worker_turn-came.ensures.of;
       took = one_more c.loop-turn._turn mid after c.loop-turn.invariant.took
           (turn_alone (server_of g.V.Versions.meaning c.args.api.now.base) _ c.loop-turn.pass.view c.worker_turn-came.new.pass.view c.loop-turn.worker.claim c.worker_turn-came.new.w.claim
-          c.worker_turn-came.result answer.0 (λ rose. let none : 0 < 0 = rose in omega (arith, none)) (alone_on c.args.pass.now.view c.loop-turn.pass.view c.loop-turn.invariant.same c.requires.alone) answer.1 c.worker_turn-came.ensures.asked answer.2);
+          c.worker_turn-came.result answer.0 (alone_on c.args.pass.now.view c.loop-turn.pass.view c.loop-turn.invariant.same c.requires.alone) answer.1 c.worker_turn-came.ensures.asked answer.2);
       same = same_on c.args.pass.now.view c.loop-turn.pass.view c.worker_turn-came.new.pass.view c.loop-turn.invariant.same
           (same_but c.loop-turn.pass.view c.worker_turn-came.new.pass.view answer.2.log answer.2.item answer.2.turned);
     }

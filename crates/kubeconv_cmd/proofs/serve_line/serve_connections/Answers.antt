@@ -5,22 +5,22 @@ use Rattle.kubeconv_cmd.proofs.serve_line.serve_connections.Goals as goal
 
 pub returns-in-Done-clause-done : goal.returns-in-Done-clause-done
 returns-in-Done-clause-done g c =
-    let all = c.in-Done.ensures.served 0 (first_number _ _ c.in-Ok.ensures.new) in (
+    let all = c.in-Done.ensures.served 0 (first_number _ _ c.in-Ok-open.ensures.new) in (
       all.0,
       all.1,
-      answered_all g.V.Versions.meaning c.in-Ok.api.base c.args.versions (record { boot = c.args.boot; told = g.C.Clock.told c.args.clock.now }) _ _ all.0 _ _ _ _ _ _
-          c.in-Ok.ensures.base c.in-Ok.ensures.new c.listen_at.ensures.origins c.listen_at.ensures.returned c.in-Done.ensures.of.legal all.2,
+      answered_all g.V.Tool.Tool.faults g.V.Versions.meaning c.in-Ok-open.api.base c.args.versions (record { boot = c.args.boot; told = g.C.Clock.told c.args.clock.now }) _ _ all.0 _ _ _ _ _ _
+          c.in-Ok-open.ensures.base c.in-Ok-open.ensures.new c.listen_at.ensures.origins c.listen_at.ensures.returned c.in-Done.ensures.of.legal all.2,
     )
 
 pub returns-in-EarsFault-clause-unheard : goal.returns-in-EarsFault-clause-unheard
 returns-in-EarsFault-clause-unheard g c =
-    let all = c.in-EarsFault.ensures.served 0 (first_number _ _ c.in-Ok.ensures.new) in (
+    let all = c.in-EarsFault.ensures.served 0 (first_number _ _ c.in-Ok-open.ensures.new) in (
       rose_since _ _ _ c.listen_at.ensures.later c.in-EarsFault.ensures.blames,
       inr (
         all.0,
         all.1,
-        answered_all g.V.Versions.meaning c.in-Ok.api.base c.args.versions (record { boot = c.args.boot; told = g.C.Clock.told c.args.clock.now }) _ _ all.0 _ _ _ _ _ _
-            c.in-Ok.ensures.base c.in-Ok.ensures.new c.listen_at.ensures.origins c.listen_at.ensures.returned c.in-EarsFault.ensures.of.legal all.2,
+        answered_all g.V.Tool.Tool.faults g.V.Versions.meaning c.in-Ok-open.api.base c.args.versions (record { boot = c.args.boot; told = g.C.Clock.told c.args.clock.now }) _ _ all.0 _ _ _ _ _ _
+            c.in-Ok-open.ensures.base c.in-Ok-open.ensures.new c.listen_at.ensures.origins c.listen_at.ensures.returned c.in-EarsFault.ensures.of.legal all.2,
         c.in-Ok-listen_at.ensures.told,
       ),
     )

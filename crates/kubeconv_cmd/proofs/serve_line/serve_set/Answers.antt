@@ -7,7 +7,7 @@ use Rattle.crd_loading.specs.View.{LoadedView}
 use Rattle.crd_versions.specs.Set.{definition_of}
 use Rattle.crd_crossing.proofs.Crossing.{set_send, set_sync}
 use Rattle.kubeconv_cmd.specs.Listening.{Announced}
-use Rattle.kubeconv_cmd.specs.Serving.{Start, meaning_of}
+use Rattle.kubeconv_cmd.specs.Serving.{Start, meaning_of, no_faults}
 use Rattle.kubeconv_cmd.specs.Beside.{AnsweredAll, ServesAll}
 use Rattle.kubeconv_cmd.proofs.ServeEnding.{serves_all, done_as, fewer_as}
 use Rattle.kubeconv_cmd.proofs.serve_line.serve_set.Goals as goal
@@ -23,7 +23,7 @@ returns-clause-done g c =
     let start : Start = record { boot = c.args.boot; told = g.C.Clock.told c.args.clock.now } in
     let d = definition_of c.args.versions in
     done_as c.serve_connections.result c.args.service.connections
-    (λ (n : ℕ). AnsweredAll (meaning_of d) start n (g.A.Ears.origins c.args.ears.now) (g.A.Ears.origins c.serve_connections.new.ears) (g.A.Ears.returned c.args.ears.now) (g.A.Ears.returned c.serve_connections.new.ears))
+    (λ (n : ℕ). AnsweredAll no_faults (meaning_of d) start n (g.A.Ears.origins c.args.ears.now) (g.A.Ears.origins c.serve_connections.new.ears) (g.A.Ears.returned c.args.ears.now) (g.A.Ears.returned c.serve_connections.new.ears))
     (λ (n : ℕ). (crd rules : List ℕ) (l : LoadedView) → Loads crd rules l → d ≡ set_of l
     → ServesAll crd rules start n (g.A.Ears.origins c.args.ears.now) (g.A.Ears.origins c.serve_connections.new.ears) (g.A.Ears.returned c.args.ears.now) (g.A.Ears.returned c.serve_connections.new.ears))
     (λ n answered crd rules l loads is. serves_all crd rules start n _ _ _ _ d l loads is answered)
@@ -34,7 +34,7 @@ returns-clause-unheard g c =
     let start : Start = record { boot = c.args.boot; told = g.C.Clock.told c.args.clock.now } in
     let d = definition_of c.args.versions in
     fewer_as c.serve_connections.result c.args.service.connections
-    (λ (n : ℕ). AnsweredAll (meaning_of d) start n (g.A.Ears.origins c.args.ears.now) (g.A.Ears.origins c.serve_connections.new.ears) (g.A.Ears.returned c.args.ears.now) (g.A.Ears.returned c.serve_connections.new.ears))
+    (λ (n : ℕ). AnsweredAll no_faults (meaning_of d) start n (g.A.Ears.origins c.args.ears.now) (g.A.Ears.origins c.serve_connections.new.ears) (g.A.Ears.returned c.args.ears.now) (g.A.Ears.returned c.serve_connections.new.ears))
     (λ (n : ℕ). (crd rules : List ℕ) (l : LoadedView) → Loads crd rules l → d ≡ set_of l
     → ServesAll crd rules start n (g.A.Ears.origins c.args.ears.now) (g.A.Ears.origins c.serve_connections.new.ears) (g.A.Ears.returned c.args.ears.now) (g.A.Ears.returned c.serve_connections.new.ears))
     (Rose (g.A.Ears.faults c.args.ears.now) (g.A.Ears.faults c.serve_connections.new.ears))

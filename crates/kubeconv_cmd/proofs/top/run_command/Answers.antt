@@ -1,11 +1,11 @@
 use Rattle.std.proofs.Common.{◌≡◌, ℕ, List, refl, ap, subst, inl}
 use Rattle.std.specs.Io.KnownBytes.{append_known}
 use Rattle.crd_versions.specs.Set.{definition_of}
-use Rattle.command_lines.specs.Given.{named_of, task_of}
+use Rattle.command_lines.specs.Given.{conversion_of, named_of, task_of}
 use Rattle.command_lines.specs.Lines.{from_files}
 use Rattle.kubeconv_cmd.specs.Outcome.{unserved, unloaded_task, unloaded_service}
 use Rattle.kubeconv_cmd.proofs.Serving.{converses_at}
-use Rattle.kubeconv_cmd.proofs.Outcomes.{stopped_so, stopped_line, pipe_outcome, task_outcome, tasks_line, drill_outcome, serve_outcome, migrate_outcome, migrated_line, bad_migration, dump_outcome, dumps_line, bad_dump, load_outcome, loads_line, bad_load}
+use Rattle.kubeconv_cmd.proofs.Outcomes.{stopped_so, stopped_line, pipe_outcome, pipe_by_outcome, serve_by_outcome, stopped_by, unconverted_says, never_held, never_connected, task_outcome, tasks_line, drill_outcome, serve_outcome, migrate_outcome, migrated_line, bad_migration, dump_outcome, dumps_line, bad_dump, load_outcome, loads_line, bad_load}
 use Rattle.kubeconv_cmd.proofs.top.run_command.Goals as goal
 
 pub returns-in-Ok-clause-outcome : goal.returns-in-Ok-clause-outcome
@@ -225,3 +225,85 @@ returns-in-Load-clause-errors g c =
     λ other input answer ne.
     subst (λ (text : List ℕ). g.E.Sink.written c.tell_loaded.new.errors ≡ append_known (g.E.Sink.written c.args.errors.now) text)
     (loads_line c.load_line-came.result c.tell_loaded.result c.tell_loaded.ensures.status input answer) (c.tell_loaded.ensures.line ne)
+
+pub returns-in-Ok-load_converted-clause-outcome : goal.returns-in-Ok-load_converted-clause-outcome
+returns-in-Ok-load_converted-clause-outcome g c =
+    let k = conversion_of c.in-PipeBy.conversion in
+    let d = c.in-Ok-load_converted.found.versions.set in
+    rw c.in-PipeBy.is (
+      pipe_by_outcome _ k d c.in-PipeBy.turns c.serve_converted-held.result c.tell_pipe-in-Ok-load_converted.result
+          c.in-Ok-load_converted.ensures.taken c.in-Ok-load_converted.ensures.loaded c.in-Ok-load_converted.ensures.address
+          c.serve_converted-held.ensures.talk c.serve_converted-held.ensures.blames c.serve_converted-held.ensures.flushed c.serve_converted-held.ensures.untouched
+          (λ e. (ap g.K.Sink.written e, ap g.K.Sink.flushed e)) c.tell_pipe-in-Ok-load_converted.ensures.status,
+      refl,
+    )
+
+pub returns-in-Err-load_converted-clause-outcome : goal.returns-in-Err-load_converted-clause-outcome
+returns-in-Err-load_converted-clause-outcome g c =
+    rw c.in-PipeBy.is (
+      unserved (stopped_by _ (conversion_of c.in-PipeBy.conversion) c.in-Err-load_converted.fault c.tell_unconverted.result c.in-Err-load_converted.ensures.refused c.in-Err-load_converted.ensures.cause
+          c.in-Err-load_converted.ensures.addressless refl c.tell_unconverted.ensures.status c.tell_unconverted.ensures.line) refl (refl, refl, refl),
+      refl,
+    )
+
+pub returns-in-Err-load_converted-clause-errors : goal.returns-in-Err-load_converted-clause-errors
+returns-in-Err-load_converted-clause-errors g c =
+    λ other input answer ne.
+    subst (λ (text : List ℕ). g.E.Sink.written c.tell_unconverted.new.errors ≡ append_known (g.E.Sink.written c.args.errors.now) text)
+    (unconverted_says c.in-Err-load_converted.fault c.tell_unconverted.result c.tell_unconverted.ensures.status other) (c.tell_unconverted.ensures.line ne)
+
+pub returns-in-Ok-load_converted-2-clause-outcome : goal.returns-in-Ok-load_converted-2-clause-outcome
+returns-in-Ok-load_converted-2-clause-outcome g c =
+    let k = conversion_of c.in-ServeBy.conversion in
+    let d = c.in-Ok-load_converted-2.found.versions.set in
+    rw c.in-ServeBy.is (
+      serve_by_outcome _ k c.in-ServeBy.listening.connections d c.connect_converted-came.result c.tell_served-in-Ok-load_converted-2.result
+          c.in-Ok-load_converted-2.ensures.taken c.in-Ok-load_converted-2.ensures.loaded c.in-Ok-load_converted-2.ensures.address
+          c.connect_converted-came.ensures.done c.connect_converted-came.ensures.told c.connect_converted-came.ensures.silent c.connect_converted-came.ensures.unheard
+          c.connect_converted-came.ensures.untold c.connect_converted-came.ensures.untouched c.tell_served-in-Ok-load_converted-2.ensures.status,
+      refl,
+    )
+
+pub returns-in-Err-load_converted-2-clause-outcome : goal.returns-in-Err-load_converted-2-clause-outcome
+returns-in-Err-load_converted-2-clause-outcome g c =
+    rw c.in-ServeBy.is (
+      unloaded_service (stopped_by _ (conversion_of c.in-ServeBy.conversion) c.in-Err-load_converted-2.fault c.tell_unconverted-in-Err-load_converted-2.result c.in-Err-load_converted-2.ensures.refused c.in-Err-load_converted-2.ensures.cause
+          c.in-Err-load_converted-2.ensures.addressless refl c.tell_unconverted-in-Err-load_converted-2.ensures.status c.tell_unconverted-in-Err-load_converted-2.ensures.line) (refl, refl, refl) (refl, refl),
+      refl,
+    )
+
+pub returns-in-Err-load_converted-2-clause-errors : goal.returns-in-Err-load_converted-2-clause-errors
+returns-in-Err-load_converted-2-clause-errors g c =
+    λ other input answer ne.
+    subst (λ (text : List ℕ). g.E.Sink.written c.tell_unconverted-in-Err-load_converted-2.new.errors ≡ append_known (g.E.Sink.written c.args.errors.now) text)
+    (unconverted_says c.in-Err-load_converted-2.fault c.tell_unconverted-in-Err-load_converted-2.result c.tell_unconverted-in-Err-load_converted-2.ensures.status other) (c.tell_unconverted-in-Err-load_converted-2.ensures.line ne)
+
+pub returns-in-Ok-load_converted-clause-place : goal.returns-in-Ok-load_converted-clause-place
+returns-in-Ok-load_converted-clause-place g c = rw c.in-PipeBy.is tt
+
+pub returns-in-Err-load_converted-clause-place : goal.returns-in-Err-load_converted-clause-place
+returns-in-Err-load_converted-clause-place g c = rw c.in-PipeBy.is tt
+
+pub returns-in-Ok-load_converted-2-clause-place : goal.returns-in-Ok-load_converted-2-clause-place
+returns-in-Ok-load_converted-2-clause-place g c = rw c.in-ServeBy.is c.connect_converted-came.ensures.place
+
+pub returns-in-Err-load_converted-2-clause-place : goal.returns-in-Err-load_converted-2-clause-place
+returns-in-Err-load_converted-2-clause-place g c = rw c.in-ServeBy.is (inl refl)
+
+pub returns-in-Ok-load_converted-clause-unlinked : goal.returns-in-Ok-load_converted-clause-unlinked
+returns-in-Ok-load_converted-clause-unlinked g c = rw c.in-PipeBy.is tt
+
+pub returns-in-Err-load_converted-clause-unlinked : goal.returns-in-Err-load_converted-clause-unlinked
+returns-in-Err-load_converted-clause-unlinked g c = rw c.in-PipeBy.is tt
+
+pub returns-in-Ok-load_converted-2-clause-unlinked : goal.returns-in-Ok-load_converted-2-clause-unlinked
+returns-in-Ok-load_converted-2-clause-unlinked g c = rw c.in-ServeBy.is tt
+
+pub returns-in-Err-load_converted-2-clause-unlinked : goal.returns-in-Err-load_converted-2-clause-unlinked
+returns-in-Err-load_converted-2-clause-unlinked g c = rw c.in-ServeBy.is tt
+
+pub returns-in-Ok-load_converted-clause-unused : goal.returns-in-Ok-load_converted-clause-unused
+returns-in-Ok-load_converted-clause-unused g c = λ bad. absurd (never_held c.serve_converted-held.result c.tell_pipe-in-Ok-load_converted.result c.tell_pipe-in-Ok-load_converted.ensures.status bad)
+
+pub returns-in-Ok-load_converted-2-clause-unused : goal.returns-in-Ok-load_converted-2-clause-unused
+returns-in-Ok-load_converted-2-clause-unused g c = λ bad. absurd (never_connected c.connect_converted-came.result c.tell_served-in-Ok-load_converted-2.result c.tell_served-in-Ok-load_converted-2.ensures.status bad)
