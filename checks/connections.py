@@ -5,8 +5,9 @@
 
 PROGRAM is a built kubeconv, or the launcher ./kubeconv. It serves the definition that is built in, at a port of the system's choice.
 Each function of CASES is a case. What its connections are answered is compared byte for byte, but for the moment and the first half of a
-uid, which differ in each run, and but for the last case, whose answers are held against each other; so are the output, which is the one
-line that tells the address, the error line and the status. Prints a line for each case; what differs is told on standard error, and then the status is 1. It takes a few seconds.
+uid, which differ in each run, and but for the last case, whose answers are held against one history by fold.py; so are the output, which is
+the one line that tells the address, the error line and the status. Prints a line for each case; what differs is told on standard error, and
+then the status is 1. It takes a few seconds.
 """
 import concurrent.futures
 import fcntl
@@ -22,7 +23,8 @@ import sys
 import termios
 import time
 
-import parts  # noqa: F401  finds the next one
+import parts  # noqa: F401  finds the next ones
+from fold import Call, History
 from programs import TOP
 
 FILES = ["--crd", TOP / "examples/rules/same.json", "--rules", TOP / "examples/rules/same.rules.json"]
@@ -46,6 +48,11 @@ STAMPS = re.compile(rb'"creationTimestamp":"\d{4}-\d\d-\d\dT\d\d:\d\d:\d\dZ"')
 UIDS = re.compile(rb'"uid":"[0-9a-f]{8}-[0-9a-f]{4}-8[0-9a-f]{3}-[89ab][0-9a-f]{3}-')
 NUMBER = re.compile(rb'"resourceVersion":"([0-9]+)"')
 HOST = re.compile(rb'"host":"([^"]*)"')
+NAME = re.compile(rb'"name":"(o[0-9]+)"')
+# The number at which the object stands, which a conflict tells.
+TOLD = re.compile(rb'"message":"([0-9]+)"')
+# What the calls are of which two callers make four one behind the other, and what each may be answered.
+KINDS = [("create", (201, 409)), ("get", (200, 404)), ("replace", (200, 404, 409)), ("delete", (200, 404))]
 
 
 class Wrong(Exception):
@@ -328,74 +335,45 @@ def task_of(caller, task, last):
     return request("GET" if task % 4 == 1 else "DELETE", f"{OBJECTS.format('v1')}/o{place}")
 
 
-class Told:
-    """What the callers were told together: by its number each object that was written, whether as a new one and with which host; how often
-    each was deleted; and how many writes and deletes there were."""
-
-    def __init__(self):
-        self.written, self.deleted, self.count = {}, [0] * PLACES, 0
-
-    def take(self, caller, task, answer, before):
-        """Takes in an answer to a write or a delete of a caller whose last write had the number `before`, and answers that of its last
-        write now. An answer is a success, or says that another caller came first."""
-        code, place = int(answer[9:12]), place_of(caller, task)
-        same("whether it is an answer of these", code in (200, 201, 404, 409), True)
-        if code >= 400:
-            return before
-        self.count += 1
-        if task % 4 == 3:
-            self.deleted[place] += 1
-            return before
-        number = int(found(NUMBER, answer))
-        same("the host that is stored", found(HOST, answer), f"h{caller}-{task}")
-        same("whether numbers rise for a caller", before < number, True)
-        same("whether a number is told twice", number in self.written, False)
-        self.written[number] = place, code == 201, f"h{caller}-{task}"
-        return number
-
-    def take_all(self, caller, answers):
-        before = 0
-        for task, answer in enumerate(answers):
-            if task % 4 != 1:
-                before = self.take(caller, task, answer, before)
-
-    def last_of(self, place):
-        """The number and the host of the last write of an object, and how often it was created. A write may come next that replaces what
-        stands, or creates what doesn't, for which a number that nobody was told leaves room: that of a delete."""
-        number, host, created = 0, None, 0
-        for now, (where, creates, stored) in sorted(self.written.items()):
-            if where == place:
-                is_gone = any(between not in self.written for between in range(number + 1, now))
-                same("whether a write may come next", creates if number == 0 else not creates or is_gone, True)
-                number, host, created = now, stored, created + creates
-        return number, host, created
+def call_of(caller, task, asked, answer, sent, came):
+    """A call by what was asked and answered, which is a success, or says that another caller came first."""
+    kind, codes = KINDS[task % 4]
+    place, code = place_of(caller, task), int(answer[9:12])
+    same("whether it is an answer of these", code in codes, True)
+    same("the name", found(NAME, answer), f"o{place}")
+    number, host = found(TOLD if (kind, code) == ("replace", 409) else NUMBER, answer), found(HOST, answer)
+    if kind in ("create", "replace") and code < 400:
+        same("the host that is stored", host, f"h{caller}-{task}")
+    given = found(NUMBER, asked) if kind == "replace" else None
+    return Call(kind, place, sent, came, code, number and int(number), host, given and int(given))
 
 
-def answers_of(server, caller):
-    peer, answers = server.connect(), [b""]
+def calls_of(server, caller):
+    peer, calls, answer = server.connect(), [], b""
     for task in range(TASKS):
-        answers.append(peer.ask(task_of(caller, task, answers[-1])))
+        asked = task_of(caller, task, answer)
+        sent = time.monotonic()
+        answer = peer.ask(asked)
+        calls.append(call_of(caller, task, asked, answer, sent, time.monotonic()))
     peer.end()
-    return answers[1:]
+    return calls
 
 
 def two_callers(program):
-    """Two callers make requests beside each other. Each write is one that a caller was told of, and may come behind those before it; and what
-    stands behind them is what the writes come to one after another."""
-    told = Told()
+    """Two callers make requests beside each other. There is one history of writes, one after another, so that what each call was answered was so
+    at a moment of it between its request and its answer, and what stands at the end is what all come to."""
     with Server(program, 3, 0) as server:
         with concurrent.futures.ThreadPoolExecutor() as pool:
-            for caller, answers in enumerate(pool.map(lambda it: answers_of(server, it), range(2))):
-                told.take_all(caller, answers)
+            calls = [it for each in pool.map(lambda caller: calls_of(server, caller), range(2)) for it in each]
+        history = History(calls, PLACES)
+        same("the faults of the history", history.faults()[:3], [])
         peer = server.connect()
         for place in range(PLACES):
             shown = peer.ask(request("GET", f"{OBJECTS.format('v1')}/o{place}"))
-            number, host, created = told.last_of(place)
-            stands = created > told.deleted[place]
-            same("how often it was created", created, told.deleted[place] + stands)
-            same("the object", (found(NUMBER, shown), found(HOST, shown)), (str(number), host) if stands else (None, None))
+            number, host = history.stands(place)
+            same("the object", (found(NUMBER, shown), found(HOST, shown)), (number and str(number), host))
         next_number = found(NUMBER, peer.ask(writes("POST", PLACES, "h")))
-        same("the number behind all writes", next_number, str(told.count + 2))
+        same("the number behind all writes", next_number, str(history.end + 1))
         peer.end()
 
 

@@ -10,6 +10,8 @@
 // second page of the first list is answered 410. GET /told says what came, and what of it was wrong. By the MODE `etcd` the namespaces
 // are `a-b` and `a`, in the order of their keys in etcd; by `fraction` each object has a number with a fraction; by `cluster` none has a
 // namespace; else it is `plain`.
+//
+// A POST makes a new object of what it gives, behind those before it.
 package main
 
 import (
@@ -32,10 +34,13 @@ type object struct {
 	namespace, name, text string
 	number, puts          int
 	isOld, isGone         bool
+	// What a POST gave.
+	given document
 }
 
 type told struct {
 	Lists, Gets, Puts int
+	Posts             int
 	Limits            []int
 	Wrong             []string
 	Old               []string
@@ -64,8 +69,25 @@ func read(text []byte) interface{} {
 	return value
 }
 
+// The object that a POST gave, as it stands.
+func shownAsGiven(o *object) document {
+	shown, metadata := document{}, document{"resourceVersion": strconv.Itoa(o.number), "uid": "u-" + o.name, "generation": 1,
+		"creationTimestamp": "2024-01-01T00:00:00Z"}
+	for name, value := range o.given["metadata"].(document) {
+		metadata[name] = value
+	}
+	for name, value := range o.given {
+		shown[name] = value
+	}
+	shown["metadata"] = metadata
+	return shown
+}
+
 // The object as it stands.
 func (s *server) shown(o *object) document {
+	if o.given != nil {
+		return shownAsGiven(o)
+	}
 	size := json.Number("9007199254740993")
 	if s.mode == "fraction" {
 		size = "1.5"
@@ -161,6 +183,30 @@ func (s *server) put(at int, o *object, body []byte) (int, document) {
 	return 200, s.shown(o)
 }
 
+func (s *server) post(namespace string, body []byte) (int, document) {
+	s.told.Posts++
+	given, _ := read(body).(document)
+	metadata, _ := given["metadata"].(document)
+	for _, name := range []string{"creationTimestamp", "deletionTimestamp", "generation", "resourceVersion", "uid"} {
+		if _, has := metadata[name]; has {
+			s.isWrong("a post has %s: %.300s", name, body)
+		}
+	}
+	name, _ := metadata["name"].(string)
+	if name == "" || metadata["namespace"] != namespace || given["apiVersion"] != "example.com/v1" {
+		return 400, status(400, "BadRequest", name)
+	}
+	for _, o := range s.objects {
+		if o.namespace == namespace && o.name == name && !o.isGone {
+			return 409, status(409, "AlreadyExists", name)
+		}
+	}
+	s.number++
+	o := &object{namespace: namespace, name: name, number: s.number, given: given}
+	s.objects = append(s.objects, o)
+	return 201, s.shown(o)
+}
+
 // What a request is answered, by its path.
 func (s *server) answer(request *http.Request, body []byte) (int, interface{}) {
 	path := request.URL.Path
@@ -175,6 +221,12 @@ func (s *server) answer(request *http.Request, body []byte) (int, interface{}) {
 	}
 	if path == "/apis/example.com/v1/crontabs" && request.Method == "GET" {
 		return s.list(request.URL.Query())
+	}
+	if parts := strings.Split(path, "/"); len(parts) == 7 && request.Method == "POST" {
+		if kind := request.Header.Get("Content-Type"); kind != "application/json" {
+			s.isWrong("a post of %q", kind)
+		}
+		return s.post(parts[5], body)
 	}
 	for at, o := range s.objects {
 		if path != "/apis/example.com/v1/namespaces/"+o.namespace+"/crontabs/"+o.name {

@@ -1,12 +1,13 @@
 #!/usr/bin/env python3
-"""Looks at `kubeconv migrate` from outside, against servers as they are:
+"""Looks at `kubeconv migrate`, `dump` and `load` from outside, against servers as they are:
 
     python3 checks/outside.py KUBECONV
 
-- Against `kubeconv serve` without workers, while 8 clients write and read, by the checks that checks/soak.py has of each answer: the
-  storage version is moved there and back, and each time `migrate` is run until it ends with a tally. The tally adds up; the trim to the
-  storage version is taken, so no object stands at another; the raw text of each object says the same once the clients have ended; and
-  no answer to a client was wrong. A list that is forgotten 17 times is told, and `migrate` is run again.
+- `migrate` against `kubeconv serve` without workers, while 8 clients write and read, by the checks that checks/soak.py has of each
+  answer: the storage version is moved there and back, and each time `migrate` is run until it ends with a tally. The tally adds up; the
+  trim to the storage version is taken, so no object stands at another; the raw text of each object says the same once the clients have
+  ended; and no answer to a client was wrong. A list that is forgotten 17 times is told, and `migrate` is run again.
+- `dump` and `load` beside such clients, and over lines, inputs and servers that fail: backups.py beside this file says what is looked at.
 - Against a server of Go's `net/http` (outside.go beside this file, which says what it does): it answers in chunks, its objects have
   managedFields, and its continue tokens are of its own form. Each count of the tally is the one that follows of what that server does,
   and what is put back is what was given. Pages of more than 1 MiB, and of more than 2, are asked for by halves. Without `go` this is skipped.
@@ -14,7 +15,6 @@
 
 Each step says what it saw, and the status is 1 where something is wrong."""
 
-import contextlib
 import json
 import pathlib
 import re
@@ -22,35 +22,24 @@ import shutil
 import subprocess
 import sys
 import tempfile
-import threading
 import time
-import urllib.request
 
 import parts  # noqa: F401  finds the next ones
+from backups import backups_against_go, backups_beside, backups_through_kubectl, faults, lines_back
+from beside import CLIENTS, FAULTS, SECONDS, Beside, asked_of, check, going, move, proxied, served, told_of
 from documents import name_of
 from programs import built
-from serving import DEFINITION, GROUP, Connection, Server, address_of, ask, creation, moved
-from soak import SHARED, SHARED_NAMES, Client, faults_at_end, faults_of_numbers, faults_of_shared, open_shared
+from serving import DEFINITION, GROUP, Connection, ask
+from soak import SHARED, SHARED_NAMES
 
 HERE = pathlib.Path(__file__).resolve().parent
-FAULTS = []
-CLIENTS = 8
 # How many objects stand beside those of the clients, how long a client waits behind each request, and how often storage is moved.
-BESIDE = (600, 0.05, 4), (100, 0, 4)
+BESIDE = (600, 0.05, 2), (100, 0, 2)
 # `migrate` is run so often where its list is forgotten, and then the clients wait so many times as long.
 RUNS, LONGER = 5, 2
-# A connection is asked so much.
-REQUESTS = 10_000
-SECONDS = 300
 COUNTS = ["listed", "written", "unchanged", "gone", "contested"]
 # Objects of the server in Go, and the number of the one that is contested.
 OBJECTS, CONTESTED = 800, 721
-
-
-def check(holds, what):
-    print(f"{'ok' if holds else 'WRONG':<6} {what}", flush=True)
-    if not holds:
-        FAULTS.append(what)
 
 
 # ---- a run
@@ -92,34 +81,6 @@ class Run:
 # ---- beside clients of `serve`
 
 
-class Writer(Client):
-    """A client of checks/soak.py that waits behind each request, and goes on until it is told to end."""
-
-    def __init__(self, address, mark, number, pause):
-        super().__init__(address, mark, number, REQUESTS, float("inf"))
-        self.address, self.pause = address, pause
-
-    def step(self):
-        super().step()
-        time.sleep(self.pause)
-        if self.left < REQUESTS // 100:
-            self.connection.close()
-            self.connection, self.left = Connection(self.address, SECONDS), REQUESTS
-
-
-def stored(definition):
-    return next(it["name"] for it in definition["spec"]["versions"] if it["storage"])
-
-
-def move(address):
-    """The other storage version."""
-    connection = Connection(address)
-    definition = moved(ask(connection, 200, "GET", DEFINITION))
-    ask(connection, 200, "PUT", DEFINITION, definition)
-    connection.close()
-    return stored(definition)
-
-
 def trimmed(address, storage):
     """What a trim to the storage version is answered: it names an object that stands at another."""
     connection = Connection(address)
@@ -130,37 +91,26 @@ def trimmed(address, storage):
     return "taken" if code == 200 and shown["status"]["storedVersions"] == [storage] else f"{code} {json.dumps(shown)[:200]}"
 
 
-def fill(address, size):
-    connection = Connection(address)
-    for first in range(0, size, 100):
-        asked = [creation(number) for number in range(first, min(first + 100, size))]
-        connection.send(b"".join(asked))
-        if any(connection.answer()[0] != 201 for _ in asked):
-            sys.exit("an object isn't created")
-    connection.close()
-
-
-def migrate_once(program, address, clients, size):
+def migrate_once(program, others, size):
     """One move of the storage version, and its migration while the clients write."""
-    storage, asked = move(address), sum(it.asked for it in clients)
+    address = others.address
+    storage, asked = move(address), others.asked()
     for times in range(1, RUNS + 1):
         run = Run(program, address, "v1beta1" if times % 2 else "v1")
         if not run.is_forgotten():
             break
         print(f"       to {storage}: {run.said()}: the list was forgotten; the clients wait {LONGER} times as long now", flush=True)
-        for it in clients:
-            it.pause = LONGER * max(it.pause, 0.005)
-    asked = sum(it.asked for it in clients) - asked
+        others.wait_longer(LONGER)
+    asked = others.asked() - asked
     check(run.is_settled() and run.tally["listed"] >= size, f"to {storage}, by run {times}: {run.said()}; {asked} requests of clients meanwhile")
     trim = trimmed(address, storage)
     check(trim == "taken", f"the trim to {storage}: {trim}")
     return storage
 
 
-def raw_faults(address, size, known, storage):
+def raw_faults(address, size, others, storage):
     """The objects whose stored text is of another version."""
-    keys = [("default", name_of(number)) for number in range(size)] + [(SHARED, name) for name in SHARED_NAMES]
-    keys += [(one["namespace"], name) for one in known for name in one["own"]]
+    keys = [("default", name_of(number)) for number in range(size)] + [(SHARED, name) for name in SHARED_NAMES] + others.keys()
     connection, wrong = Connection(address), []
     for namespace, name in keys:
         shown = ask(connection, 200, "GET", f"/raw/{namespace}/{name}")
@@ -170,71 +120,19 @@ def raw_faults(address, size, known, storage):
     return wrong, len(keys)
 
 
-@contextlib.contextmanager
-def served(program, size):
-    """A server without workers at which so many objects stand."""
-    server = Server(program, 0)
-    try:
-        fill(server.address, size)
-        yield server.address
-    finally:
-        server.stop()
-
-
 def beside(program, size, pause, moves):
     """Migrations while clients write."""
-    print(f"beside {CLIENTS} clients of serve, which wait {pause * 1000:.0f} ms behind each request, and {size} objects more", flush=True)
+    print(f"migrate beside {CLIENTS} clients of serve, which wait {pause * 1000:.0f} ms behind each request, and {size} objects more", flush=True)
     with served(program, size) as address:
-        mark = f"o{size}"
-        made = open_shared(address, mark)
-        clients = [Writer(address, mark, number, pause) for number in range(CLIENTS)]
-        threads = [threading.Thread(target=it.run, args=(0, 0), daemon=True) for it in clients]
-        for thread in threads:
-            thread.start()
-        for _ in range(moves):
-            storage = migrate_once(program, address, clients, size)
-        for it in clients:
-            it.until = 0
-        for thread in threads:
-            thread.join()
-        known = [it.known() for it in clients]
-        look_at_clients(address, mark, made, known)
-        wrong, count = raw_faults(address, size, known, storage)
+        with Beside(address, f"o{size}", pause) as others:
+            for _ in range(moves):
+                storage = migrate_once(program, others, size)
+        others.look()
+        wrong, count = raw_faults(address, size, others, storage)
         check(not wrong, f"the raw text of {count} objects is of {storage}{told_of(wrong)}")
 
 
-def look_at_clients(address, mark, made, known):
-    """What the clients were answered, by the rules of checks/soak.py. A put of `migrate` looks like a worker's touch."""
-    wrong = [fault for one in known for fault in one["wrong"]]
-    of_numbers, touched = faults_of_numbers(made, [{**one, "moves": 1} for one in known])
-    of_shared, edits = faults_of_shared(made, known, touched)
-    at_end, objects = faults_at_end(address, mark, known, edits)
-    wrong += of_numbers + of_shared + at_end
-    asked, writes = sum(one["asked"] for one in known), sum(len(one["numbers"]) for one in known)
-    check(not wrong, f"{asked} requests of clients, {writes} writes, {len(touched)} puts of migrate seen, {objects} objects of theirs{told_of(wrong)}")
-
-
-def told_of(wrong):
-    return f": {len(wrong)} wrong, as {wrong[:3]}" if wrong else ""
-
-
 # ---- against a server in Go
-
-
-@contextlib.contextmanager
-def going(server, mode, objects, size):
-    """The server in Go, and its address."""
-    process = subprocess.Popen([server, mode, str(objects), str(size)], stdin=subprocess.DEVNULL, stdout=subprocess.PIPE, text=True)
-    try:
-        yield address_of(process.stdout.readline().rpartition(" ")[2].strip())
-    finally:
-        process.kill()
-        process.wait()
-
-
-def asked_of(address, path):
-    with urllib.request.urlopen("http://{}:{}{}".format(*address, path), timeout=SECONDS) as answer:
-        return answer.headers, json.load(answer)
 
 
 def expected(limit):
@@ -282,18 +180,6 @@ def against_limits(program, server):
 # ---- through kubectl proxy
 
 
-@contextlib.contextmanager
-def proxied(address, *words):
-    """`kubectl proxy` before a server, and its address."""
-    line = ["kubectl", "--server=http://{}:{}".format(*address), "--kubeconfig=/dev/null", "proxy", "--port=0", *words]
-    process = subprocess.Popen(line, stdin=subprocess.DEVNULL, stdout=subprocess.PIPE, text=True)
-    try:
-        yield address_of(process.stdout.readline().rpartition(" ")[2].strip())
-    finally:
-        process.kill()
-        process.wait()
-
-
 def through_kubectl(program):
     with served(program, 50) as server:
         move(server)
@@ -312,18 +198,22 @@ def main():
     program = built(sys.argv[1])
     for size, pause, moves in BESIDE:
         beside(program, size, pause, moves)
+    backups_beside(program)
+    lines_back(program)
+    faults(program)
     if shutil.which("go"):
         with tempfile.TemporaryDirectory() as folder:
             server = pathlib.Path(folder) / "outside"
             subprocess.run(["go", "build", "-o", server, HERE / "outside.go"], check=True)
             against_go(program, server, 100, [500])
-            against_go(program, server, 3_000, [500, 250])
             against_go(program, server, 5_000, [500, 250, 125])
             against_limits(program, server)
+            backups_against_go(program, server)
     else:
         print("skipped: the machine has no go, so nothing was looked at against its net/http", flush=True)
     if shutil.which("kubectl"):
         through_kubectl(program)
+        backups_through_kubectl(program)
     else:
         print("skipped: the machine has no kubectl, so nothing was looked at through its proxy", flush=True)
     sys.exit(1 if FAULTS else 0)
