@@ -9,7 +9,8 @@ taken off, and every answer is checked. With `--beside OTHER` an earlier program
 this one takes is printed; compare programs that were made alike, by unproved.py or `tools/compile.py --bare`.
 
 The allocator's fast bins are switched off: how often it goes through them hangs on where memory happens to lie, and makes a difference of
-two in a hundred by itself."""
+two in a hundred by itself. String instructions of the processor (`rep stosb`, `rep movsb`) are kept from too, since callgrind counts each
+byte that they write as an instruction, of which the processor makes many at once."""
 
 import os
 import re
@@ -21,6 +22,7 @@ from pipe import CHORES, SHARED, answered, create, request
 from programs import SHARED_FILES, TOP, built, parser_of
 
 SIZE, TURNS = 300, 400
+TUNABLES = ["glibc.malloc.mxfast=0", "glibc.cpu.x86_rep_stosb_threshold=0x7fffffff", "glibc.cpu.x86_rep_movsb_threshold=0x7fffffff"]
 CRD = "/apis/apiextensions.k8s.io/v1/customresourcedefinitions/crontabs.example.com"
 MIGRATIONS = "/apis/storagemigration.k8s.io/v1alpha1/storageversionmigrations"
 MIGRATION = (
@@ -35,7 +37,7 @@ def count(program, requests, codes, words=()):
     with tempfile.TemporaryFile() as source, tempfile.TemporaryFile() as sink:
         source.write("".join(requests).encode())
         source.seek(0)
-        outside = {**os.environ, "GLIBC_TUNABLES": "glibc.malloc.mxfast=0"}
+        outside = {**os.environ, "GLIBC_TUNABLES": ":".join(TUNABLES)}
         done = subprocess.run(line, stdin=source, stdout=sink, stderr=subprocess.PIPE, env=outside, text=True)
         sink.seek(0)
         output = sink.read()

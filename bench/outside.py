@@ -1,32 +1,57 @@
 #!/usr/bin/env python3
-"""Times `kubeconv migrate` against `kubeconv serve` over loopback, beside the exchanges alone:
+"""Times `kubeconv migrate`, `dump` and `load`, which ask a server over loopback:
 
-    go build -o plain bench/plain/migrate/migrate.go
-    python3 bench/outside.py --plain ./plain [--program FILE] [--sizes N ..] [--runs N]
+    go build -o plain bench/plain/migrate/migrate.go && go build -o far bench/plain/far/far.go
+    python3 bench/outside.py migrate --plain ./plain [--program FILE] [--sizes N ..] [--runs N]
+    python3 bench/outside.py dump [--sizes N ..]
+    python3 bench/outside.py load --far ./far [--sizes N ..]
+    python3 bench/outside.py memory --far ./far [--sizes N ..]
 
-So many objects stand, and the storage version is moved. Then `migrate` puts all of them back; and once the storage version is moved
-again, a plain client makes the same exchanges, by the same bytes, each over a connection of its own. Of the plain client only what its
-exchanges take is counted, which is the time of the server and the system. Both begin again where the server forgets the list, as it does
-behind 1,024 superseded objects. At first a few objects are migrated through a relay, which looks whether both send the same bytes.
+`migrate`: against `kubeconv serve`, beside the exchanges alone. So many objects stand, and the storage version is moved. Then `migrate` puts
+all of them back; and once the storage version is moved again, a plain client makes the same exchanges, by the same bytes, each over a
+connection of its own. Of the plain client only what its exchanges take is counted, which is the time of the server and the system. Both begin
+again where the server forgets the list, as it does behind 1,024 superseded objects. At first a few objects are migrated through a relay, which
+looks whether both send the same bytes. Prints for each number of objects how many exchanges there are, the seconds of the best run of each,
+what an exchange takes of both in microseconds, and how many times as long `migrate` takes as the exchanges alone: by the clock, and by the
+processor time of the server and the client together.
 
-Prints for each number of objects how many exchanges there are, the seconds of the best run of each, what an exchange takes of both in
-microseconds, and how many times as long `migrate` takes as the exchanges alone: by the clock, and by the processor time of the server and
-the client together. Each tally is looked at, and each code."""
+`dump`: against `kubeconv serve`, beside the same pages alone. Prints the seconds of both, and what an object takes of both in microseconds.
 
+`load`: so many lines against a server in Go that keeps nothing. Prints the seconds, what a line takes in microseconds, also of the processor
+time of `load`, and how many times as long a line takes as of the fewest lines.
+
+`memory`: `dump` and `migrate` against that server, which makes up so many objects. Prints the seconds, and the most memory that each held
+of the machine's, in MB. It is wrong where that is 1 MB more than for the fewest objects.
+
+Each tally and each code is looked at, how many lines there are, and what is put. The status is 1 where something is wrong."""
+
+import json
+import pathlib
 import re
 import resource
 import socket
 import subprocess
 import sys
+import tempfile
 import threading
 import time
+import urllib.request
 
 from programs import built, parser_of
-from serving import DEFINITION, GROUP, Filled, ask, moved
+from serving import DEFINITION, GROUP, Filled, address_of, ask, moved
 
-SIZES = 1_000, 4_000, 16_000
+# What is timed, by so many objects or lines.
+WORKS = {"migrate": (1_000, 4_000, 16_000), "dump": (1_000, 16_000), "load": (10_000, 100_000), "memory": (1_000, 20_000)}
 FEW = 20
+# An object of the server in Go has so many bytes more than its metadata.
+BYTES = 100
+# So many MB more are no growth.
+SLACK = 1
 RESOURCE = f"{GROUP}/v1/crontabs"
+
+
+def url_of(address):
+    return "http://{}:{}{}".format(*address, RESOURCE)
 
 
 def exchanged(address, asked):
@@ -50,9 +75,8 @@ def alone(plain, address):
 
 def migrated(program, address, size):
     """A run of `migrate`: its seconds, and those of its processor time."""
-    url = "http://{}:{}{}".format(*address, RESOURCE)
     before, begin = resource.getrusage(resource.RUSAGE_CHILDREN), time.perf_counter()
-    ran = subprocess.run([program, "migrate", url], stdin=subprocess.DEVNULL, capture_output=True, text=True)
+    ran = subprocess.run([program, "migrate", url_of(address)], stdin=subprocess.DEVNULL, capture_output=True, text=True)
     seconds, after = time.perf_counter() - begin, resource.getrusage(resource.RUSAGE_CHILDREN)
     tally = dict(line.split() for line in ran.stdout.splitlines())
     if ran.returncode != 0 or int(tally["listed"]) != size or int(tally["written"]) + int(tally["unchanged"]) != size:
@@ -126,13 +150,7 @@ def timed(program, plain, filled, size, rows):
         rows[name] = min(best[0], seconds), min(best[1], processor)
 
 
-def main():
-    """Reads the words, runs and prints."""
-    parser = parser_of(__doc__)
-    parser.add_argument("--plain", required=True, help="the plain client, built by go")
-    parser.add_argument("--sizes", type=int, nargs="+", default=SIZES, help="so many objects stand (default: 1000 4000 16000)")
-    options = parser.parse_args()
-    program = built(options.program)
+def migrations(program, options):
     look_at_bytes(program, options.plain)
     print(f"{'objects':>8}{'exchanges':>11}{'migrate, s':>12}{'alone, s':>10}{'us each':>9}{'alone':>8}{'ratio':>8}{'processor':>11}", flush=True)
     for size in options.sizes:
@@ -143,6 +161,152 @@ def main():
         exchanges, (ours, ours_used), (plains, plains_used) = rows["exchanges"], rows["migrate"], rows["alone"]
         each = f"{ours / exchanges * 1e6:>9.0f}{plains / exchanges * 1e6:>8.0f}"
         print(f"{size:>8}{exchanges:>11}{ours:>12.2f}{plains:>10.2f}{each}{ours / plains:>8.2f}{ours_used / plains_used:>11.2f}", flush=True)
+
+
+# ---- dumps and loads
+
+
+def is_so(holds, what):
+    if not holds:
+        sys.exit(f"wrong: {what}")
+
+
+def pages_alone(address):
+    """The seconds that the pages of a list take which nobody reads."""
+    begin, more = time.perf_counter(), b""
+    while True:
+        page = exchanged(address, b"GET %s?limit=500%s HTTP/1.1\r\nHost: kubeconv\r\nConnection: close\r\n\r\n" % (RESOURCE.encode(), more))
+        token = re.search(rb'"continue":"([^"]*)"', page[page.rindex(b'"metadata":') :])
+        if not token or not token[1]:
+            return time.perf_counter() - begin
+        more = b"&continue=" + token[1]
+
+
+def dumped(program, address, size):
+    """The seconds of a dump."""
+    with tempfile.TemporaryFile() as lines:
+        begin = time.perf_counter()
+        ran = subprocess.run([program, "dump", url_of(address)], stdin=subprocess.DEVNULL, stdout=lines, stderr=subprocess.PIPE)
+        seconds = time.perf_counter() - begin
+        lines.seek(0)
+        count = sum(1 for _line in lines)
+    is_so((ran.returncode, ran.stderr, count) == (0, b"", size), f"dump: {ran}, {count} lines")
+    return seconds
+
+
+def dumps(program, options):
+    print(f"{'objects':>8}{'dump, s':>10}{'pages, s':>10}{'us each':>9}{'pages':>8}{'ratio':>8}", flush=True)
+    for size in options.sizes:
+        filled = Filled(program, size)
+        ours = min(dumped(program, filled.server.address, size) for _ in range(options.runs))
+        plain = min(pages_alone(filled.server.address) for _ in range(options.runs))
+        filled.server.stop()
+        print(f"{size:>8}{ours:>10.3f}{plain:>10.3f}{ours / size * 1e6:>9.1f}{plain / size * 1e6:>8.1f}{ours / plain:>8.2f}", flush=True)
+
+
+class Far:
+    """The server in Go, over so many objects."""
+
+    def __init__(self, server, objects):
+        self.process = subprocess.Popen([server, str(objects), str(BYTES)], stdin=subprocess.DEVNULL, stdout=subprocess.PIPE, text=True)
+        self.address = address_of(self.process.stdout.readline().rpartition(" ")[2].strip())
+
+    def told(self):
+        with urllib.request.urlopen("http://{}:{}/told".format(*self.address)) as answer:
+            return json.load(answer)
+
+    def stop(self):
+        self.process.kill()
+        self.process.wait()
+
+
+def line_of(number):
+    metadata = f'{{"name":"o{number:07d}","namespace":"default"}}'
+    return f'{{"apiVersion":"example.com/v1","host":"{"t" * BYTES}","kind":"CronTab","metadata":{metadata}}}\n'.encode()
+
+
+def loaded(program, server, size):
+    """The seconds of a load, by the clock and of its processor time."""
+    far = Far(server, 0)
+    with tempfile.TemporaryFile() as lines:
+        lines.writelines(line_of(number) for number in range(size))
+        lines.seek(0)
+        before, begin = resource.getrusage(resource.RUSAGE_CHILDREN), time.perf_counter()
+        ran = subprocess.run([program, "load", url_of(far.address)], stdin=lines, capture_output=True, text=True)
+        seconds, after = time.perf_counter() - begin, resource.getrusage(resource.RUSAGE_CHILDREN)
+    posts = far.told()["posts"]
+    far.stop()
+    is_so((ran.returncode, ran.stdout, posts) == (0, f"created {size}\npresent 0\n", size), f"load: {ran}, {posts} posts")
+    return seconds, after.ru_utime + after.ru_stime - before.ru_utime - before.ru_stime
+
+
+def loads(program, options):
+    print(f"{'lines':>8}{'load, s':>10}{'us each':>9}{'of load':>9}{'to the fewest':>15}", flush=True)
+    first = None
+    for size in options.sizes:
+        runs = [loaded(program, options.far, size) for _ in range(options.runs)]
+        seconds, used = (min(it) for it in zip(*runs))
+        first = first or seconds / size
+        print(f"{size:>8}{seconds:>10.2f}{seconds / size * 1e6:>9.0f}{used / size * 1e6:>9.0f}{seconds / size / first:>15.2f}", flush=True)
+
+
+# ---- memory
+
+
+def held(process):
+    """The most memory that a program held of the machine's until it ended, in MB (10^6 bytes)."""
+    most = 0
+    while process.poll() is None:
+        try:
+            told = re.search(r"VmHWM:\s*(\d+) kB", pathlib.Path(f"/proc/{process.pid}/status").read_text())
+        except OSError:
+            told = None
+        most = max(most, int(told[1]) if told else 0)
+        time.sleep(0.005)
+    return most * 1024 / 1e6
+
+
+def made_up(program, line, server, size):
+    """The seconds of a line over made up objects, and the most memory that it held."""
+    far, begin = Far(server, size), time.perf_counter()
+    with tempfile.TemporaryFile() as told:
+        ours = subprocess.Popen([program, line, url_of(far.address)], stdin=subprocess.DEVNULL, stdout=subprocess.PIPE, stderr=told)
+        output = subprocess.Popen(["wc", "-l"] if line == "dump" else ["cat"], stdin=ours.stdout, stdout=subprocess.PIPE, text=True)
+        ours.stdout.close()
+        memory = held(ours)
+        seconds, written, errors = time.perf_counter() - begin, output.communicate()[0], told.seek(0) or told.read()
+    came = far.told()
+    far.stop()
+    tally = f"listed {size}\nwritten {size}\nunchanged 0\ngone 0\ncontested 0\n"
+    puts, wanted = (0, f"{size}\n") if line == "dump" else (size, tally)
+    seen = (ours.returncode, written, errors, came["puts"], came["wrong"])
+    is_so(seen == (0, wanted, b"", puts, 0), f"{line} of {size} made up objects: {seen}")
+    return seconds, memory
+
+
+def memories(program, options):
+    print(f"{'objects':>8}{'dump, s':>10}{'MB':>8}{'migrate, s':>12}{'MB':>8}", flush=True)
+    first = None
+    for size in options.sizes:
+        (dump, of_dump), (migrate, of_migrate) = (made_up(program, line, options.far, size) for line in ("dump", "migrate"))
+        print(f"{size:>8}{dump:>10.2f}{of_dump:>8.2f}{migrate:>12.2f}{of_migrate:>8.2f}", flush=True)
+        first = first or (of_dump, of_migrate)
+        is_so(of_dump < first[0] + SLACK and of_migrate < first[1] + SLACK, "the memory grows with the objects")
+
+
+def main():
+    """Reads the words, runs and prints."""
+    parser = parser_of(__doc__)
+    parser.add_argument("work", nargs="?", choices=WORKS, default="migrate", help="what is timed (default: migrate)")
+    parser.add_argument("--plain", help="the plain client, built by go; for migrate")
+    parser.add_argument("--far", help="the server in Go; for load and memory")
+    parser.add_argument("--sizes", type=int, nargs="+", help="so many objects, or lines")
+    options = parser.parse_args()
+    options.sizes = options.sizes or WORKS[options.work]
+    wants = {"migrate": "plain", "load": "far", "memory": "far"}.get(options.work)
+    if wants and not getattr(options, wants):
+        parser.error(f"{options.work} wants --{wants}")
+    {"migrate": migrations, "dump": dumps, "load": loads, "memory": memories}[options.work](built(options.program), options)
 
 
 if __name__ == "__main__":

@@ -30,11 +30,11 @@ class Gone(Exception):
 
 
 class Server:
-    """The program with the line `serve` over the shared definition, at a port of the system's choice."""
+    """The program with the line `serve` over the shared definition, or by other words, at a port of the system's choice."""
 
-    def __init__(self, program, workers, connections=None, words=()):
+    def __init__(self, program, workers, connections=None, words=(), files=SHARED_FILES):
         end = [] if connections is None else ["--connections", str(connections)]
-        line = [program, "serve", *SHARED_FILES, "--listen", "127.0.0.1:0", "--workers", str(workers), *end, *words]
+        line = [program, "serve", *files, "--listen", "127.0.0.1:0", "--workers", str(workers), *end, *words]
         self.process = subprocess.Popen(line, stdin=subprocess.DEVNULL, stdout=subprocess.PIPE, text=True)
         told = self.process.stdout.readline()
         if not told.startswith(LISTENING):
@@ -136,8 +136,7 @@ def request(method, path, body=None, fields=""):
 
 
 def path_of(version, namespace, name=None):
-    path = f"{GROUP}/{version}/namespaces/{namespace}/crontabs"
-    return path if name is None else f"{path}/{name}"
+    return CRONTABS.path_of(version, namespace, name)
 
 
 def body_of(version, name, state, number=None):
@@ -160,6 +159,21 @@ def state_of(shown):
     return host, port, shown.get("timeoutSeconds")
 
 
+class Resource:
+    """A custom resource: its paths, and what an object of a state is at each version."""
+
+    def __init__(self, plural, body_of, state_of):
+        self.plural, self.body_of, self.state_of = plural, body_of, state_of
+        self.definition = f"/apis/apiextensions.k8s.io/v1/customresourcedefinitions/{plural}.example.com"
+
+    def path_of(self, version, namespace, name=None):
+        path = f"{GROUP}/{version}/namespaces/{namespace}/{self.plural}"
+        return path if name is None else f"{path}/{name}"
+
+
+CRONTABS = Resource("crontabs", body_of, state_of)
+
+
 def number_of(shown):
     return int(shown["metadata"]["resourceVersion"])
 
@@ -175,10 +189,10 @@ def moved(definition):
     return definition
 
 
-def migration(name):
+def migration(name, plural="crontabs"):
     """The body that starts a migration."""
     head = {"apiVersion": "storagemigration.k8s.io/v1alpha1", "kind": "StorageVersionMigration", "metadata": {"name": name}}
-    return {**head, "spec": {"resource": {"group": "example.com", "resource": "crontabs"}}}
+    return {**head, "spec": {"resource": {"group": "example.com", "resource": plural}}}
 
 
 def looked_at(connection, name, pause=0.1):

@@ -33,23 +33,20 @@ import traceback
 import parts  # noqa: F401  finds the next ones
 from programs import built
 from serving import (
-    DEFINITION,
+    CRONTABS,
     MIGRATIONS,
     VERSIONS,
     Connection,
     Gone,
     Server,
     address_of,
-    body_of,
     drawn_state,
     generator,
     looked_at,
     migration,
     moved,
     number_of,
-    path_of,
     seconds_now,
-    state_of,
 )
 
 SHARED = "shared"
@@ -71,6 +68,8 @@ def migration_of(mark, move):
 
 class Client:
     """One connection, what it knows, and what was wrong with its answers."""
+
+    resource = CRONTABS
 
     def __init__(self, address, mark, number, requests, until):
         self.connection = Connection(address, PATIENCE)
@@ -122,13 +121,13 @@ class Client:
     def create(self):
         name, state, version = f"o{self.made}", drawn_state(self.draw), self.draw.choice(VERSIONS)
         self.made += 1
-        code = self.ask("POST", path_of(version, self.namespace), body_of(version, name, state))
-        if self.check(code == 201, "a create is refused") and self.check(state_of(self.shown) == state, "another state"):
+        code = self.ask("POST", self.resource.path_of(version, self.namespace), self.resource.body_of(version, name, state))
+        if self.check(code == 201, "a create is refused") and self.check(self.resource.state_of(self.shown) == state, "another state"):
             self.own[name] = state, self.wrote(self.namespace, name), self.shown["metadata"]["uid"], 1
 
     def read(self):
         name, version = self.draw.choice(list(self.own)), self.draw.choice(VERSIONS)
-        code = self.ask("GET", path_of(version, self.namespace, name))
+        code = self.ask("GET", self.resource.path_of(version, self.namespace, name))
         if self.check(code == 200, "an own object isn't there"):
             self.look(self.shown, name)
 
@@ -136,7 +135,7 @@ class Client:
         """An own object as it is shown: as it was written last, at that number or, touched, at a later one."""
         state, number, uid, generation = self.own[name]
         metadata = shown["metadata"]
-        self.check(state_of(shown) == state, f"another state than {state}")
+        self.check(self.resource.state_of(shown) == state, f"another state than {state}")
         self.check(metadata["uid"] == uid and metadata["generation"] == generation, "another uid or generation")
         later = number_of(shown)
         self.check(later >= number, f"an older number than {number}")
@@ -148,27 +147,27 @@ class Client:
     def edit(self):
         name, state, version = self.draw.choice(list(self.own)), drawn_state(self.draw), self.draw.choice(VERSIONS)
         before, number, uid, generation = self.own[name]
-        code = self.ask("PUT", path_of(version, self.namespace, name), body_of(version, name, state, number))
+        code = self.ask("PUT", self.resource.path_of(version, self.namespace, name), self.resource.body_of(version, name, state, number))
         if code == 409:
             # No one else edits it, so a worker touched it.
             told = self.told_number()
             self.check(told > number, f"no conflict with {number}")
             self.touches.add((told, (self.namespace, name)))
             return
-        if self.check(code == 200, "an edit is refused") and self.check(state_of(self.shown) == state, "another state"):
+        if self.check(code == 200, "an edit is refused") and self.check(self.resource.state_of(self.shown) == state, "another state"):
             grown = generation + (state != before)
             self.check(self.shown["metadata"]["generation"] == grown, f"another generation than {grown}")
             self.own[name] = state, self.wrote(self.namespace, name), uid, grown
 
     def delete(self):
         name, version = self.draw.choice(list(self.own)), self.draw.choice(VERSIONS)
-        if self.check(self.ask("DELETE", path_of(version, self.namespace, name)) == 200, "a delete is refused"):
+        if self.check(self.ask("DELETE", self.resource.path_of(version, self.namespace, name)) == 200, "a delete is refused"):
             del self.own[name]
-            self.check(self.ask("GET", path_of(version, self.namespace, name)) == 404, "a deleted object is there")
+            self.check(self.ask("GET", self.resource.path_of(version, self.namespace, name)) == 404, "a deleted object is there")
 
     def list(self):
         version = self.draw.choice(VERSIONS)
-        if not self.check(self.ask("GET", path_of(version, self.namespace) + "?limit=500") == 200, "a list is refused"):
+        if not self.check(self.ask("GET", self.resource.path_of(version, self.namespace) + "?limit=500") == 200, "a list is refused"):
             return
         listed, items = self.shown, self.shown["items"]
         names = [item["metadata"]["name"] for item in items]
@@ -191,11 +190,11 @@ class Client:
 
     def read_shared(self, name):
         version, seen = self.draw.choice(VERSIONS), self.seen
-        if self.check(self.ask("GET", path_of(version, SHARED, name)) == 200, "a shared object isn't there"):
+        if self.check(self.ask("GET", self.resource.path_of(version, SHARED, name)) == 200, "a shared object isn't there"):
             number = number_of(self.shown)
             self.check(number >= self.shared[name], f"an older number than {self.shared[name]}")
             self.shared[name] = max(number, self.shared[name])
-            self.reads.append((name, number, seen, state_of(self.shown)))
+            self.reads.append((name, number, seen, self.resource.state_of(self.shown)))
             self.seen = max(self.seen, number)
 
     def edit_shared(self):
@@ -203,14 +202,14 @@ class Client:
         if self.draw.random() < 0.5 or not self.shared[name]:
             self.read_shared(name)
         number = self.shared[name]
-        code = self.ask("PUT", path_of(version, SHARED, name), body_of(version, name, state, number))
+        code = self.ask("PUT", self.resource.path_of(version, SHARED, name), self.resource.body_of(version, name, state, number))
         if code == 409:
             told = self.told_number()
             self.check(told > number, f"no conflict with {number}")
             self.refusals.append((name, told, self.seen))
             self.shared[name] = max(told, number)
             self.seen = max(self.seen, told)
-        elif self.check(code == 200, "an edit is refused") and self.check(state_of(self.shown) == state, "another state"):
+        elif self.check(code == 200, "an edit is refused") and self.check(self.resource.state_of(self.shown) == state, "another state"):
             self.shared[name] = self.wrote(SHARED, name)
             self.edits.append((name, number, self.shared[name], state))
 
@@ -218,13 +217,13 @@ class Client:
 
     def move(self):
         """The other storage version, and a migration to it."""
-        if not self.check(self.ask("GET", DEFINITION) == 200, "the definition isn't shown"):
+        if not self.check(self.ask("GET", self.resource.definition) == 200, "the definition isn't shown"):
             return
-        self.check(self.ask("PUT", DEFINITION, moved(self.shown)) == 200, "the storage version isn't moved")
+        self.check(self.ask("PUT", self.resource.definition, moved(self.shown)) == 200, "the storage version isn't moved")
         name = migration_of(self.mark, self.moves)
         self.moves += 1
         # One that still ran isn't waited for: it failed as the storage version was moved.
-        self.check(self.ask("POST", MIGRATIONS, migration(name)) == 201, "a migration isn't started")
+        self.check(self.ask("POST", MIGRATIONS, migration(name, self.resource.plural)) == 201, "a migration isn't started")
 
     # ---- all of it
 
@@ -286,15 +285,15 @@ def side_by_side(address, mark, numbers, requests, until, moves, between, result
     results.put([it.known() for it in clients])
 
 
-def open_shared(address, mark):
+def open_shared(address, mark, resource=CRONTABS):
     """Creates the objects that all edit, and gives the edits that made them."""
     connection, made = Connection(address), []
     for name in SHARED_NAMES:
         state = drawn_state(generator(mark, name))
-        code, shown = connection.ask("POST", path_of("v1beta1", SHARED), body_of("v1beta1", name, state))
+        code, shown = connection.ask("POST", resource.path_of("v1beta1", SHARED), resource.body_of("v1beta1", name, state))
         if code == 409:
-            code, shown = connection.ask("GET", path_of("v1beta1", SHARED, name))
-            state = state_of(shown)
+            code, shown = connection.ask("GET", resource.path_of("v1beta1", SHARED, name))
+            state = resource.state_of(shown)
         if code not in (200, 201):
             sys.exit(f"a shared object isn't created: {code}")
         made.append((name, 0, number_of(shown), state))
@@ -357,26 +356,26 @@ def faults_of_shared(made, known, touched):
     return wrong, edits
 
 
-def faults_of_migration(connection, name):
+def faults_of_migration(connection, name, resource):
     """The last migration succeeds, and then every object stands at its target: no other version has to stay stored."""
     condition, shown = looked_at(connection, name)
     if condition != "Succeeded":
         return [f"the migration {name} is {condition} at the end"]
-    _code, definition = connection.ask("GET", DEFINITION)
+    _code, definition = connection.ask("GET", resource.definition)
     storage = [it["name"] for it in definition["spec"]["versions"] if it["storage"]]
     if shown["status"]["storageVersion"] != storage[0]:
         return [f"the migration {name} was to {shown['status']['storageVersion']}, and {storage[0]} is stored"]
     definition["status"]["storedVersions"] = storage
-    code, shown = connection.ask("PUT", DEFINITION + "/status", definition)
+    code, shown = connection.ask("PUT", resource.definition + "/status", definition)
     if code != 200 or shown["status"]["storedVersions"] != storage:
         return [f"a trim to {storage} behind the migration {name} is answered {code}: {json.dumps(shown)[:300]}"]
     return []
 
 
-def rows_at_end(connection, mark):
+def rows_at_end(connection, mark, resource):
     """All objects of this mark, by the pages of one list, or None. A list begins again where its pages are shown no more, as it is
     where touches of a migration supersede too much of what it shows."""
-    path = "/apis/example.com/v1/crontabs?limit=500"
+    path = f"/apis/example.com/v1/{resource.plural}?limit=500"
     for _ in range(LISTS):
         rows, more = {}, ""
         while True:
@@ -386,7 +385,7 @@ def rows_at_end(connection, mark):
             for item in shown["items"]:
                 namespace = item["metadata"]["namespace"]
                 if namespace == SHARED or namespace.startswith(mark):
-                    rows[namespace, item["metadata"]["name"]] = number_of(item), state_of(item)
+                    rows[namespace, item["metadata"]["name"]] = number_of(item), resource.state_of(item)
             token = shown["metadata"]["continue"]
             if not token:
                 return rows
@@ -396,13 +395,13 @@ def rows_at_end(connection, mark):
     return None
 
 
-def faults_at_end(address, mark, known, edits):
+def faults_at_end(address, mark, known, edits, resource=CRONTABS):
     """What stands at the end: each object that was created and not deleted, as it was written last, and no other of this run."""
     connection, wrong = Connection(address), []
     moves = sum(one["moves"] for one in known)
     if moves:
-        wrong += faults_of_migration(connection, migration_of(mark, moves - 1))
-    rows = rows_at_end(connection, mark.partition("-")[0])
+        wrong += faults_of_migration(connection, migration_of(mark, moves - 1), resource)
+    rows = rows_at_end(connection, mark.partition("-")[0], resource)
     connection.close()
     if rows is None:
         return [*wrong, "no list at the end comes to its last page"], 0
@@ -426,7 +425,7 @@ def clear(address, known):
             if left == 0:
                 connection.close()
                 connection, left = Connection(address), 9_000
-            connection.ask("DELETE", path_of("v1", one["namespace"], name))
+            connection.ask("DELETE", CRONTABS.path_of("v1", one["namespace"], name))
             left -= 1
     connection.close()
 

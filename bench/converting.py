@@ -1,0 +1,85 @@
+#!/usr/bin/env python3
+"""Times creates of `kubeconv serve --converter` over a converter that answers after some milliseconds:
+
+    python3 bench/converting.py [--program FILE] [--slow MS] [--seconds N] [--connections N ..]
+
+The converter is that of examples/converter, with `--slow MS` (20). For so many seconds (5) each of so many connections (1 and 16) creates
+one object after the other, at the version that is stored. Prints for each number of connections how many creates a second there are,
+how many times as many as by the first number, and the milliseconds of a create.
+
+No turn of the server is held while an object is converted, so that as many creates wait for the converter as there are connections. The
+status is 1 where 16 connections make less than 12 times the creates of one, or where a create is answered otherwise."""
+
+import subprocess
+import sys
+import threading
+import time
+
+from programs import TOP, built, parser_of
+from serving import Connection, Server, request
+
+EXAMPLE = TOP / "examples/converter"
+PATH = "/apis/example.com/v1beta1/namespaces/default/certificates"
+LEAST = {16: 12}
+
+
+def creation(name):
+    spec = {"dnsName": "example.com", "keyAlgorithm": "RSA", "keySize": 2048}
+    body = {"apiVersion": "example.com/v1beta1", "kind": "Certificate", "metadata": {"name": name}, "spec": spec}
+    return request("POST", PATH, body)
+
+
+def creates(connection, mark, until, codes):
+    """One create after the other until then."""
+    number = 0
+    while time.monotonic() < until:
+        connection.send(creation(f"{mark}-{number}"))
+        codes.append(connection.answer()[0])
+        number += 1
+
+
+def rate(address, count, seconds):
+    """How many creates a second so many connections make, and how many that are."""
+    connections, codes = [Connection(address) for _ in range(count)], []
+    begin = time.monotonic()
+    words = [(it, f"c{count}-{number}", begin + seconds, codes) for number, it in enumerate(connections)]
+    threads = [threading.Thread(target=creates, args=it) for it in words]
+    for thread in threads:
+        thread.start()
+    for thread in threads:
+        thread.join()
+    took = time.monotonic() - begin
+    for it in connections:
+        it.close()
+    if set(codes) != {201}:
+        sys.exit(f"creates are answered {sorted(set(codes))}")
+    return len(codes) / took
+
+
+def main():
+    """Reads the words, runs and prints."""
+    parser = parser_of(__doc__)
+    parser.add_argument("--slow", type=int, default=20, help="milliseconds after which the converter answers (default: 20)")
+    parser.add_argument("--seconds", type=int, default=5, help="of each run (default: 5)")
+    parser.add_argument("--connections", type=int, nargs="+", default=[1, 16], help="default: 1 16")
+    options = parser.parse_args()
+    line = [sys.executable, EXAMPLE / "converter.py", "--slow", str(options.slow), "0"]
+    converter = subprocess.Popen(line, stdin=subprocess.DEVNULL, stdout=subprocess.PIPE, text=True)
+    url = converter.stdout.readline().split()[-1]
+    files = ["--crd", EXAMPLE / "certificates.json", "--hub", "v1", "--converter", f"{url}/"]
+    server = Server(built(options.program), 0, files=files)
+    print(f"{'connections':>11}{'a second':>10}{'to the first':>14}{'ms each':>9}", flush=True)
+    rates, is_low = {}, False
+    for count in options.connections:
+        rates[count] = rate(server.address, count, options.seconds)
+        ratio = rates[count] / rates[options.connections[0]]
+        is_low = is_low or options.connections[0] == 1 and ratio < LEAST.get(count, 0)
+        print(f"{count:>11}{rates[count]:>10.1f}{ratio:>14.2f}{count / rates[count] * 1000:>9.1f}", flush=True)
+    server.stop()
+    converter.kill()
+    converter.wait()
+    sys.exit(1 if is_low else 0)
+
+
+if __name__ == "__main__":
+    main()
