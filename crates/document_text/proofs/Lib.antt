@@ -1,5 +1,4 @@
 pub mod Passing
-pub mod Scanning
 pub mod Places
 pub mod Putting
 pub mod Sending

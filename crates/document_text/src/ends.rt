@@ -1,6 +1,6 @@
 //! Where a value of a compact text ends.
-ghost use Rattle.std.specs.Prelude.{◌≡◌};
-ghost use Rattle.document_text.specs.inner.Ending.{ending, is_end, is_closing, is_opening};
+ghost use Rattle.std.specs.Prelude.{◌≡◌, ◌≤◌, ℕ, Bool, length, drop};
+ghost use Rattle.document_text.specs.inner.Ending.{ending, in_text, is_end, is_closing, is_opening};
 
 fn is_opening(x: u8) -> bool
     ensures { result ≡ is_opening x }
@@ -27,29 +27,44 @@ pub(crate) fn ending(bytes: &[u8], commas: bool) -> &[u8]
     ensures { result.now ≡ ending commas 0 bytes.now }
 {
     let mut level: usize = 0;
-    let mut inside = false;
-    let mut escaped = false;
-    for i in 0..bytes.len() {
+    let mut i = 0;
+    while i < bytes.len() {
         let x = bytes[i];
-        if escaped {
-            escaped = false;
-        } else if inside {
-            if x == b'\\' {
-                escaped = true;
-            } else if x == b'"' {
-                inside = false;
+        if x == b'"' {
+            i = behind_text(bytes, i + 1);
+        } else {
+            if is_opening(x) {
+                level += 1;
+            } else if level == 0 {
+                if is_end(commas, x) {
+                    return &bytes[i..];
+                }
+            } else if is_closing(x) {
+                level -= 1;
             }
-        } else if x == b'"' {
-            inside = true;
-        } else if is_opening(x) {
-            level += 1;
-        } else if level == 0 {
-            if is_end(commas, x) {
-                return &bytes[i..];
-            }
-        } else if is_closing(x) {
-            level -= 1;
+            i += 1;
         }
     }
     &[]
+}
+
+// The place behind the quote that ends the text that a place is inside of, or behind the last byte where none ends it.
+fn behind_text(bytes: &[u8], from: usize) -> usize
+    requires { from ≤ length bytes.now }
+    ensures later { from ≤ result }
+    ensures within { result ≤ length bytes.now }
+    ensures same { (commas : Bool) (level : ℕ) → in_text commas level (drop from bytes.now) ≡ ending commas level (drop result bytes.now) }
+{
+    let mut i = from;
+    while i < bytes.len() {
+        let x = bytes[i];
+        if x == b'"' {
+            return i + 1;
+        }
+        i += 1;
+        if x == b'\\' && i < bytes.len() {
+            i += 1;
+        }
+    }
+    i
 }
