@@ -1,5 +1,5 @@
 //! Bytes of texts and of values, each counted down from what is left.
-ghost use Rattle.std.specs.Prelude.{◌≡◌, ◌+◌, length};
+ghost use Rattle.std.specs.Prelude.{◌≡◌, ◌+◌, true, length, flat_map};
 ghost use Rattle.std.specs.Fmt.{signed_decimal};
 ghost use Rattle.kj_value.specs.Json.{boolean, list, object, items_of, members_of};
 ghost use Rattle.kj_value.specs.Seen.{json};
@@ -47,11 +47,41 @@ fn byte_len(byte: u8) -> u64
 pub(crate) fn text(left: u64, s: &str) -> Option<u64>
     ensures { Leaves left (length (quoted s.now)) result }
 {
-    let mut rest = spend(left, 2)?;
-    for byte in s.as_bytes() {
+    let rest = spend(left, 2)?;
+    let bytes = s.as_bytes();
+    if are_plain(bytes) {
+        return spend(rest, bytes.len() as u64);
+    }
+    escaped(rest, bytes)
+}
+
+// The same where some bytes may have to be escaped, without the quotes.
+fn escaped(left: u64, bytes: &[u8]) -> Option<u64>
+    ensures { Leaves left (length (flat_map escaped_byte bytes.now)) result }
+{
+    let mut rest = left;
+    for byte in bytes {
         rest = spend(rest, byte_len(*byte))?;
     }
     Some(rest)
+}
+
+// Whether JSON spells a byte by itself.
+fn is_plain(byte: u8) -> bool
+    ensures { result ≡ true → length (escaped_byte byte) ≡ 1 }
+{
+    (byte >= b' ') & (byte != b'"') & (byte != b'\\')
+}
+
+// Whether JSON spells each byte by itself. No byte ends the walk, so that the compiler looks at many at once.
+fn are_plain(bytes: &[u8]) -> bool
+    ensures { result ≡ true → length (flat_map escaped_byte bytes.now) ≡ length bytes.now }
+{
+    let mut plain = true;
+    for byte in bytes {
+        plain &= is_plain(*byte);
+    }
+    plain
 }
 
 fn whole(left: u64, n: i64) -> Option<u64>
