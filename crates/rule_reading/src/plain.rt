@@ -2,17 +2,21 @@
 ghost use Rattle.std.specs.Prelude.{◌≡◌, IfOk};
 ghost use Rattle.kj_value.specs.Json.{object, members_of};
 ghost use Rattle.kj_value.specs.Seen.{json};
-ghost use Rattle.hub_rules.specs.Rule.{rule_depth};
+ghost use Rattle.hub_rules.specs.Rule.{rule_depth, table};
 ghost use Rattle.hub_rules.specs.Seen.{rule};
-ghost use Rattle.hub_rules.specs.Sound.{IsSoundRule};
+ghost use Rattle.hub_rules.specs.Sound.{AreScalars, IsScalar, IsSoundRule};
 ghost use Rattle.rule_reading.specs.RuleRead.{same_read, spoke_only_read, hub_only_read, split_read, table_read, scale_read, plain_read, Plain};
+ghost use Rattle.rule_reading.specs.Shapes.{field_read, names_read, pairs_read, scalar_read};
 ghost use Rattle.rule_reading.specs.Told.{answer};
+ghost use Rattle.rule_reading.specs.Tried.{as_read, both};
+ghost use Rattle.rule_reading.specs.Words.{word};
 
 use crate::fields::beyond;
 use crate::scalars::{factor_at, pairs_at, scalar_at};
 use crate::spot::{Tried, here};
 use crate::texts::{names_at, read_names, read_text, text_at};
 use crate::words::Word;
+use hub_cells::PairItems;
 use hub_rules::Line;
 use kj_value::{JFields, JVal};
 use std::alloc::Global;
@@ -69,14 +73,37 @@ fn read_split_of(alloc: Global, fields: &JFields) -> Tried<Line>
     }
 }
 
-fn read_table_of(alloc: Global, fields: &JFields) -> Tried<Line>
-    ensures read { IfOk result (λ r. answer rule r ≡ table_read (object (members_of fields.now))) }
+// The pairs of a table, and the spoke's blank.
+fn pairs_and_blank(alloc: Global, fields: &JFields) -> Tried<(PairItems, JVal)>
+    ensures read { IfOk result (λ r. answer (λ p. (p.0, json p.1)) r
+        ≡ both (field_read (word Word.Pairs) pairs_read 2 (members_of fields.now)) (field_read (word Word.SpokeBlank) scalar_read 3 (members_of fields.now))) }
+    ensures scalars { IfOk result (λ r. IfOk r (λ p. AreScalars p.0 × IsScalar (json p.1))) }
+{
+    let pairs = match pairs_at(alloc, fields, 2, Word::Pairs)? {
+        Err(spot) => return Ok(Err(spot)),
+        Ok(pairs) => pairs,
+    };
+    match scalar_at(alloc, fields, 3, Word::SpokeBlank) {
+        Err(e) => {
+            drop(pairs);
+            Err(e)
+        }
+        Ok(Err(spot)) => {
+            drop(pairs);
+            Ok(Err(spot))
+        }
+        Ok(Ok(blank)) => Ok(Ok((pairs, blank))),
+    }
+}
+
+// A table whose hub's blank is read.
+fn table_with(alloc: Global, fields: &JFields, hub_blank: JVal) -> Tried<Line>
+    requires { IsScalar (json hub_blank) }
+    ensures read { IfOk result (λ r. answer rule r ≡ as_read (λ p. table p.0.0 p.0.1 p.1.0 p.1.1 (json hub_blank))
+        (both (field_read (word Word.Names) names_read 1 (members_of fields.now))
+        (both (field_read (word Word.Pairs) pairs_read 2 (members_of fields.now)) (field_read (word Word.SpokeBlank) scalar_read 3 (members_of fields.now))))) }
     ensures plain { IfOk result (λ r. IfOk r (λ l. Plain (rule l))) }
 {
-    let hub_blank = match scalar_at(alloc, fields, 0, Word::HubBlank)? {
-        Err(spot) => return Ok(Err(spot)),
-        Ok(x) => x,
-    };
     let (spoke, hub) = match names_at(alloc, fields, 1, Word::Names) {
         Err(e) => {
             drop(hub_blank);
@@ -88,50 +115,47 @@ fn read_table_of(alloc: Global, fields: &JFields) -> Tried<Line>
         }
         Ok(Ok(names)) => names,
     };
-    let pairs = match pairs_at(alloc, fields, 2, Word::Pairs) {
+    match pairs_and_blank(alloc, fields) {
         Err(e) => {
             drop(hub_blank);
-            return Err(e);
-        }
-        Ok(Err(spot)) => {
-            drop(hub_blank);
-            return Ok(Err(spot));
-        }
-        Ok(Ok(pairs)) => pairs,
-    };
-    let spoke_blank = match scalar_at(alloc, fields, 3, Word::SpokeBlank) {
-        Err(e) => {
-            drop(hub_blank);
-            drop(pairs);
-            return Err(e);
-        }
-        Ok(Err(spot)) => {
-            drop(hub_blank);
-            drop(pairs);
-            return Ok(Err(spot));
-        }
-        Ok(Ok(x)) => x,
-    };
-    match beyond(alloc, fields, 4) {
-        Err(e) => {
-            drop(hub_blank);
-            drop(pairs);
-            drop(spoke_blank);
             Err(e)
         }
-        Ok(Some(spot)) => {
+        Ok(Err(spot)) => {
             drop(hub_blank);
-            drop(pairs);
-            drop(spoke_blank);
             Ok(Err(spot))
         }
-        Ok(None) => Ok(Ok(Line::Table {
+        Ok(Ok((pairs, spoke_blank))) => Ok(Ok(Line::Table {
             spoke,
             hub,
             pairs,
             spoke_blank,
             hub_blank,
         })),
+    }
+}
+
+fn read_table_of(alloc: Global, fields: &JFields) -> Tried<Line>
+    ensures read { IfOk result (λ r. answer rule r ≡ table_read (object (members_of fields.now))) }
+    ensures plain { IfOk result (λ r. IfOk r (λ l. Plain (rule l))) }
+{
+    let hub_blank = match scalar_at(alloc, fields, 0, Word::HubBlank)? {
+        Err(spot) => return Ok(Err(spot)),
+        Ok(x) => x,
+    };
+    let table = match table_with(alloc, fields, hub_blank)? {
+        Err(spot) => return Ok(Err(spot)),
+        Ok(table) => table,
+    };
+    match beyond(alloc, fields, 4) {
+        Err(e) => {
+            drop(table);
+            Err(e)
+        }
+        Ok(Some(spot)) => {
+            drop(table);
+            Ok(Err(spot))
+        }
+        Ok(None) => Ok(Ok(table)),
     }
 }
 
