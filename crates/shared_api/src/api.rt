@@ -90,6 +90,7 @@ impl<V: Versions + Drop> SharedApi<V> {
         let again = versions.clone()?;
         let core = Core::open(alloc, again, limits, boot)?;
         let cache = FormCache::open(alloc, PASS_FORMS)?;
+        let core = Box::new(alloc, core)?;
         let (turn, pass) = Turn::open(alloc, CoreCell { core })?;
         let api = SharedApi {
             alloc,

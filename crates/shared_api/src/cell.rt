@@ -15,7 +15,7 @@ pub struct CoreBase<V> {
 /// The core as the turn keeps it.
 #[derive(Drop)]
 pub struct CoreCell<V: Versions> {
-    pub core: Core<V>,
+    pub core: Box<Core<V>>,
 }
 
 impl<V: Versions + Drop> Standing for CoreCell<V> {
@@ -23,7 +23,7 @@ impl<V: Versions + Drop> Standing for CoreCell<V> {
 
     type Base = CoreBase<V>;
 
-    ghost stands = { λ c log. StandsCell V.meaning c.core log };
+    ghost stands = { λ c log. StandsCell V.meaning c.core.value log };
 
-    ghost base = { λ c. base_of c.core };
+    ghost base = { λ c. base_of c.core.value };
 }

@@ -41,13 +41,13 @@ pub(crate) fn finish<E: Names, V: Versions + Drop, X>(
 )
     requires own { pass.old.seat.table_id ≡ turn.now.table.shared.table_id }
     requires fresh { IsFresh pass.old.seat.me.0 }
-    requires base { pass.old.seat.me.0.base ≡ Some (base_of cell.core) }
+    requires base { pass.old.seat.me.0.base ≡ Some (base_of cell.core.value) }
     requires counts { (p : ℕ) → CountsFrom 0 (items_of p pass.old.seat.me.0.seen) }
-    requires stands { StandsFor V.meaning cell.core (grown (items pass.old.seat.me.0.seen) (item_if entered E.item)) }
+    requires stands { StandsFor V.meaning cell.core.value (grown (items pass.old.seat.me.0.seen) (item_if entered E.item)) }
     ensures own { pass.new.seat.table_id ≡ pass.old.seat.table_id }
     ensures rest { IsResting pass.new.seat.me.0 }
     ensures closes { Closes (item_if entered E.item) pass.old.seat.me.0 pass.new.seat.me.0 }
-    ensures legal { IsLegal (V.meaning cell.core.versions) cell.core.view.limits pass.new.seat.me.0.seen }
+    ensures legal { IsLegal (V.meaning cell.core.value.versions) cell.core.value.view.limits pass.new.seat.me.0.seen }
 {
     let _ = about;
     append_if::<E, V>(turn, pass, entered);

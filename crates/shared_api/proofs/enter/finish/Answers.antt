@@ -13,7 +13,7 @@ give-requires-clause-stands g c =
     let w = c.args.pass.now.seat.me.0 in
     let u = c.append_if.new.pass.seat.me.0 in
     let i = item_if c.args.entered g.E.Names.item in (
-      cell_stands g.V.Versions.meaning c.args.cell.core w u i c.requires.counts c.requires.stands c.append_if.ensures.enters,
+      cell_stands g.V.Versions.meaning c.args.cell.core.value w u i c.requires.counts c.requires.stands c.append_if.ensures.enters,
       base-stays i w u c.append_if.ensures.enters ∙ c.requires.base,
     )
 
@@ -22,7 +22,7 @@ returns-clause-legal g c =
     let w = c.args.pass.now.seat.me.0 in
     let u = c.append_if.new.pass.seat.me.0 in
     let i = item_if c.args.entered g.E.Names.item in
-    let stands = cell_stands g.V.Versions.meaning c.args.cell.core w u i c.requires.counts c.requires.stands c.append_if.ensures.enters in
-    subst (λ (log : List Logged). IsLegal (g.V.Versions.meaning c.args.cell.core.versions) c.args.cell.core.view.limits log)
+    let stands = cell_stands g.V.Versions.meaning c.args.cell.core.value w u i c.requires.counts c.requires.stands c.append_if.ensures.enters in
+    subst (λ (log : List Logged). IsLegal (g.V.Versions.meaning c.args.cell.core.value.versions) c.args.cell.core.value.view.limits log)
     (sym (ap (λ (q : View (CoreBase g.row.V.Denot)). q.seen) c.give.ensures.given))
-    (cell_legal g.V.Versions.meaning c.args.cell.core u.seen stands)
+    (cell_legal g.V.Versions.meaning c.args.cell.core.value u.seen stands)

@@ -13,15 +13,15 @@ use Rattle.shared_api.proofs.give_back.give_claim.Goals as goal
 pub returns-clause-answer : goal.returns-clause-answer
 returns-clause-answer g c b is =
     let t = c.take-cell.ensures.taken in
-    let core = c.take-cell.result.core in
+    let core = c.take-cell.result.core.value in
     let v = c.args.pass.now.seat.me.0 in
     let w = c.take-cell.new.pass.seat.me.0 in
     let z = c.finish.new.pass.seat.me.0 in
     let held = c.give_back-held.result in
     let claim = c.args.w.now.claim in
     let i : Option Item = item_if held (note (GiveBack (number_of claim))) in
-    let ended = writes g.V.Versions.meaning core c.give_back-held.new.self b v w z i t.2 is t.0 t.4 t.1 t.3 c.give_back-held.ensures.base c.finish.ensures.closes c.finish.ensures.legal in
-    let decided = (c.give_back-held.ensures.turn (items w.seen) t.1.0).0 in
+    let ended = writes g.V.Versions.meaning core c.give_back-held.new.self b v w z i t.2 is t.0 t.4 t.1 t.3 (rw c.deref_mut.ensures.value at c.give_back-held.ensures.base) c.finish.ensures.closes c.finish.ensures.legal in
+    let decided = ((rw c.deref_mut.ensures.value at c.give_back-held.ensures.turn) (items w.seen) t.1.0).0 in
     let same : base_of core ≡ b = (let based = t.2 in cc (based, is)) in
     give_back_calls (server_of g.V.Versions.meaning b) v z w.seen claim held
     (subst (λ (x : CoreBase g.row.V.Denot). held ≡ (give_back_decision (state (g.V.Versions.meaning x.versions) (items w.seen)) claim).answer) same decided) ended

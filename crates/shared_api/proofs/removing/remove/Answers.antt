@@ -14,13 +14,13 @@ use Rattle.shared_api.proofs.removing.remove.Goals as goal
 
 pub commit_delete-end-requires-clause-few : goal.commit_delete-end-requires-clause-few
 commit_delete-end-requires-clause-few g c =
-    let t = c.take-cell.ensures.taken in
-    few-revision g.V.Versions.meaning c.take-cell.result.core c.take-cell.new.pass.seat.me.0.seen t.1 t.3
+    rw c.deref_mut.ensures.value (let t = c.take-cell.ensures.taken in
+    few-revision g.V.Versions.meaning c.take-cell.result.core.value c.take-cell.new.pass.seat.me.0.seen t.1 t.3)
 
 pub finish-requires-clause-stands : goal.finish-requires-clause-stands
 finish-requires-clause-stands g c =
     let t = c.take-cell.ensures.taken in
-    let core = c.take-cell.result.core in
+    let core = c.take-cell.result.core.value in
     let k = c.args.key.now in
     let i : Item = entry (Delete c.of-about.result.value) in
     let named : i ≡ entry (Delete k) = ap (λ (x : KeyView). entry (Delete x)) c.of-about.ensures in
@@ -30,12 +30,12 @@ finish-requires-clause-stands g c =
     committed-stands g.V.Versions.meaning core c.commit_delete-end.new.self c.args.pass.now.seat.me.0 c.take-cell.new.pass.seat.me.0 c.args.pass.now.seat.me.0
     (λ s log. removes s c.args.v k c.args.number log) (delete_end c.commit_delete-end.result) i c.entered-entered.result
     (λ s log. subst (λ (j : Item). EntersIt j (removes s c.args.v k c.args.number log)) (sym named) (delete-item (revision log + 1) (state s.meaning log) c.args.v k c.args.number))
-    (c.commit_delete-end.ensures.turn refl (items c.take-cell.new.pass.seat.me.0.seen) t.1.0 known) c.entered-entered.ensures
+    ((rw c.deref_mut.ensures.value at c.commit_delete-end.ensures.turn) refl (items c.take-cell.new.pass.seat.me.0.seen) t.1.0 known) c.entered-entered.ensures
 
 pub returns-clause-commits : goal.returns-clause-commits
 returns-clause-commits g c b is =
     let t = c.take-cell.ensures.taken in
-    let core = c.take-cell.result.core in
+    let core = c.take-cell.result.core.value in
     let k = c.args.key.now in
     let i : Item = entry (Delete c.of-about.result.value) in
     let named : i ≡ entry (Delete k) = ap (λ (x : KeyView). entry (Delete x)) c.of-about.ensures in
@@ -45,5 +45,5 @@ returns-clause-commits g c b is =
     commits g.V.Versions.meaning core c.commit_delete-end.new.self c.args.pass.now.seat.me.0 c.take-cell.new.pass.seat.me.0 c.finish.new.pass.seat.me.0
     (λ s log. removes s c.args.v k c.args.number log) (delete_end c.commit_delete-end.result) i c.entered-entered.result
     (λ s log. subst (λ (j : Item). EntersIt j (removes s c.args.v k c.args.number log)) (sym named) (delete-item (revision log + 1) (state s.meaning log) c.args.v k c.args.number))
-    (c.commit_delete-end.ensures.turn refl (items c.take-cell.new.pass.seat.me.0.seen) t.1.0 known) c.entered-entered.ensures
-    b t.2 is t.0 t.4 t.1 t.3 c.commit_delete-end.ensures.base c.finish.ensures.closes c.finish.ensures.legal
+    ((rw c.deref_mut.ensures.value at c.commit_delete-end.ensures.turn) refl (items c.take-cell.new.pass.seat.me.0.seen) t.1.0 known) c.entered-entered.ensures
+    b t.2 is t.0 t.4 t.1 t.3 (rw c.deref_mut.ensures.value at c.commit_delete-end.ensures.base) c.finish.ensures.closes c.finish.ensures.legal

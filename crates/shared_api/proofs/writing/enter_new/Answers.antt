@@ -15,13 +15,13 @@ use Rattle.shared_api.proofs.writing.enter_new.Goals as goal
 
 pub commit_create-end-requires-clause-few : goal.commit_create-end-requires-clause-few
 commit_create-end-requires-clause-few g c =
-    let t = c.take-cell.ensures.taken in
-    few-revision g.V.Versions.meaning c.take-cell.result.core c.take-cell.new.pass.seat.me.0.seen t.1 t.3
+    rw c.deref_mut.ensures.value (let t = c.take-cell.ensures.taken in
+    few-revision g.V.Versions.meaning c.take-cell.result.core.value c.take-cell.new.pass.seat.me.0.seen t.1 t.3)
 
 pub finish-requires-clause-stands : goal.finish-requires-clause-stands
 finish-requires-clause-stands g c =
     let t = c.take-cell.ensures.taken in
-    let core = c.take-cell.result.core in
+    let core = c.take-cell.result.core.value in
     let new = c.args.new in
     let h = object_of c.args.hub.now in
     let i : Item = entry (Create c.of.result.value.key (object_of c.of-2.result.value) c.of.result.value.weight) in
@@ -33,12 +33,12 @@ finish-requires-clause-stands g c =
     (λ s log. creates s c.args.v new h log) (create_end c.commit_create-end.result) i c.created-entered.result
     (λ s log. subst (λ (j : Item). EntersIt j (creates s c.args.v new h log)) (sym named)
     (create-item s.limits (revision log + 1) (state s.meaning log) c.args.v new.at new.key h new.weight))
-    (c.commit_create-end.ensures.turn (items c.take-cell.new.pass.seat.me.0.seen) h t.1.0 prepares (λ honest. c.requires.fresh)) c.created-entered.ensures
+    ((rw c.deref_mut.ensures.value at c.commit_create-end.ensures.turn) (items c.take-cell.new.pass.seat.me.0.seen) h t.1.0 prepares (λ honest. c.requires.fresh)) c.created-entered.ensures
 
 pub returns-clause-commits : goal.returns-clause-commits
 returns-clause-commits g c b is =
     let t = c.take-cell.ensures.taken in
-    let core = c.take-cell.result.core in
+    let core = c.take-cell.result.core.value in
     let new = c.args.new in
     let h = object_of c.args.hub.now in
     let i : Item = entry (Create c.of.result.value.key (object_of c.of-2.result.value) c.of.result.value.weight) in
@@ -50,21 +50,21 @@ returns-clause-commits g c b is =
     (λ s log. creates s c.args.v new h log) (create_end c.commit_create-end.result) i c.created-entered.result
     (λ s log. subst (λ (j : Item). EntersIt j (creates s c.args.v new h log)) (sym named)
     (create-item s.limits (revision log + 1) (state s.meaning log) c.args.v new.at new.key h new.weight))
-    (c.commit_create-end.ensures.turn (items c.take-cell.new.pass.seat.me.0.seen) h t.1.0 prepares (λ honest. c.requires.fresh)) c.created-entered.ensures
-    b t.2 is t.0 t.4 t.1 t.3 c.commit_create-end.ensures.base c.finish.ensures.closes c.finish.ensures.legal
+    ((rw c.deref_mut.ensures.value at c.commit_create-end.ensures.turn) (items c.take-cell.new.pass.seat.me.0.seen) h t.1.0 prepares (λ honest. c.requires.fresh)) c.created-entered.ensures
+    b t.2 is t.0 t.4 t.1 t.3 (rw c.deref_mut.ensures.value at c.commit_create-end.ensures.base) c.finish.ensures.closes c.finish.ensures.legal
 
 pub returns-clause-storage : goal.returns-clause-storage
 returns-clause-storage g c b is now ended =
     let t = c.take-cell.ensures.taken in
-    let core = c.take-cell.result.core in
+    let core = c.take-cell.result.core.value in
     let log = items c.take-cell.new.pass.seat.me.0.seen in
     let new = c.args.new in
     let h = object_of c.args.hub.now in
     let known : c.requires.value.0 ≡ base_of core = (let based = t.2 in let first = c.requires.value.1 in cc (based, first)) in
     let same : base_of core ≡ b = (let based = t.2 in cc (based, is)) in
     let prepares = subst (λ (x : CoreBase g.row.V.Denot). PreparesValue (g.V.Versions.meaning x.versions) new h) known c.requires.value.2 in
-    let turn = c.commit_create-end.ensures.turn log h t.1.0 prepares (λ honest. c.requires.fresh) in
+    let turn = (rw c.deref_mut.ensures.value at c.commit_create-end.ensures.turn) log h t.1.0 prepares (λ honest. c.requires.fresh) in
     let storage = create-storage core.view.limits (revision log + 1) (state (g.V.Versions.meaning core.versions) log) c.args.v new.at new.key h new.weight now (sym turn.0 ∙ ended) in
-    let flags = ap (λ (f : Flags). f.storage) (c.settings.ensures.flags ∙ t.1.0.present.flags) ∙ storage in
+    let flags = ap (λ (f : Flags). f.storage) ((rw c.deref.ensures at c.settings.ensures.flags) ∙ t.1.0.present.flags) ∙ storage in
     subst (λ (x : CoreBase g.row.V.Denot). now < (g.V.Versions.meaning x.versions).count) same
-    (subst (λ (n : ℕ). n < (g.V.Versions.meaning core.versions).count) flags c.settings.ensures.are_flags.storage)
+    (subst (λ (n : ℕ). n < (g.V.Versions.meaning core.versions).count) flags (rw c.deref.ensures at c.settings.ensures.are_flags).storage)

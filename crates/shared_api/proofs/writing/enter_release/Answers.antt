@@ -12,13 +12,13 @@ use Rattle.shared_api.proofs.writing.enter_release.Goals as goal
 
 pub commit_release-end-requires : goal.commit_release-end-requires
 commit_release-end-requires g c =
-    let t = c.take-cell.ensures.taken in
-    few-revision g.V.Versions.meaning c.take-cell.result.core c.take-cell.new.pass.seat.me.0.seen t.1 t.3
+    rw c.deref_mut.ensures.value (let t = c.take-cell.ensures.taken in
+    few-revision g.V.Versions.meaning c.take-cell.result.core.value c.take-cell.new.pass.seat.me.0.seen t.1 t.3)
 
 pub finish-requires-clause-stands : goal.finish-requires-clause-stands
 finish-requires-clause-stands g c =
     let t = c.take-cell.ensures.taken in
-    let core = c.take-cell.result.core in
+    let core = c.take-cell.result.core.value in
     let k = c.args.key.now in
     let over = c.args.expected in
     let i : Item = entry (Release c.of.result.value over) in
@@ -29,12 +29,12 @@ finish-requires-clause-stands g c =
     committed-stands g.V.Versions.meaning core c.commit_release-end.new.self c.args.pass.now.seat.me.0 c.take-cell.new.pass.seat.me.0 c.args.pass.now.seat.me.0
     (λ s log. releases s c.args.v k over log) (release_end c.commit_release-end.result) i c.released-entered.result
     (λ s log. subst (λ (j : Item). EntersIt j (releases s c.args.v k over log)) (sym named) (release-item (revision log + 1) (state s.meaning log) c.args.v k over))
-    (c.commit_release-end.ensures.turn (items c.take-cell.new.pass.seat.me.0.seen) t.1.0 known_there) c.released-entered.ensures
+    ((rw c.deref_mut.ensures.value at c.commit_release-end.ensures.turn) (items c.take-cell.new.pass.seat.me.0.seen) t.1.0 known_there) c.released-entered.ensures
 
 pub returns-clause-commits : goal.returns-clause-commits
 returns-clause-commits g c b is =
     let t = c.take-cell.ensures.taken in
-    let core = c.take-cell.result.core in
+    let core = c.take-cell.result.core.value in
     let k = c.args.key.now in
     let over = c.args.expected in
     let i : Item = entry (Release c.of.result.value over) in
@@ -45,5 +45,5 @@ returns-clause-commits g c b is =
     commits g.V.Versions.meaning core c.commit_release-end.new.self c.args.pass.now.seat.me.0 c.take-cell.new.pass.seat.me.0 c.finish.new.pass.seat.me.0
     (λ s log. releases s c.args.v k over log) (release_end c.commit_release-end.result) i c.released-entered.result
     (λ s log. subst (λ (j : Item). EntersIt j (releases s c.args.v k over log)) (sym named) (release-item (revision log + 1) (state s.meaning log) c.args.v k over))
-    (c.commit_release-end.ensures.turn (items c.take-cell.new.pass.seat.me.0.seen) t.1.0 known_there) c.released-entered.ensures
-    b t.2 is t.0 t.4 t.1 t.3 c.commit_release-end.ensures.base c.finish.ensures.closes c.finish.ensures.legal
+    ((rw c.deref_mut.ensures.value at c.commit_release-end.ensures.turn) (items c.take-cell.new.pass.seat.me.0.seen) t.1.0 known_there) c.released-entered.ensures
+    b t.2 is t.0 t.4 t.1 t.3 (rw c.deref_mut.ensures.value at c.commit_release-end.ensures.base) c.finish.ensures.closes c.finish.ensures.legal
