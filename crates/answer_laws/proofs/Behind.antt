@@ -33,8 +33,8 @@ use Rattle.wire_client.specs.Answers.{IsValue, form_fault, given, gone, has_deta
 use Rattle.wire_client.specs.Calls.{Call, body_of, gets, lists, method_of, posts, puts, request_of, target_of}
 use Rattle.wire_client.specs.Forms.{api_version, page_fault}
 use Rattle.wire_client.specs.declared.buffer.TheConstants.{ANSWER_LEVELS}
-use Rattle.upgrade_laws.specs.Answering.{Answered, CameTo, IsBehind, IsCall, IsOfMigration}
-use Rattle.upgrade_laws.proofs.Decided.{IsRequest, decides_or, ok_code, replies as reply_of_decision}
+use Rattle.upgrade_laws.specs.Answering.{Answered, CameTo, Entered, IsBehind, IsCall, IsOfMigration, all_of}
+use Rattle.upgrade_laws.proofs.Decided.{IsRequest, decides_or, item_or, ok_code, replies as reply_of_decision}
 use Rattle.upgrade_laws.proofs.Keyed.{formed_given}
 use Rattle.upgrade_laws.proofs.PageForms.{OneReading, TextReads}
 use Rattle.answer_laws.specs.Speaking.{AnswersIt, AreNames, Speaks, head_codes, speaker}
@@ -102,7 +102,7 @@ module _ (f : Front) (n : Names) (names : AreNames n) (text_reads : TextReads) (
 
   -- the call of a route is that of the client, or one on migrations
   data IsRouted (call : Call) (c : calls.Call) : Type 0 where
-    the_call : IsCall f.server call c → IsRouted call c
+    the_call : IsCall f.server n call c → IsRouted call c
     the_migrations : (limit : ℕ) (token : List ℕ) → call ≡ lists limit token → c ≡ calls.migrations → IsRouted call c
 
   routed : (call : Call) (c : calls.Call) → IsOfMigration call → Routes m (method_of call) (target_of n call) (body_of call) (route.calls c) → IsRouted call c
@@ -118,14 +118,14 @@ module _ (f : Front) (n : Names) (names : AreNames n) (text_reads : TextReads) (
   -- ---- what is given
 
   given_came : (call : Call) (log own : List Item) (bytes : List ℕ) (j : Json) → IsOfMigration call → AnswersIt f log (request_of n call) bytes own
-      → client.Replies n call (Some bytes) (given j) → CameTo f.server call log own (given j)
+      → client.Replies n call (Some bytes) (given j) → CameTo f.server n call log own (given j)
   given_came call log own bytes j fits a r = by_reply (subst (λ (q : Request). Replies f (Unit {0}) a.seen log q a.reply a.item) is a.replies)
     where
       is : a.request ≡ asked call
       is = asked_is (method_of call) (target_of n call) (body_of call) a.rest a.request (addressed call fits) a.few a.reads
 
       Came : Type 0
-      Came = CameTo f.server call log own (given j)
+      Came = CameTo f.server n call log own (given j)
 
       ok : HasPhrase a.reply.code → (a.reply.code ≡ 200) × Reads a.reply.text ANSWER_LEVELS j
       ok has =
@@ -138,12 +138,12 @@ module _ (f : Front) (n : Names) (names : AreNames n) (text_reads : TextReads) (
       not_refused : (subject : About) (e : RefusalView) → a.reply ≡ refused m subject e → ⊥
       not_refused subject e same = not_code (code_of_refusal e) (refusal_phrase e) (refusal_not_ok e) (ap (λ (q : ReplyView). q.code) same)
 
-      by_answer : (c : calls.Call) → IsCall f.server call c → (rep : RepliesToCall f (Unit {0}) a.seen log c a.reply a.item) → (x : replies.Answer) → rep.answer ≡ x → Came
+      by_answer : (c : calls.Call) → IsCall f.server n call c → (rep : RepliesToCall f (Unit {0}) a.seen log c a.reply a.item) → (x : replies.Answer) → rep.answer ≡ x → Came
       by_answer c the_one rep (Ok v) given_ok =
           let same : a.reply ≡ v = rep.told ∙ ap (λ (x : replies.Answer). replied m (about c) x) given_ok in
           let comes : Comes f.server (Unit {0}) rep.stamp a.seen log c (answered (Ok v)) a.item =
           subst (λ (x : replies.Answer). Comes f.server (Unit {0}) rep.stamp a.seen log c (answered x) a.item) given_ok rep.comes in
-          let coded : v.code ≡ 200 = ok_code f.server call rep.stamp a.seen log c a.item v fits the_one comes in
+          let coded : v.code ≡ 200 = ok_code f.server n call rep.stamp a.seen log c a.item v fits the_one comes in
           let told = ok (subst HasPhrase (sym (ap (λ (q : ReplyView). q.code) same ∙ coded)) phrase-200) in
           record {
             asked = c;
@@ -189,10 +189,10 @@ module _ (f : Front) (n : Names) (names : AreNames n) (text_reads : TextReads) (
       by_reply (inl exactly) = by_route exactly.route exactly.routes exactly.reply
       by_reply (inr wants) = absurd (not_code 503 phrase-503 (λ e. omega (arith, e)) (ap (λ (q : ReplyView). q.code) wants.0))
 
-  gives_law : (call : Call) → IsOfMigration call → (log own : List Item) (j : Json) → Answered (speaker f) n call log own (given j) → CameTo f.server call log own (given j)
+  gives_law : (call : Call) → IsOfMigration call → (log own : List Item) (j : Json) → Answered (speaker f) n call log own (given j) → CameTo f.server n call log own (given j)
   gives_law call fits log own j a = by a.answers
     where
-      by : Speaks f log (request_of n call) a.bytes own → CameTo f.server call log own (given j)
+      by : Speaks f log (request_of n call) a.bytes own → CameTo f.server n call log own (given j)
       by (inl it) = given_came call log own a.bytes j fits it a.replies
       by (inr (inl r)) =
           let other = other_code r.code r.coded in
@@ -202,14 +202,14 @@ module _ (f : Front) (n : Names) (names : AreNames n) (text_reads : TextReads) (
   -- ---- what is gone
 
   missed_came : (call : Call) (log own : List Item) (bytes : List ℕ) → IsOfMigration call → AnswersIt f log (request_of n call) bytes own
-      → client.Replies n call (Some bytes) gone → CameTo f.server call log own gone
+      → client.Replies n call (Some bytes) gone → CameTo f.server n call log own gone
   missed_came call log own bytes fits a r = by_reply (subst (λ (q : Request). Replies f (Unit {0}) a.seen log q a.reply a.item) is a.replies)
     where
       is : a.request ≡ asked call
       is = asked_is (method_of call) (target_of n call) (body_of call) a.rest a.request (addressed call fits) a.few a.reads
 
       Came : Type 0
-      Came = CameTo f.server call log own gone
+      Came = CameTo f.server n call log own gone
 
       found : HasPhrase a.reply.code → (a.reply.code ≡ 404) × (v : Option Json) × IsValue a.reply.text v × (has_details v ≡ true)
       found has = gone_says n call bytes a.reply.text a.reply.code has a.short a.answer_is r
@@ -229,12 +229,12 @@ module _ (f : Front) (n : Names) (names : AreNames n) (text_reads : TextReads) (
           let has = subst HasPhrase (sym code_is) (refusal_phrase e) in
           by_missing subject e (missing e (sym code_is ∙ (found has).0)) same has
 
-      by_answer : (c : calls.Call) → IsCall f.server call c → (rep : RepliesToCall f (Unit {0}) a.seen log c a.reply a.item) → (x : replies.Answer) → rep.answer ≡ x → Came
+      by_answer : (c : calls.Call) → IsCall f.server n call c → (rep : RepliesToCall f (Unit {0}) a.seen log c a.reply a.item) → (x : replies.Answer) → rep.answer ≡ x → Came
       by_answer c the_one rep (Ok v) given_ok =
           let same : a.reply ≡ v = rep.told ∙ ap (λ (x : replies.Answer). replied m (about c) x) given_ok in
           let comes : Comes f.server (Unit {0}) rep.stamp a.seen log c (answered (Ok v)) a.item =
           subst (λ (x : replies.Answer). Comes f.server (Unit {0}) rep.stamp a.seen log c (answered x) a.item) given_ok rep.comes in
-          let coded : v.code ≡ 200 = ok_code f.server call rep.stamp a.seen log c a.item v fits the_one comes in
+          let coded : v.code ≡ 200 = ok_code f.server n call rep.stamp a.seen log c a.item v fits the_one comes in
           absurd (not_code 200 phrase-200 (λ e. omega (arith, e)) (ap (λ (q : ReplyView). q.code) same ∙ coded))
       by_answer c the_one rep (Err e) refused_so =
           let name = named (about c) e (rep.told ∙ ap (λ (x : replies.Answer). replied m (about c) x) refused_so) in
@@ -281,15 +281,53 @@ module _ (f : Front) (n : Names) (names : AreNames n) (text_reads : TextReads) (
       by_reply (inl exactly) = by_route exactly.route exactly.routes exactly.reply
       by_reply (inr wants) = absurd (not_code 503 phrase-503 (λ e. omega (arith, e)) (ap (λ (q : ReplyView). q.code) wants.0))
 
-  misses_law : (call : Call) → IsOfMigration call → (log own : List Item) → Answered (speaker f) n call log own gone → CameTo f.server call log own gone
+  misses_law : (call : Call) → IsOfMigration call → (log own : List Item) → Answered (speaker f) n call log own gone → CameTo f.server n call log own gone
   misses_law call fits log own a = by a.answers
     where
-      by : Speaks f log (request_of n call) a.bytes own → CameTo f.server call log own gone
+      by : Speaks f log (request_of n call) a.bytes own → CameTo f.server n call log own gone
       by (inl it) = missed_came call log own a.bytes fits it a.replies
       by (inr (inl r)) =
           let other = other_code r.code r.coded in
           absurd (other.not_missing (gone_says n call a.bytes r.text r.code other.phrase r.short r.answer_is a.replies).0)
       by (inr (inr none)) = absurd (gone_nothing n call (subst (λ (b : List ℕ). client.Replies n call (Some b) gone) none.0 a.replies))
 
+  -- ---- what is entered
+
+  nothing_by : (own : List Item) (i : Option Item) → own ≡ all_of i → i ≡ None → own ≡ []
+  nothing_by own i is none = is ∙ ap all_of none
+
+  entered_by : (call : Call) (log own : List Item) (bytes : List ℕ) → IsOfMigration call → AnswersIt f log (request_of n call) bytes own → (own ≡ []) ⊎ Entered f.server n call log own
+  entered_by call log own bytes fits a = by_reply (subst (λ (q : Request). Replies f (Unit {0}) a.seen log q a.reply a.item) is a.replies)
+    where
+      is : a.request ≡ asked call
+      is = asked_is (method_of call) (target_of n call) (body_of call) a.rest a.request (addressed call fits) a.few a.reads
+
+      Enters : Type 0
+      Enters = (own ≡ []) ⊎ Entered f.server n call log own
+
+      by_call : (c : calls.Call) → IsRouted call c → RepliesToCall f (Unit {0}) a.seen log c a.reply a.item → Enters
+      by_call c (the_call the_one) rep =
+          inr (record { asked = c; is = the_one; stamp = rep.stamp; seen = a.seen; answer = rep.answer; item = a.item; comes = rep.comes; own_is = a.own_is })
+      by_call c (the_migrations limit token is_lists is_c) rep = by_item (item_or f.server rep.stamp a.seen log c calls.migrations (answered rep.answer) a.item rep.answer is_c refl rep.comes)
+        where
+          by_item : (a.item ≡ None) ⊎ Decides f.server rep.stamp log calls.migrations (answered rep.answer) a.item → Enters
+          by_item (inl none) = inl (nothing_by own a.item a.own_is none)
+          by_item (inr h) = inl (nothing_by own a.item a.own_is (reply_of_decision (MigrationsReply m (state m log)) rep.answer a.item h).1)
+
+      by_route : (rt : Route) → Routes m (method_of call) (target_of n call) (body_of call) rt → RoutedReply f (Unit {0}) a.seen log rt a.reply a.item → Enters
+      by_route (route.calls c) routes rep = by_call c (routed call c fits routes) rep
+      by_route route.no_resource routes rep = inl (nothing_by own a.item a.own_is rep.1)
+      by_route route.method_not_allowed routes rep = inl (nothing_by own a.item a.own_is rep.1)
+      by_route (route.bad_request why) routes rep = inl (nothing_by own a.item a.own_is rep.1)
+
+      by_reply : Replies f (Unit {0}) a.seen log (asked call) a.reply a.item → Enters
+      by_reply (inl exactly) = by_route exactly.route exactly.routes exactly.reply
+      by_reply (inr wants) = inl (nothing_by own a.item a.own_is wants.1)
+
+  enters_law : (call : Call) → IsOfMigration call → (log own : List Item) (bytes : List ℕ) → Speaks f log (request_of n call) bytes own → (own ≡ []) ⊎ Entered f.server n call log own
+  enters_law call fits log own bytes (inl it) = entered_by call log own bytes fits it
+  enters_law call fits log own bytes (inr (inl r)) = inl r.nothing
+  enters_law call fits log own bytes (inr (inr none)) = inl none.1
+
   pub is_behind : IsBehind f.server n (speaker f)
-  is_behind = record { gives = gives_law; misses = misses_law }
+  is_behind = record { gives = gives_law; misses = misses_law; enters = enters_law }

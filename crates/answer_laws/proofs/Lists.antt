@@ -141,7 +141,7 @@ module _ (n : Names) (names : AreNames n) (limit : ℕ) (token : List ℕ) (few 
 
   -- the objects of all namespaces, or the migrations, which may have the same path
   pub data IsListed (m : Meaning) (c : calls.Call) : Type 0 where
-    of_objects : (v most : ℕ) (from : Option Place) → v < m.count → query.GoesOn None token from → c ≡ calls.list v None most from → IsListed m c
+    of_objects : (v most : ℕ) (from : Option Place) → IsVersion m n.version v → query.GoesOn None token from → c ≡ calls.list v None most from → IsListed m c
     of_migrations : c ≡ calls.migrations → IsListed m c
 
   collection_of : (m : Meaning) (r : Resource) (a g v p : List ℕ) → [] ∷ a ∷ g ∷ v ∷ p ∷ [] ≡ path_of m r → (r ≡ path.everywhere v) ⊎ (r ≡ path.migrations)
@@ -181,7 +181,7 @@ module _ (n : Names) (names : AreNames n) (limit : ℕ) (token : List ℕ) (few 
           subst (λ (a : Action). ReadsQuery a (pairs_of (query_in (target_of n (lists limit token)))) (paged paging)) same r.4.query in
           let text : value_of (codes "continue") (pairs_of (query_in (target_of n (lists limit token)))) ≡ token =
           ap (λ (q : List ℕ). value_of (codes "continue") (pairs_of q)) list_query ∙ query_continues limit token (omega (arith, few)) small.ascii in
-          of_objects place paging.limit paging.from known.0 (subst (λ (t : List ℕ). query.GoesOn None t paging.from) text reads.2)
+          of_objects place paging.limit paging.from known (subst (λ (t : List ℕ). query.GoesOn None t paging.from) text reads.2)
           (r.6 ∙ ap (λ (a : Action). call_of a place body paging) same)
       by (inr is) =
           let asked = r.1 in

@@ -119,22 +119,22 @@ object_puts n key names valid = addressed (codes "PUT") (at_key n key) put_token
 
 -- ---- the route
 
--- the resource is the object of that key
-record IsObject (r : Resource) (key : KeyView) : Type 0 where
-  version : List ℕ
+-- the resource is the object of that key at that version
+record IsObject (r : Resource) (version : List ℕ) (key : KeyView) : Type 0 where
   is : r ≡ path.object version key
 
 one_key : (k l : KeyView) → k.ns ≡ l.ns → k.name ≡ l.name → k ≡ l
 one_key k l ns name = λ i. record { ns = ns i; name = name i }
 
-object_of : (m : Meaning) (r : Resource) (a b c d e : List ℕ) (key : KeyView) → [] ∷ a ∷ b ∷ c ∷ d ∷ key.ns ∷ e ∷ key.name ∷ [] ≡ path_of m r → IsObject r key
+object_of : (m : Meaning) (r : Resource) (a b c d e : List ℕ) (key : KeyView) → [] ∷ a ∷ b ∷ c ∷ d ∷ key.ns ∷ e ∷ key.name ∷ [] ≡ path_of m r → IsObject r c key
 object_of m path.group a b c d e key is = cc
 object_of m (path.everywhere v) a b c d e key is = cc
 object_of m (path.collection v ns) a b c d e key is = cc
 object_of m (path.object v k) a b c d e key is =
     let ns : k.ns ≡ key.ns = cc in
     let name : k.name ≡ key.name = cc in
-    record { version = v; is = ap (λ (q : KeyView). path.object v q) (one_key k key ns name) }
+    let version : v ≡ c = cc in
+    record { is = ap (λ (q : KeyView). path.object v q) (one_key k key ns name) ∙ ap (λ (w : List ℕ). path.object w key) version }
 object_of m path.crd a b c d e key is = cc
 object_of m path.crd_status a b c d e key is = cc
 object_of m path.migrations a b c d e key is = cc
@@ -154,29 +154,29 @@ some_one a b e = cc
 
 -- a put of an object is a replace
 pub put_routed : (m : Meaning) (n : Names) (key : KeyView) (j : Json) (c : calls.Call) → AreNames n → IsKey key → Routes m (codes "PUT") (at_key n key) (text_of j) (route.calls c)
-    → (v : ℕ) × (v < m.count) × (c ≡ calls.replace (record { version = v; ns = key.ns; name = Some key.name; bytes = text_of j }) key)
+    → (v : ℕ) × IsVersion m n.version v × (c ≡ calls.replace (record { version = v; ns = key.ns; name = Some key.name; bytes = text_of j }) key)
 put_routed m n key j c names valid r =
     let resource = r.0 in
     let asked = r.1 in
     let paging : Paging = r.2 in
     let place = r.3 in
     let object = object_of m resource (codes "apis") n.group n.version (codes "namespaces") n.plural key (sym (object_segments n key names valid) ∙ r.4.asks.named.1) in
-    let same : asked ≡ action.replace object.version key =
-    some_one asked (action.replace object.version key)
-    (sym r.4.asks.asked ∙ ap (λ (q : Resource). cell (row_of q) (codes "PUT")) object.is ∙ put_cell object.version key) in
-    let known : IsVersion m object.version place = subst (λ (a : Action). IfSome (version_in a) (λ name. IsVersion m name place)) same r.5 in
-    (place, known.0, r.6 ∙ ap (λ (a : Action). call_of a place (text_of j) paging) same)
+    let same : asked ≡ action.replace n.version key =
+    some_one asked (action.replace n.version key)
+    (sym r.4.asks.asked ∙ ap (λ (q : Resource). cell (row_of q) (codes "PUT")) object.is ∙ put_cell n.version key) in
+    let known : IsVersion m n.version place = subst (λ (a : Action). IfSome (version_in a) (λ name. IsVersion m name place)) same r.5 in
+    (place, known, r.6 ∙ ap (λ (a : Action). call_of a place (text_of j) paging) same)
 
 pub get_routed : (m : Meaning) (n : Names) (key : KeyView) (body : List ℕ) (c : calls.Call) → AreNames n → IsKey key → Routes m (codes "GET") (at_key n key) body (route.calls c)
-    → (v : ℕ) × (v < m.count) × (c ≡ calls.get v key)
+    → (v : ℕ) × IsVersion m n.version v × (c ≡ calls.get v key)
 get_routed m n key body c names valid r =
     let resource = r.0 in
     let asked = r.1 in
     let paging : Paging = r.2 in
     let place = r.3 in
     let object = object_of m resource (codes "apis") n.group n.version (codes "namespaces") n.plural key (sym (object_segments n key names valid) ∙ r.4.asks.named.1) in
-    let same : asked ≡ action.get object.version key =
-    some_one asked (action.get object.version key)
-    (sym r.4.asks.asked ∙ ap (λ (q : Resource). cell (row_of q) (codes "GET")) object.is ∙ get_cell object.version key) in
-    let known : IsVersion m object.version place = subst (λ (a : Action). IfSome (version_in a) (λ name. IsVersion m name place)) same r.5 in
-    (place, known.0, r.6 ∙ ap (λ (a : Action). call_of a place body paging) same)
+    let same : asked ≡ action.get n.version key =
+    some_one asked (action.get n.version key)
+    (sym r.4.asks.asked ∙ ap (λ (q : Resource). cell (row_of q) (codes "GET")) object.is ∙ get_cell n.version key) in
+    let known : IsVersion m n.version place = subst (λ (a : Action). IfSome (version_in a) (λ name. IsVersion m name place)) same r.5 in
+    (place, known, r.6 ∙ ap (λ (a : Action). call_of a place body paging) same)

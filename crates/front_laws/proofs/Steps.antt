@@ -16,7 +16,7 @@ use Rattle.http_front.specs.declared.one.OneEnd.{OneEnd}
 use Rattle.http_front.specs.declared.one.OneEnd.TheVariants.{Answered, Closed, Last, ReadFault, Refused, Torn, WriteFault}
 use Rattle.wire_client.specs.Far.{Served}
 use Rattle.upgrade_laws.specs.Answering.{all_of}
-use Rattle.answer_laws.specs.Speaking.{IsShort, speaker}
+use Rattle.answer_laws.specs.Speaking.{IsShort, Speaks, speaker}
 
 -- ---- whatever the tool's faults
 
@@ -117,3 +117,41 @@ last_speaks f n p q bytes answer left d few short =
       });
       next_is = step_items f n p q x.request x.answer s;
     }
+
+-- ---- whatever the clock tells
+
+-- the same server, of whose clock nothing is told
+abbrev pub untold : Front → Front
+untold f = record { server = f.server; told = None }
+
+routed_untold : (f : Front) (seen log : List Item) (r : Route) (a : ReplyView) (i : Option Item) → RoutedReply f (Unit {0}) seen log r a i → RoutedReply (untold f) (Unit {0}) seen log r a i
+routed_untold f seen log (route.calls c) a i h = record { stamp = h.stamp; answer = h.answer; may = (tt, h.may.1); told = h.told; comes = h.comes }
+routed_untold f seen log route.no_resource a i h = h
+routed_untold f seen log route.method_not_allowed a i h = h
+routed_untold f seen log (route.bad_request why) a i h = h
+
+replies_untold : (f : Front) (seen log : List Item) (r : Request) (a : ReplyView) (i : Option Item) → Replies f (Unit {0}) seen log r a i → Replies (untold f) (Unit {0}) seen log r a i
+replies_untold f seen log r a i (inl h) = inl (record { route = h.route; routes = h.routes; reply = routed_untold f seen log h.route a i h.reply })
+replies_untold f seen log r a i (inr h) = inr h
+
+speaks_untold : (f : Front) (log : List Item) (bytes answer : List ℕ) (own : List Item) → Speaks f log bytes answer own → Speaks (untold f) log bytes answer own
+speaks_untold f log bytes answer own (inl h) = inl (record {
+  request = h.request;
+  rest = h.rest;
+  reads = h.reads;
+  few = h.few;
+  closing = h.closing;
+  seen = h.seen;
+  reply = h.reply;
+  item = h.item;
+  replies = replies_untold f h.seen log h.request h.reply h.item h.replies;
+  utf8 = h.utf8;
+  short = h.short;
+  answer_is = h.answer_is;
+  own_is = h.own_is;
+})
+speaks_untold f log bytes answer own (inr h) = inr h
+
+pub served_untold : (f : Front) (log : List Item) (bytes answer : List ℕ) (next : List Item) → Served (speaker f) log bytes answer next → Served (speaker (untold f)) log bytes answer next
+served_untold f log bytes answer next h =
+    record { others = h.others; own = h.own; answers = speaks_untold f (log ++ h.others) bytes answer h.own h.answers; next_is = h.next_is }

@@ -1,5 +1,5 @@
 -- From what a client's call comes to at the server to what the server decides.
-use Rattle.std.proofs.Common.{◌≡◌, ◌∙◌, refl, sym, ap, subst, inl, inr, ℕ, ◌+◌, ◌<◌, List, [], ◌++◌, Option, None, Some, Ok, Err}
+use Rattle.std.proofs.Common.{◌≡◌, ◌∙◌, refl, sym, ap, subst, inl, inr, ℕ, ◌+◌, List, [], ◌++◌, Option, None, Some, Ok, Err}
 use Rattle.std.specs.Prelude.{◌⊎◌, MatchOption}
 use Rattle.kj_value.specs.Json.{Json}
 use Rattle.kj_value.specs.Reading.{Reads}
@@ -16,8 +16,10 @@ use Rattle.api_calls.specs.Refusal as refusal
 use Rattle.api_calls.specs.Replies.{Answer, GetReply, ListReply, ReplaceReply, code_ok}
 use Rattle.api_calls.specs.Reply.{ReplyView}
 use Rattle.api_calls.specs.State.{State, next_number, revision, state}
+use Rattle.http_routes.specs.Actions.{IsVersion}
 use Rattle.http_routes.specs.Queries as query
 use Rattle.list_laws.specs.Keys.{IsAbsentOrAt}
+use Rattle.place.specs.Place.{Names}
 use Rattle.wire_client.specs.Answers.{given, gone}
 use Rattle.wire_client.specs.Calls.{Call, gets, lists, posts, puts}
 use Rattle.wire_client.specs.declared.buffer.TheConstants.{ANSWER_LEVELS}
@@ -30,7 +32,7 @@ pub record IsRequest (c : calls.Call) : Type 0 where
   pub fails : (f : Failure) (t : Told) → Fails f c t → t ≡ answered (Err (failure_refusal f))
   pub no_work : (claim : Option ℕ) → calls.work claim ≡ c → ⊥
 
-get_request : (v : ℕ) (k : KeyView) → IsRequest (calls.get v k)
+pub get_request : (v : ℕ) (k : KeyView) → IsRequest (calls.get v k)
 get_request v k = record { fails = λ f t h. h; no_work = λ claim e. cc }
 
 list_request : (v : ℕ) (ns : Option (List ℕ)) (limit : ℕ) (from : Option Place) → IsRequest (calls.list v ns limit from)
@@ -54,11 +56,21 @@ decides_or s stamp seen log _ d _ _ a is told r (not_converted c t rose converts
 decides_or s stamp seen log _ d _ _ a is told r (moved claim h) = absurd (r.no_work claim is)
 decides_or s stamp seen log _ d _ _ a is told r (lost claim h) = absurd (r.no_work claim is)
 
+-- it entered nothing, or is answered as it is decided
+pub item_or : (s : Server) (stamp : List ℕ) (seen log : List Item) (c d : calls.Call) (t : Told) (i : Option Item) (a : Answer) → c ≡ d → t ≡ answered a
+    → Comes s (Unit {0}) stamp seen log c t i → (i ≡ None) ⊎ Decides s stamp log d (answered a) i
+item_or s stamp seen log _ d _ i a is told (decided c t j h) =
+    inr (subst (λ (u : Told). Decides s stamp log d u i) told (subst (λ (e : calls.Call). Decides s stamp log e t i) is h))
+item_or s stamp seen log _ d _ _ a is told (wants_memory c t h) = inl refl
+item_or s stamp seen log _ d _ _ a is told (not_converted c t rose converts h) = inl refl
+item_or s stamp seen log _ d _ _ a is told (moved claim h) = inl refl
+item_or s stamp seen log _ d _ _ a is told (lost claim h) = inl refl
+
 -- an answer that is no failure
-abbrev IsDecided : Answer → Type 0
+abbrev pub IsDecided : Answer → Type 0
 IsDecided a = (f : Failure) → a ≡ Err (failure_refusal f) → ⊥
 
-decides : (s : Server) (stamp : List ℕ) (seen log : List Item) (c d : calls.Call) (i : Option Item) (a : Answer) → c ≡ d → IsRequest d → IsDecided a
+pub decides : (s : Server) (stamp : List ℕ) (seen log : List Item) (c d : calls.Call) (i : Option Item) (a : Answer) → c ≡ d → IsRequest d → IsDecided a
     → Comes s (Unit {0}) stamp seen log c (answered a) i → Decides s stamp log d (answered a) i
 decides s stamp seen log c d i a is r known comes = by (decides_or s stamp seen log c d (answered a) i a is refl r comes)
   where
@@ -66,7 +78,7 @@ decides s stamp seen log c d i a is r known comes = by (decides_or s stamp seen 
     by (inl failed) = absurd (known failed.0 failed.1)
     by (inr h) = h
 
-ok_decided : (r : ReplyView) → IsDecided (Ok r)
+pub ok_decided : (r : ReplyView) → IsDecided (Ok r)
 ok_decided r f e = cc
 
 missed_decided : (name : List ℕ) → IsDecided (Err (refusal.not_found name))
@@ -78,7 +90,7 @@ replies R a i h = subst (λ (b : Answer). R b i) (sym (one_answer a h.0 h.1)) h.
 
 -- ---- puts and gets
 
-abbrev put_of : ℕ → KeyView → Json → Request
+abbrev pub put_of : ℕ → KeyView → Json → Request
 put_of v key j = record { version = v; ns = key.ns; name = Some key.name; bytes = text_of j }
 
 -- behind the items of a call
@@ -92,9 +104,9 @@ absent_at : (v : ℕ) (key : KeyView) (s : State) → find key s.objects ≡ Non
 absent_at v key s none = subst (λ (o : Option Stored). MatchOption o (Unit {0}) (λ f. f.at ≡ v)) (sym none) tt
 
 -- what is put and given stands at the storage version, or is released
-pub put_stands : (s : Server) (log own : List Item) (key : KeyView) (j k : Json) → IsSoundState (state s.meaning log) → CameTo s (puts key j) log own (given k)
+pub put_stands : (s : Server) (n : Names) (log own : List Item) (key : KeyView) (j k : Json) → IsSoundState (state s.meaning log) → CameTo s n (puts key j) log own (given k)
     → IsAbsentOrAt (state s.meaning log).flags.storage key (state s.meaning (log ++ own))
-put_stands s log own key j k sound c =
+put_stands s n log own key j k sound c =
     let v = c.is.0 in
     let r : ReplyView = c.tells.0 in
     let d = calls.replace (put_of v key j) key in
@@ -106,9 +118,9 @@ put_stands s log own key j k sound c =
     (put_given s.meaning s.limits s.boot (revision log + 1) (next_number log) (state s.meaning log) (put_of v key j) key r c.item sound.rising reply)
 
 -- nothing is there that a put doesn't find, and nothing is entered
-pub put_finds_none : (s : Server) (log own : List Item) (key : KeyView) (j : Json) → CameTo s (puts key j) log own gone
+pub put_finds_none : (s : Server) (n : Names) (log own : List Item) (key : KeyView) (j : Json) → CameTo s n (puts key j) log own gone
     → (find key (state s.meaning log).objects ≡ None) × (own ≡ [])
-put_finds_none s log own key j c =
+put_finds_none s n log own key j c =
     let v = c.is.0 in
     let name : List ℕ = c.tells.0 in
     let d = calls.replace (put_of v key j) key in
@@ -120,8 +132,8 @@ put_finds_none s log own key j c =
     (missed.0, c.own_is ∙ ap all_of missed.1)
 
 -- the same of a get
-pub get_finds_none : (s : Server) (log own : List Item) (key : KeyView) → CameTo s (gets key) log own gone → (find key (state s.meaning log).objects ≡ None) × (own ≡ [])
-get_finds_none s log own key c =
+pub get_finds_none : (s : Server) (n : Names) (log own : List Item) (key : KeyView) → CameTo s n (gets key) log own gone → (find key (state s.meaning log).objects ≡ None) × (own ≡ [])
+get_finds_none s n log own key c =
     let v = c.is.0 in
     let name : List ℕ = c.tells.0 in
     let comes = subst (λ (a : Answer). Comes s (Unit {0}) c.stamp c.seen log c.asked (answered a) c.item) c.tells.1 c.comes in
@@ -137,19 +149,19 @@ absent_behind s v log own key none is = behind_items s v key log own None is (ab
 -- ---- lists
 
 -- a page that was given
-pub record PageGiven (s : Server) (log own : List Item) (token : List ℕ) (j : Json) : Type 0 where
+pub record PageGiven (s : Server) (n : Names) (log own : List Item) (token : List ℕ) (j : Json) : Type 0 where
   pub v : ℕ
   pub most : ℕ
   pub from : Option Place
-  pub known : v < s.meaning.count
+  pub known : IsVersion s.meaning n.version v
   pub goes_on : query.GoesOn None token from
   pub reply : ReplyView
   pub shown : Shown s.meaning s.limits s.boot log v most from reply
   pub reads : Reads reply.text ANSWER_LEVELS j
   pub nothing : own ≡ []
 
-pub page_given : (s : Server) (log own : List Item) (limit : ℕ) (token : List ℕ) (j : Json) → CameTo s (lists limit token) log own (given j) → PageGiven s log own token j
-page_given s log own limit token j c =
+pub page_given : (s : Server) (n : Names) (log own : List Item) (limit : ℕ) (token : List ℕ) (j : Json) → CameTo s n (lists limit token) log own (given j) → PageGiven s n log own token j
+page_given s n log own limit token j c =
     let v = c.is.0 in
     let most = c.is.1 in
     let from = c.is.2 in
@@ -174,19 +186,19 @@ page_given s log own limit token j c =
 -- ---- codes
 
 -- an answer with a reply to a call of a migration has the code of success
-pub ok_code : (s : Server) (call : Call) (stamp : List ℕ) (seen log : List Item) (c : calls.Call) (i : Option Item) (r : ReplyView) → IsOfMigration call → IsCall s call c
+pub ok_code : (s : Server) (n : Names) (call : Call) (stamp : List ℕ) (seen log : List Item) (c : calls.Call) (i : Option Item) (r : ReplyView) → IsOfMigration call → IsCall s n call c
     → Comes s (Unit {0}) stamp seen log c (answered (Ok r)) i → r.code ≡ code_ok
-ok_code s (lists limit token) stamp seen log c i r fits is comes =
+ok_code s n (lists limit token) stamp seen log c i r fits is comes =
     let d = calls.list is.0 None is.1 is.2 in
     let decision = decides s stamp seen log c d i (Ok r) is.5 (list_request is.0 None is.1 is.2) (ok_decided r) comes in
     let reply = replies (ListReply s.meaning s.limits s.boot log is.0 None is.1 is.2) (Ok r) i decision in
     (shown_by s.meaning s.limits s.boot log is.0 is.1 is.2 r reply.1).shows.0
-ok_code s (gets key) stamp seen log c i r fits is comes =
+ok_code s n (gets key) stamp seen log c i r fits is comes =
     let decision = decides s stamp seen log c (calls.get is.0 key) i (Ok r) is.2 (get_request is.0 key) (ok_decided r) comes in
     get_shown s.meaning s.boot (state s.meaning log) is.0 key r i (replies (GetReply s.meaning s.boot (state s.meaning log) is.0 key) (Ok r) i decision)
-ok_code s (puts key j) stamp seen log c i r fits is comes =
+ok_code s n (puts key j) stamp seen log c i r fits is comes =
     let d = calls.replace (put_of is.0 key j) key in
     let decision = decides s stamp seen log c d i (Ok r) is.2 (replace_request (put_of is.0 key j) key) (ok_decided r) comes in
     put_shown s.meaning s.limits s.boot (revision log + 1) (state s.meaning log) (put_of is.0 key j) key r i
     (replies (ReplaceReply s.meaning s.limits s.boot (revision log + 1) (state s.meaning log) (put_of is.0 key j) key) (Ok r) i decision)
-ok_code s (posts ns j) stamp seen log c i r fits is comes = absurd fits
+ok_code s n (posts ns j) stamp seen log c i r fits is comes = absurd fits

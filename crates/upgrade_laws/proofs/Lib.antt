@@ -1,9 +1,11 @@
 pub mod Replacing
-pub mod Listing
 pub mod Values
+pub mod Listing
 pub mod PageForms
 pub mod Keyed
+pub mod Histories
 pub mod Decided
 pub mod Upgrades
+pub mod Paging
 pub mod Settling
 pub mod Serving

@@ -1,12 +1,12 @@
 -- What a page of a list tells of the objects that stood at the list's first page.
-use Rattle.std.proofs.Common.{◌≡◌, ◌∙◌, refl, sym, ap, subst, ℕ, zero, suc, ◌+◌, ◌-◌, ◌<◌, ◌≤◌, Bool, true, false, not, List, [], ◌∷◌, ◌++◌, length, take, Option, None, Some, Ok, nat_lt, arith}
+use Rattle.std.proofs.Common.{◌≡◌, ◌∙◌, refl, sym, ap, subst, append_assoc, ℕ, zero, suc, ◌+◌, ◌-◌, ◌<◌, ◌≤◌, Bool, true, false, not, List, [], ◌∷◌, ◌++◌, length, take, Option, None, Some, Ok, nat_lt, arith}
 use Rattle.std.specs.Prelude.{nat_eq, if◌then◌else◌}
 use Rattle.std.proofs.lemmas.Bool.Decides.{nat_tests}
 use Rattle.kube_meta.specs.Page.{Page, listed, page_of}
 use Rattle.kube_meta.specs.declared.limits.Limits.{Limits}
 use Rattle.api_calls.specs.laws.GrowthLaws.{next_number-revision}
 use Rattle.api_calls.specs.Item.{Item, entry, note}
-use Rattle.api_calls.specs.Legal.{legal}
+use Rattle.api_calls.specs.Legal.{Each, legal}
 use Rattle.api_calls.specs.Meaning.{Meaning}
 use Rattle.api_calls.specs.Objects.{Stored, object_key}
 use Rattle.api_calls.specs.Pages.{PageEnd, Place, page_decision, place_page}
@@ -19,6 +19,7 @@ use Rattle.api_calls.specs.Token.{token_text}
 use Rattle.api_calls.proofs.Snaps.{stays-from}
 use Rattle.api_calls.proofs.Sound.{sound-all}
 use Rattle.list_laws.proofs.Pages.{left}
+use Rattle.upgrade_laws.proofs.Values.{IsKept, each_front}
 
 -- ---- the objects at the number of a history
 
@@ -127,6 +128,18 @@ few_left number limit xs = by (nat_eq limit 0)
 
 is_page_of : (number limit : ℕ) (xs : List Stored) → IsPageOf number xs (page_of number limit xs)
 is_page_of number limit xs = record { case = page_cases number limit xs; few = few_left number limit xs }
+
+-- what holds of objects holds of those of their page
+pub kept_items : (m : Meaning) (number : ℕ) (xs : List Stored) (p : Page Stored) → Each (IsKept m) xs → IsPageOf number xs p → Each (IsKept m) p.items
+kept_items m number xs p kept of = by of.case
+  where
+    by : PageCase number xs p → Each (IsKept m) p.items
+    by (last_page items none) = subst (λ (ys : List Stored). Each (IsKept m) ys) (sym items) kept
+    by (more_follow front rest e items cut token_is) =
+        let here : Each (IsKept m) (front ++ e ∷ rest) = subst (λ (ys : List Stored). Each (IsKept m) ys) cut kept in
+        let one : e ∷ rest ≡ (e ∷ []) ++ rest = refl in
+        subst (λ (ys : List Stored). Each (IsKept m) ys) (sym items)
+        (each_front (IsKept m) (front ++ e ∷ []) rest (subst (λ (ys : List Stored). Each (IsKept m) ys) (sym (append_assoc front (e ∷ []) rest)) here))
 
 -- ---- a page that was shown
 

@@ -232,13 +232,14 @@ module _ (m : Meaning) (stand : Stand m) (keeps : KeepsKey m) (honest : IsTrue m
   unfolding object_list
   list_token_in v js token number left = refl
 
-  -- the keys and the token of a page as they are read
-  pub record AreRead (j : Json) (p : Page Stored) : Type 0 where
+  -- the objects of a page, their keys and the token, as they are read
+  pub record AreRead (boot v : ℕ) (j : Json) (p : Page Stored) : Type 0 where
+    pub shown : AreShown m boot v p.items (unwrap_or (items_in (fields_of j)) [])
     pub keys : map json_key (unwrap_or (items_in (fields_of j)) []) ≡ map object_key p.items
     pub token : token_in (fields_of j) ≡ next_token p
 
   pub page_read : (boot v levels : ℕ) (p : Page Stored) (r : ReplyView) (j : Json) → TextReads → OneReading → v < m.count → Each (IsKept m) p.items → p.remaining < 2 ^ 63
-      → IsList m boot v p (Ok r) → Reads r.text levels j → AreRead j p
+      → IsList m boot v p (Ok r) → Reads r.text levels j → AreRead boot v j p
   page_read boot v levels p r j text_reads one_reading known kept few shows reads =
       let js : List Json = shows.1 in
       let docs = documents boot v p.items js known kept shows.2 in
@@ -247,7 +248,10 @@ module _ (m : Meaning) (stand : Stand m) (keeps : KeepsKey m) (honest : IsTrue m
       let utf8 : IsUtf8 (text_of page) = subst (λ (bytes : List ℕ). IsUtf8 bytes) spelled reads.1.0 in
       let back = text_reads page (list_sound v js (next_token p) p.number p.remaining docs.sound few) (list_depth v js (next_token p) p.number p.remaining docs.levels) utf8 in
       let same : j ≡ page = one_reading (text_of page) levels (depth page) j page (subst (λ (bytes : List ℕ). Reads bytes levels j) spelled reads) back in
+      let items : unwrap_or (items_in (fields_of j)) [] ≡ js =
+      ap (λ (q : Json). unwrap_or (items_in (fields_of q)) []) same ∙ ap (λ (o : Option (List Json)). unwrap_or o []) (list_items_in v js (next_token p) p.number p.remaining) in
       record {
+        shown = subst (λ (ks : List Json). AreShown m boot v p.items ks) (sym items) shows.2;
         keys = ap (λ (q : Json). map json_key (unwrap_or (items_in (fields_of q)) [])) same
             ∙ ap (λ (o : Option (List Json)). map json_key (unwrap_or o [])) (list_items_in v js (next_token p) p.number p.remaining) ∙ docs.keys;
         token = ap (λ (q : Json). token_in (fields_of q)) same ∙ list_token_in v js (next_token p) p.number p.remaining;

@@ -101,7 +101,7 @@ shown_at m limits boot n next s v k old h w equal e a rising there wrote = by_fo
     by_forbidden false wrote = by_release (is_release old h) wrote
 
 -- the accepted request and what is decided of it
-abbrev Accepts : Meaning → Limits → ℕ → ℕ → State → Request → KeyView → Answer → Option Item → Type 0
+abbrev pub Accepts : Meaning → Limits → ℕ → ℕ → State → Request → KeyView → Answer → Option Item → Type 0
 Accepts m limits boot n s r k a i = (new : ObjectView) × (over : ℕ) × (w : ℕ) × (h : ObjectView) × (d : Decision WriteEnd)
     × m.admits r new (Some over) × WeighsIt m new w
     × ReplaceDecision m limits n s r.version k over new w h d × Wrote m boot code_ok r.version k.name h d.answer a × (i ≡ d.item)

@@ -1,6 +1,5 @@
 -- At the end of a migration with a tally in which nothing is contested every object stands at the version that is stored.
-use Rattle.std.proofs.Common.{◌≡◌, ◌≢◌, ◌⊎◌, ◌≤◌, ℕ, suc, true, false, List, [], ◌∷◌, ◌++◌, map, Option, None, Some, refl, ap, sym, ◌∙◌, append_assoc, inl, inr, subst, arith}
-use Rattle.std.proofs.lemmas.List.{append-nil}
+use Rattle.std.proofs.Common.{◌≡◌, ◌≢◌, ◌⊎◌, ◌≤◌, ℕ, suc, true, false, List, [], ◌∷◌, ◌++◌, map, refl, ap, sym, ◌∙◌, inl, inr, subst, arith}
 use Rattle.api_calls.specs.Legal.{Each, In}
 use Rattle.http_routes.specs.Paths.{IsKey}
 use Rattle.kj_value.specs.Json.{Json}
@@ -8,9 +7,9 @@ use Rattle.kube_meta.specs.Key.{KeyView}
 use Rattle.edge_io.specs.Exchanges.{Exchange}
 use Rattle.api_calls.specs.Item.{Item}
 use Rattle.place.specs.Place.{Names}
-use Rattle.wire_client.specs.Far.{Server, Serves, Chain}
+use Rattle.wire_client.specs.Far.{Server, Chain}
 use Rattle.wire_client.specs.Calls.{Call, lists, gets, puts}
-use Rattle.wire_client.specs.Answers.{Reply, given, broken, long, gone as gone_reply, code, shape, Replies}
+use Rattle.wire_client.specs.Answers.{Reply, given, gone as gone_reply}
 use Rattle.far_migrate.specs.Counts.{Kind, written, unchanged, gone, contested, Counts, counted}
 use Rattle.far_migrate.specs.Answered.{Did}
 use Rattle.far_migrate.specs.Puts as puts
@@ -19,95 +18,9 @@ use Rattle.far_migrate.specs.Pages as pages
 use Rattle.far_migrate.specs.Pages.{Run, Step, Stop, Runs, objects_of, token_of, is_empty, with_objects, at_first, first_limit}
 use Rattle.far_migrate.specs.Migrates.{Migrates}
 use Rattle.upgrade_laws.specs.Answering.{GoesOn, Answered}
+use Rattle.upgrade_laws.proofs.Histories.{At, answered_at, chain_on, ended, goes_further, goes_nowhere, serves_on, split, turned}
 use Rattle.upgrade_laws.proofs.Keyed.{given_valid}
 use Rattle.upgrade_laws.proofs.Upgrades.{keys_of, Upgrades}
-
--- ---- histories
-
-goes_nowhere : (log : List Item) → GoesOn log log
-goes_nowhere log = ([], sym (append-nil log))
-
-goes_further : (a b c : List Item) → GoesOn a b → GoesOn b c → GoesOn a c
-goes_further a b c p q = (p.0 ++ q.0, q.1 ∙ ap (λ (l : List Item). l ++ q.0) p.1 ∙ append_assoc a p.0 q.0)
-
-serves_on : (s : Server) (log : List Item) (e : Exchange) (next : List Item) → Serves s log e.request e.answer next → GoesOn log next
-serves_on s log e next serves = by_answer e.answer serves
-  where
-    by_answer : (a : Option (List ℕ)) → Serves s log e.request a next → GoesOn log next
-    by_answer None h = h
-    by_answer (Some bytes) h = (h.others ++ h.own, h.next_is ∙ append_assoc log h.others h.own)
-
--- the first of some exchanges, and the rest
-record Turned (s : Server) (log : List Item) (e : Exchange) (es : List Exchange) (next : List Item) : Type 0 where
-  mid : List Item
-  serves : Serves s log e.request e.answer mid
-  rest : Chain s mid es next
-
-turned : (s : Server) (log : List Item) (e : Exchange) (es : List Exchange) (next : List Item) → Chain s log (e ∷ es) next → Turned s log e es next
-unfolding Chain
-turned s log e es next h = record { mid = h.0; serves = h.1; rest = h.2 }
-
-ended : (s : Server) (log next : List Item) → Chain s log [] next → GoesOn log next
-unfolding Chain
-ended s log next h = h
-
-begun : (s : Server) (log : List Item) → Chain s log [] log
-unfolding Chain
-begun s log = goes_nowhere log
-
-joined : (s : Server) (log mid next : List Item) (e : Exchange) (es : List Exchange) → Serves s log e.request e.answer mid → Chain s mid es next → Chain s log (e ∷ es) next
-unfolding Chain
-joined s log mid next e es serves rest = (mid, serves, rest)
-
-chain_on : (s : Server) (log : List Item) (es : List Exchange) (next : List Item) → Chain s log es next → GoesOn log next
-chain_on s log [] next h = ended s log next h
-chain_on s log (e ∷ es) next h =
-    let t = turned s log e es next h in
-    goes_further log t.mid next (serves_on s log e t.mid t.serves) (chain_on s t.mid es next t.rest)
-
-record Split (s : Server) (log : List Item) (es fs : List Exchange) (next : List Item) : Type 0 where
-  mid : List Item
-  front : Chain s log es mid
-  back : Chain s mid fs next
-
-split : (s : Server) (log : List Item) (es fs : List Exchange) (next : List Item) → Chain s log (es ++ fs) next → Split s log es fs next
-split s log [] fs next h = record { mid = log; front = begun s log; back = h }
-split s log (e ∷ es) fs next h =
-    let t = turned s log e (es ++ fs) next h in
-    let r = split s t.mid es fs next t.rest in
-    record { mid = r.mid; front = joined s log t.mid r.mid e es t.serves r.front; back = r.back }
-
--- ---- one answer
-
-abbrev IsAnswered : Reply → Type 0
-IsAnswered (given j) = Unit {0}
-IsAnswered broken = ⊥
-IsAnswered long = Unit {0}
-IsAnswered gone_reply = Unit {0}
-IsAnswered (code c) = Unit {0}
-IsAnswered (shape path) = Unit {0}
-
--- where it was answered
-record At (s : Server) (n : Names) (call : Call) (log : List Item) (reply : Reply) (mid : List Item) : Type 0 where
-  at : List Item
-  own : List Item
-  on : GoesOn log at
-  answered : Answered s n call at own reply
-  mid_is : mid ≡ at ++ own
-
-answered_at : (s : Server) (n : Names) (call : Call) (log : List Item) (reply : Reply) (mid : List Item) (e : Exchange)
-    → Did n call e reply → IsAnswered reply → Serves s log e.request e.answer mid → At s n call log reply mid
-answered_at s n call log reply mid e did is serves = by_answer e.answer did.replies serves
-  where
-    by_answer : (a : Option (List ℕ)) → Replies n call a reply → Serves s log e.request a mid → At s n call log reply mid
-    by_answer None none h = absurd (subst (λ (r : Reply). IsAnswered r) none is)
-    by_answer (Some bytes) replies h = record {
-      at = log ++ h.others;
-      own = h.own;
-      on = (h.others, refl);
-      answered = record { bytes = bytes; answers = subst (λ (request : List ℕ). s.answers (log ++ h.others) request bytes h.own) did.request h.answers; replies = replies };
-      mid_is = h.next_is;
-    }
 
 -- ---- one object
 

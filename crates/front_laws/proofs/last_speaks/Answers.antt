@@ -1,7 +1,12 @@
 use Rattle.answer_laws.specs.Speaking.{front}
-use Rattle.front_laws.proofs.Steps.{last_speaks}
+use Rattle.front_laws.proofs.Steps.{last_speaks, served_untold}
 use Rattle.front_laws.proofs.last_speaks.Goals as goal
 
-pub returns : goal.returns
-returns g c = λ it limits boot told n p q bytes answer left d few short.
+pub returns-clause-told : goal.returns-clause-told
+returns-clause-told g c = λ it limits boot told n p q bytes answer left d few short.
     last_speaks (front (g.V.Versions.meaning it) limits boot told) n p q bytes answer left d few short
+
+pub returns-clause-untold : goal.returns-clause-untold
+returns-clause-untold g c = λ it limits boot told n p q bytes answer left d few short.
+    let f = front (g.V.Versions.meaning it) limits boot told in
+    served_untold f _ bytes answer _ (last_speaks f n p q bytes answer left d few short)
