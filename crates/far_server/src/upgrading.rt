@@ -1,0 +1,31 @@
+//! A migration over the far end.
+ghost use Rattle.std.specs.Prelude.{◌≡◌, IfOk};
+ghost use Rattle.api_calls.specs.Item.{items};
+ghost use Rattle.api_calls.specs.State.{state};
+ghost use Rattle.place.specs.Place.{place_of};
+ghost use Rattle.upgrade_laws.specs.Upgraded.{AreAtStorage, Meanwhile};
+ghost use Rattle.answer_laws.specs.Speaking.{AreNames};
+
+use crate::far::ServerFar;
+use answer_laws::all_upgraded;
+use api_calls::Versions;
+use far_migrate::{FarFault, Tally, migrate};
+use std::alloc::Global;
+use std::sync::Wait;
+use wire_client::Place;
+
+/// Migrates what the server stores, as `migrate` does. A tally with nothing contested leaves each object at the storage version, where
+/// it is known what values mean and no other storage version was set meanwhile.
+pub fn upgrade<'a, R: Wait, V: Versions + Drop>(
+    far: &mut ServerFar<'a, R, V>,
+    alloc: Global,
+    place: &Place,
+) -> Result<Tally, FarFault>
+    ensures base { far.new.base ≡ far.old.base }
+    ensures upgraded { IfOk result (λ t. AreNames (place_of place.now).names
+        → Meanwhile (V.meaning far.old.base.versions) far.old.base.limits (items far.old.seen) (items far.new.seen) → t.contested ≡ 0
+        → AreAtStorage (state (V.meaning far.old.base.versions) (items far.new.seen))) }
+{
+    all_upgraded::<V>();
+    migrate(far, alloc, place)
+}
