@@ -26,19 +26,19 @@ pub did_either : {S : Type 0} (Step : S → Request → ReplyView → S → Type
 did_either Step true s t known left before written one = one
 did_either Step false s t known left before written one = one
 
-pub if_answered : (closes : Bool) (P : Type 0) → P → IfAnswered (step_of closes) P
-if_answered true P holds = holds
-if_answered false P holds = holds
+pub if_answered : (closes : Bool) (P Q : Type 0) → P → IfAnswered (step_of closes) P Q
+if_answered true P Q holds = holds
+if_answered false P Q holds = holds
 
 -- a head that is refused is no answer
-pub if_refused : (f : WireFault) (before written : Option (List ℕ)) (step : OneEnd) (P : Type 0) → RefusesHead f before written step → IfAnswered step P
-if_refused f before written (steps.Refused g) P refuses = tt
-if_refused f before written steps.WriteFault P refuses = tt
-if_refused f before written steps.Answered P refuses = absurd refuses
-if_refused f before written steps.Last P refuses = absurd refuses
-if_refused f before written steps.Closed P refuses = absurd refuses
-if_refused f before written (steps.Torn held) P refuses = absurd refuses
-if_refused f before written steps.ReadFault P refuses = absurd refuses
+pub if_refused : (f : WireFault) (before written : Option (List ℕ)) (step : OneEnd) (P Q : Type 0) → Q → RefusesHead f before written step → IfAnswered step P Q
+if_refused f before written (steps.Refused g) P Q is refuses = tt
+if_refused f before written steps.WriteFault P Q is refuses = inr is
+if_refused f before written steps.Answered P Q is refuses = absurd refuses
+if_refused f before written steps.Last P Q is refuses = absurd refuses
+if_refused f before written steps.Closed P Q is refuses = absurd refuses
+if_refused f before written (steps.Torn held) P Q is refuses = absurd refuses
+if_refused f before written steps.ReadFault P Q is refuses = absurd refuses
 
 -- an answer was handed on
 pub handed_on : (closes : Bool) (flushed untouched : Type 0) → flushed → HandsOn (step_of closes) flushed untouched

@@ -77,15 +77,19 @@ HandsOn (Torn held) flushed untouched = untouched
 HandsOn ReadFault flushed untouched = untouched
 HandsOn WriteFault flushed untouched = Unit {0}
 
--- of a request that was answered
-abbrev pub IfAnswered : OneEnd → Type 0 → Type 0
-IfAnswered Answered p = p
-IfAnswered Last p = p
-IfAnswered Closed p = Unit {0}
-IfAnswered (Torn held) p = Unit {0}
-IfAnswered (Refused f) p = Unit {0}
-IfAnswered ReadFault p = Unit {0}
-IfAnswered WriteFault p = Unit {0}
+-- the input goes on with a head that is refused
+abbrev pub IsRefused : Option (List ℕ) → Type 0
+IsRefused known = (f : WireFault) × IsEnded known (refused f)
+
+-- of a request that was answered, also where that couldn't be written; there it may have been a head that is refused
+abbrev pub IfAnswered : OneEnd → Type 0 → Type 0 → Type 0
+IfAnswered Answered p q = p
+IfAnswered Last p q = p
+IfAnswered WriteFault p q = p ⊎ q
+IfAnswered Closed p q = Unit {0}
+IfAnswered (Torn held) p q = Unit {0}
+IfAnswered (Refused f) p q = Unit {0}
+IfAnswered ReadFault p q = Unit {0}
 
 -- the step of an answer
 abbrev pub step_of : Bool → OneEnd

@@ -52,9 +52,9 @@ pub fn serve_requests<V: Versions + Drop, S: Source, K: Sink, C: Clock, R: Wait>
         → Links (StepAnswers (record { server = server_of V.meaning api.now.base; told = C.told clock.now }) n) MOST_REQUESTS ⊥ result
         (point_of V.Tool.faults pass.old) (point_of V.Tool.faults pass.new) (S.left input.old) (K.written output.old) (K.written output.new) }
     ensures paced { (n : ℕ) → pass.old.view.number ≡ Some n
-        → Paced (StepAnswers (record { server = server_of V.meaning api.now.base; told = C.told clock.now }) n) (S.most input.old) result
-        (point_of V.Tool.faults pass.old) (record { held = inbox.old.bytes; left = S.left input.old; written = K.written output.old; flushed = K.flushed output.old })
-        (point_of V.Tool.faults pass.new) (record { held = inbox.new.bytes; left = S.left input.new; written = K.written output.new; flushed = K.flushed output.new }) }
+        → Paced (record { left = S.left; written = K.written; flushed = K.flushed }) (StepAnswers (record { server = server_of V.meaning api.now.base; told = C.told clock.now }) n) (S.most input.old) result
+        (point_of V.Tool.faults pass.old) (record { held = inbox.old.bytes; input = input.old; output = output.old })
+        (point_of V.Tool.faults pass.new) (record { held = inbox.new.bytes; input = input.new; output = output.new }) }
     ensures same { IsSameBut pass.old.view pass.new.view }
     ensures quiet { (n : ℕ) → pass.old.view.number ≡ Some n → Quiet n pass.old.view pass.new.view }
     ensures flushed { UnlessUnwritten result (K.flushed output.old ≡ K.written output.old → K.flushed output.new ≡ K.written output.new) }
@@ -99,9 +99,9 @@ pub fn serve_link<V: Versions + Drop, S: Source, K: Sink, C: Clock, R: Wait>(
     // Where anything was read, each request was answered and its answer handed on before more was read, and nothing was read behind one
     // that asked for closing but what came with it.
     ensures paced { (n : ℕ) → pass.old.view.number ≡ Some n → (input.new ≡ input.old) ⊎ ((held : List ℕ)
-        × Paced (StepAnswers (record { server = server_of V.meaning api.now.base; told = C.told clock.now }) n) (S.most input.old) result
-        (point_of V.Tool.faults pass.old) (record { held = []; left = S.left input.old; written = K.written output.old; flushed = K.flushed output.old })
-        (point_of V.Tool.faults pass.new) (record { held = held; left = S.left input.new; written = K.written output.new; flushed = K.flushed output.new })) }
+        × Paced (record { left = S.left; written = K.written; flushed = K.flushed }) (StepAnswers (record { server = server_of V.meaning api.now.base; told = C.told clock.now }) n) (S.most input.old) result
+        (point_of V.Tool.faults pass.old) (record { held = []; input = input.old; output = output.old })
+        (point_of V.Tool.faults pass.new) (record { held = held; input = input.new; output = output.new })) }
     // Of the pass only its list changes, and no item is new of a pass that was met into it; where it is alone, none of any other.
     ensures same { IsSameBut pass.old.view pass.new.view }
     ensures quiet { (n : ℕ) → pass.old.view.number ≡ Some n → Quiet n pass.old.view pass.new.view }

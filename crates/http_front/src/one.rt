@@ -7,7 +7,7 @@ ghost use Rattle.shared_api.specs.Base.{server_of};
 ghost use Rattle.shared_api.specs.Passes.{IsOf};
 ghost use Rattle.http_front.specs.Faults.{IsHeadFault};
 ghost use Rattle.http_front.specs.Steps.{StepAnswers, IsSameBut, Quiet, point_of};
-ghost use Rattle.http_front.specs.One.{Blames, Did, HandsOn, IfAnswered, RefusesHead, step_of as step_for};
+ghost use Rattle.http_front.specs.One.{Blames, Did, HandsOn, IfAnswered, IsRefused, RefusesHead, step_of as step_for};
 
 use crate::answer::answer_request;
 use crate::fault::refuse_head;
@@ -85,8 +85,9 @@ pub fn serve_one<V: Versions + Drop, S: Source, K: Sink, C: Clock, R: Wait>(
     ensures quiet { (n : ℕ) → pass.old.view.number ≡ Some n → Quiet n pass.old.view pass.new.view }
     // Nothing is read where a whole request is held.
     ensures ready { (r : Request) (rest : List ℕ) → Reads inbox.old.bytes r rest → input.new ≡ input.old }
-    // Nothing is read once the request is whole: fewer bytes stand behind it than one read gives.
-    ensures prompt { HasNoWhole inbox.old.bytes → (m : ℕ) → S.most input.old ≡ Some m → IfAnswered result (length inbox.new.bytes < m) }
+    // Nothing is read once the request is whole: fewer bytes stand behind it than one read gives, also where its answer couldn't be written.
+    ensures prompt { HasNoWhole inbox.old.bytes → (m : ℕ) → S.most input.old ≡ Some m
+        → IfAnswered result (length inbox.new.bytes < m) (IsRefused (prepend_known inbox.old.bytes (S.left input.old))) }
     // What was written is handed on before the step ends, and so before the next step reads.
     ensures flushed { HandsOn result (K.flushed output.new ≡ K.written output.new) (output.new ≡ output.old) }
     ensures blames { Blames result (Rose (S.faults input.old) (S.faults input.new)) (Rose (K.faults output.old) (K.faults output.new)) }

@@ -15,7 +15,7 @@ use Rattle.hook_versions.specs.Loads.{LoadsHook}
 use Rattle.http_address.specs.Address.{AddressView, IsAddress}
 use Rattle.kubeconv_cmd.specs.Tasks.{AnswersDocument, RefusesDocument, Wrote, Broke}
 use Rattle.http_front.specs.Link.{UnlessUnwritten}
-use Rattle.kubeconv_cmd.specs.Serving.{Blames, Conversed, Converses, DrillsTexts, MayRise, front_of, link_end}
+use Rattle.kubeconv_cmd.specs.Serving.{Blames, Conversed, Converses, DrillsTexts, IsPaced, MayRise, Paces, front_of, link_end}
 use Rattle.kubeconv_cmd.specs.Refusal.{IsText, RefusesNamed}
 use Rattle.place.specs.Place.{IsPlace, OnBadPlace, PlaceView}
 use Rattle.place.specs.declared.PlaceFault.{PlaceFault}
@@ -31,7 +31,7 @@ use Rattle.far_migrate.specs.Puts.{Handled, all as all_put, failed as failed_by}
 use Rattle.far_migrate.specs.declared.tally.FarFault.{FarFault}
 use Rattle.far_migrate.specs.declared.tally.FarFault.TheVariants as faults
 use Rattle.far_lines.specs.Migrated.{Migrated}
-use Rattle.far_lines.specs.Ends.{Came, put_back, broke as broke_so, unmade, CameOf, at_place, placeless as no_place, unread as unread_place, Told as ToldTally, IfSilent, OnUnwritten, fault_end}
+use Rattle.far_lines.specs.Ends.{put_back, broke as broke_so, unmade, CameOf, at_place, placeless as no_place, unread as unread_place, Told as ToldTally, IfSilent, OnUnwritten, fault_end}
 use Rattle.far_lines.specs.declared.end.MigrateEnd.{MigrateEnd}
 use Rattle.far_lines.specs.declared.end.MigrateEnd.TheVariants as migrated
 use Rattle.far_lines.specs.Dumped.{DumpedAt}
@@ -41,7 +41,7 @@ use Rattle.far_lines.specs.declared.end.LoadEnd.TheVariants as loads
 use Rattle.kubeconv_cmd.specs.inner.Backups.{dumped_line, dumped_status, loaded_line, loaded_status}
 use Rattle.kubeconv_cmd.specs.inner.Migrations.{migrate_end_line, migrate_status}
 use Rattle.kubeconv_cmd.specs.Status.{dump_status, error_line, pipe_status, restore_status}
-use Rattle.kubeconv_cmd.specs.Outcome.{World, OfTexts, OfInput, OfFile, HasLoaded, HasLoadedBy, HasHandedOn, Says, IsSilent, HearsNobody, AnswersSo, AnswersSoBy, Stopped, unreadable, refused, wanting, StoppedBy, unreadable_file, refused_file, wanting_memory, addressless, PipeOutcome, PipeByOutcome, talked, unserved, TaskOutcome, wrote_line, broke_line, refused_input, unread_input, wanting_task, unloaded_task, DrillOutcome, wrote_drill, broke_drill, wanting_drill, ServeOutcome, ServeByOutcome, answered, answered_fewer, unheard, untold, wanting_service, unloaded_service, MigratedAt, MigrateOutcome, settled, contested, broke_tally, forgotten, misanswered, unlinked, wanting_migration, placeless, Unplaced, wanting_place, bad_place, DumpOutcome, dumped, undumped, TellsCounts, LoadOutcome, restored, broke_counts, unloaded, IsPlaceless, Outcome, FilesFail, InputFails, OutputFails, EarsFail, FilesStay, InputStays, OutputStays, EarsStay}
+use Rattle.kubeconv_cmd.specs.Outcome.{World, OfTexts, OfInput, OfFile, HasLoaded, HasLoadedBy, HasHandedOn, Says, IsSilent, streams_of, HearsNobody, AnswersSo, AnswersSoBy, Stopped, unreadable, refused, wanting, StoppedBy, unreadable_file, refused_file, wanting_memory, addressless, PipeOutcome, PipeByOutcome, talked, unserved, TaskOutcome, wrote_line, broke_line, refused_input, unread_input, wanting_task, unloaded_task, DrillOutcome, wrote_drill, broke_drill, wanting_drill, ServeOutcome, ServeByOutcome, answered, answered_fewer, unheard, untold, wanting_service, unloaded_service, MigratedAt, MigrateOutcome, settled, contested, broke_tally, forgotten, misanswered, unlinked, wanting_migration, placeless, wanting_place, bad_place, DumpOutcome, dumped, undumped, TellsCounts, LoadOutcome, restored, broke_counts, unloaded, IsPlaceless, Outcome, FilesFail, InputFails, OutputFails, EarsFail, FilesStay, InputStays, OutputStays, EarsStay}
 use Rattle.kubeconv_cmd.specs.inner.Ends.{OnBadAddress, OnRefused, OnStopped, OnUnread, stop_status, stop_line, talk_status, unconverted_line, unconverted_status, why_text}
 use Rattle.kubeconv_cmd.specs.inner.Halts.{OnHalt, Unwritten, task_status, task_line}
 use Rattle.kubeconv_cmd.specs.inner.Served.{OnUnheard, UnlessUnheard, OnUntold, Silent, served_status}
@@ -90,12 +90,13 @@ stopped_line stops.NoMemory s is other = ap error_line (sym is)
 
 pub pipe_outcome : {F S K A : Type 0} (w : World F S K A) (named : Named) (turns : ℕ) (came : Result PipeEnd NoMemory) (s : ℕ) → HasLoaded w named
     → OfInput w named (λ crd rules b. IfOk came (Converses crd rules turns w.start b w.written_before w.written))
+    → OfTexts w named (λ crd rules. IfOk came (Paces crd rules turns w.start (streams_of w)))
     → IfOk came (λ end. Blames end (InputFails w) (OutputFails w)) → IfOk came (λ end. UnlessUnwritten (link_end end) (HasHandedOn w))
     → OnErr came ((InputStays w) × (OutputStays w)) → StaysSilent w
     → s ≡ talk_status came → PipeOutcome w named turns s
-pipe_outcome w named turns (Ok end) s loaded talk blames flushed untouched same is =
-    talked loaded (record { end = end; conversed = talk; blames = blames; hands_on = flushed; is_status = is })
-pipe_outcome w named turns (Err e) s loaded talk blames flushed untouched same is = unserved (wanting is) untouched.0 (silent_so w untouched.1 same)
+pipe_outcome w named turns (Ok end) s loaded talk paced blames flushed untouched same is =
+    talked loaded (record { end = end; conversed = talk; paced = paced; blames = blames; hands_on = flushed; is_status = is })
+pipe_outcome w named turns (Err e) s loaded talk paced blames flushed untouched same is = unserved (wanting is) untouched.0 (silent_so w untouched.1 same)
 
 -- ---- a definition with a converter
 
@@ -124,45 +125,47 @@ loaded_by w c d texts found address = (λ crd is. ((texts crd is).short, d, foun
 
 pub pipe_by_outcome : {F S K A : Type 0} (w : World F S K A) (c : Conversion) (d : Definition) (turns : ℕ) (came : Result PipeEnd NoMemory) (s : ℕ) → OfFile w c (λ crd. IsText crd) → FoundBy w c d → (a : AddressView) × IsAddress c.url a
     → ((b : List ℕ) → w.input ≡ Some b → IfOk came (Conversed (front_of (converted_meaning d) w.start) (MayRise converter_faults) turns b w.written_before w.written))
+    → IfOk came (IsPaced (streams_of w) (front_of (converted_meaning d) w.start) (MayRise converter_faults) turns)
     → IfOk came (λ end. Blames end (InputFails w) (OutputFails w)) → IfOk came (λ end. UnlessUnwritten (link_end end) (HasHandedOn w))
     → OnErr came ((InputStays w) × (OutputStays w)) → StaysSilent w
     → s ≡ talk_status came → PipeByOutcome w c turns s
-pipe_by_outcome w c d turns (Ok end) s texts found address talk blames flushed untouched same is =
+pipe_by_outcome w c d turns (Ok end) s texts found address talk paced blames flushed untouched same is =
     talked (loaded_by w c d texts found address) (record {
       end = end;
       conversed = λ crd b file input. record { definition = d; loads = found crd file; conversed = talk b input };
+      paced = λ crd file. record { definition = d; loads = found crd file; paced = paced };
       blames = blames;
       hands_on = flushed;
       is_status = is;
     })
-pipe_by_outcome w c d turns (Err e) s texts found address talk blames flushed untouched same is = unserved (wanting_memory is) untouched.0 (silent_so w untouched.1 same)
+pipe_by_outcome w c d turns (Err e) s texts found address talk paced blames flushed untouched same is = unserved (wanting_memory is) untouched.0 (silent_so w untouched.1 same)
 
 -- so many connections were answered by it
-abbrev pub AnsweredBy : {F S K A : Type 0} → World F S K A → Definition → ℕ → Type 0
-AnsweredBy w d count = AnsweredAll converter_faults (converted_meaning d) w.start count w.handed_before w.handed w.returned_before w.returned
+abbrev pub AnsweredBy : {F S K A : Type 0} → World F S K A → Definition → ℕ → ℕ → Type 0
+AnsweredBy w d asked count = AnsweredAll converter_faults (converted_meaning d) w.start asked count w.handed_before w.handed w.returned_before w.returned
 
-serves_by : {F S K A : Type 0} (w : World F S K A) (c : Conversion) (d : Definition) (count : ℕ) → FoundBy w c d → AnsweredBy w d count → AnswersSoBy w c count
-serves_by w c d count found answers crd file = record { definition = d; loads = found crd file; answered = answers }
+serves_by : {F S K A : Type 0} (w : World F S K A) (c : Conversion) (d : Definition) (asked count : ℕ) → FoundBy w c d → AnsweredBy w d asked count → AnswersSoBy w c asked count
+serves_by w c d asked count found answers crd file = record { definition = d; loads = found crd file; answered = answers }
 
-heard_fewer_by : {F S K A : Type 0} (w : World F S K A) (c : Conversion) (connections : Option ℕ) (d : Definition) (s : ℕ) → HasLoadedBy w c → FoundBy w c d → s ≡ LISTEN_FAILED → (EarsFail w)
+heard_fewer_by : {F S K A : Type 0} (w : World F S K A) (c : Conversion) (asked : ℕ) (connections : Option ℕ) (d : Definition) (s : ℕ) → HasLoadedBy w c → FoundBy w c d → s ≡ LISTEN_FAILED → (EarsFail w)
     → (w.written ≡ w.written_before) ⊎ Told w.written_before w.written
-    → HearsNobody w ⊎ ((count : ℕ) × IfSome connections (λ n. count < n) × AnsweredBy w d count × Announced w.written_before w.written w.flushed)
-    → ServeByOutcome w c connections s
-heard_fewer_by w c connections d s loaded found is fails silent (inl nobody) = unheard is fails loaded silent nobody
-heard_fewer_by w c connections d s loaded found is fails silent (inr f) = answered_fewer f.0 is fails f.1 loaded f.3 (serves_by w c d f.0 found f.2)
+    → HearsNobody w ⊎ ((count : ℕ) × IfSome connections (λ n. count < n) × AnsweredBy w d asked count × Announced w.written_before w.written w.flushed)
+    → ServeByOutcome w c asked connections s
+heard_fewer_by w c asked connections d s loaded found is fails silent (inl nobody) = unheard is fails loaded silent nobody
+heard_fewer_by w c asked connections d s loaded found is fails silent (inr f) = answered_fewer f.0 is fails f.1 loaded f.3 (serves_by w c d asked f.0 found f.2)
 
-pub serve_by_outcome : {F S K A : Type 0} (w : World F S K A) (c : Conversion) (connections : Option ℕ) (d : Definition) (came : Result Unit Unserved) (s : ℕ)
+pub serve_by_outcome : {F S K A : Type 0} (w : World F S K A) (c : Conversion) (asked : ℕ) (connections : Option ℕ) (d : Definition) (came : Result Unit Unserved) (s : ℕ)
     → OfFile w c (λ crd. IsText crd) → FoundBy w c d → (a : AddressView) × IsAddress c.url a
-    → OnOk came ((count : ℕ) × (connections ≡ Some count) × AnsweredBy w d count) → OnOk came (Announced w.written_before w.written w.flushed)
+    → OnOk came ((count : ℕ) × (connections ≡ Some count) × AnsweredBy w d asked count) → OnOk came (Announced w.written_before w.written w.flushed)
     → IfErr came (Silent (w.written ≡ w.written_before) (ToldSome w.written_before w.written) (Told w.written_before w.written))
-    → IfErr came (OnUnheard ((EarsFail w) × (HearsNobody w ⊎ ((count : ℕ) × IfSome connections (λ n. count < n) × AnsweredBy w d count × Announced w.written_before w.written w.flushed))))
+    → IfErr came (OnUnheard ((EarsFail w) × (HearsNobody w ⊎ ((count : ℕ) × IfSome connections (λ n. count < n) × AnsweredBy w d asked count × Announced w.written_before w.written w.flushed))))
     → IfErr came (OnUntold (OutputFails w)) → IfErr came (UnlessUnheard (HearsNobody w))
-    → s ≡ served_status came → ServeByOutcome w c connections s
-serve_by_outcome w c connections d (Ok u) s texts found address done told silent fewer front untouched is = answered done.0 is done.1 (loaded_by w c d texts found address) told (serves_by w c d done.0 found done.2)
-serve_by_outcome w c connections d (Err ends.NotListening) s texts found address done told silent fewer front untouched is =
-    heard_fewer_by w c connections d s (loaded_by w c d texts found address) found is fewer.0 silent fewer.1
-serve_by_outcome w c connections d (Err ends.WriteFailed) s texts found address done told silent fewer front untouched is = untold is front (loaded_by w c d texts found address) silent untouched
-serve_by_outcome w c connections d (Err ends.NoMemory) s texts found address done told silent fewer front untouched is = wanting_service is silent untouched
+    → s ≡ served_status came → ServeByOutcome w c asked connections s
+serve_by_outcome w c asked connections d (Ok u) s texts found address done told silent fewer front untouched is = answered done.0 is done.1 (loaded_by w c d texts found address) told (serves_by w c d asked done.0 found done.2)
+serve_by_outcome w c asked connections d (Err ends.NotListening) s texts found address done told silent fewer front untouched is =
+    heard_fewer_by w c asked connections d s (loaded_by w c d texts found address) found is fewer.0 silent fewer.1
+serve_by_outcome w c asked connections d (Err ends.WriteFailed) s texts found address done told silent fewer front untouched is = untold is front (loaded_by w c d texts found address) silent untouched
+serve_by_outcome w c asked connections d (Err ends.NoMemory) s texts found address done told silent fewer front untouched is = wanting_service is silent untouched
 
 -- ---- `convert` and `review`
 
@@ -206,31 +209,31 @@ drill_outcome w start count (Err halts.NoMemory) s wrote failed cause silent sam
 -- ---- `serve`
 
 -- the texts that a definition is of were served so
-abbrev pub ServesSet : {F S K A : Type 0} → World F S K A → Definition → ℕ → Type 0
-ServesSet w d count = (crd rules : List ℕ) (l : LoadedView) → Loads crd rules l → d ≡ set_of l
-    → ServesAll crd rules w.start count w.handed_before w.handed w.returned_before w.returned
+abbrev pub ServesSet : {F S K A : Type 0} → World F S K A → Definition → ℕ → ℕ → Type 0
+ServesSet w d asked count = (crd rules : List ℕ) (l : LoadedView) → Loads crd rules l → d ≡ set_of l
+    → ServesAll crd rules w.start asked count w.handed_before w.handed w.returned_before w.returned
 
-serves_so : {F S K A : Type 0} (w : World F S K A) (named : Named) (d : Definition) (count : ℕ) → Found w named d → ServesSet w d count → AnswersSo w named count
-serves_so w named d count found serves crd rules texts = let f = found crd rules texts in serves crd rules f.0 f.1 f.2
+serves_so : {F S K A : Type 0} (w : World F S K A) (named : Named) (d : Definition) (asked count : ℕ) → Found w named d → ServesSet w d asked count → AnswersSo w named asked count
+serves_so w named d asked count found serves crd rules texts = let f = found crd rules texts in serves crd rules f.0 f.1 f.2
 
-heard_fewer : {F S K A : Type 0} (w : World F S K A) (named : Named) (connections : Option ℕ) (d : Definition) (s : ℕ) → HasLoaded w named → Found w named d → s ≡ LISTEN_FAILED → (EarsFail w)
+heard_fewer : {F S K A : Type 0} (w : World F S K A) (named : Named) (asked : ℕ) (connections : Option ℕ) (d : Definition) (s : ℕ) → HasLoaded w named → Found w named d → s ≡ LISTEN_FAILED → (EarsFail w)
     → (w.written ≡ w.written_before) ⊎ Told w.written_before w.written
-    → HearsNobody w ⊎ ((count : ℕ) × IfSome connections (λ n. count < n) × ServesSet w d count × Announced w.written_before w.written w.flushed)
-    → ServeOutcome w named connections s
-heard_fewer w named connections d s loaded found is fails silent (inl nobody) = unheard is fails loaded silent nobody
-heard_fewer w named connections d s loaded found is fails silent (inr f) = answered_fewer f.0 is fails f.1 loaded f.3 (serves_so w named d f.0 found f.2)
+    → HearsNobody w ⊎ ((count : ℕ) × IfSome connections (λ n. count < n) × ServesSet w d asked count × Announced w.written_before w.written w.flushed)
+    → ServeOutcome w named asked connections s
+heard_fewer w named asked connections d s loaded found is fails silent (inl nobody) = unheard is fails loaded silent nobody
+heard_fewer w named asked connections d s loaded found is fails silent (inr f) = answered_fewer f.0 is fails f.1 loaded f.3 (serves_so w named d asked f.0 found f.2)
 
-pub serve_outcome : {F S K A : Type 0} (w : World F S K A) (named : Named) (connections : Option ℕ) (d : Definition) (came : Result Unit Unserved) (s : ℕ) → HasLoaded w named → Found w named d
-    → OnOk came ((count : ℕ) × (connections ≡ Some count) × ServesSet w d count) → OnOk came (Announced w.written_before w.written w.flushed)
+pub serve_outcome : {F S K A : Type 0} (w : World F S K A) (named : Named) (asked : ℕ) (connections : Option ℕ) (d : Definition) (came : Result Unit Unserved) (s : ℕ) → HasLoaded w named → Found w named d
+    → OnOk came ((count : ℕ) × (connections ≡ Some count) × ServesSet w d asked count) → OnOk came (Announced w.written_before w.written w.flushed)
     → IfErr came (Silent (w.written ≡ w.written_before) (ToldSome w.written_before w.written) (Told w.written_before w.written))
-    → IfErr came (OnUnheard ((EarsFail w) × (HearsNobody w ⊎ ((count : ℕ) × IfSome connections (λ n. count < n) × ServesSet w d count × Announced w.written_before w.written w.flushed))))
+    → IfErr came (OnUnheard ((EarsFail w) × (HearsNobody w ⊎ ((count : ℕ) × IfSome connections (λ n. count < n) × ServesSet w d asked count × Announced w.written_before w.written w.flushed))))
     → IfErr came (OnUntold (OutputFails w)) → IfErr came (UnlessUnheard (HearsNobody w))
-    → s ≡ served_status came → ServeOutcome w named connections s
-serve_outcome w named connections d (Ok u) s loaded found done told silent fewer front untouched is = answered done.0 is done.1 loaded told (serves_so w named d done.0 found done.2)
-serve_outcome w named connections d (Err ends.NotListening) s loaded found done told silent fewer front untouched is =
-    heard_fewer w named connections d s loaded found is fewer.0 silent fewer.1
-serve_outcome w named connections d (Err ends.WriteFailed) s loaded found done told silent fewer front untouched is = untold is front loaded silent untouched
-serve_outcome w named connections d (Err ends.NoMemory) s loaded found done told silent fewer front untouched is = wanting_service is silent untouched
+    → s ≡ served_status came → ServeOutcome w named asked connections s
+serve_outcome w named asked connections d (Ok u) s loaded found done told silent fewer front untouched is = answered done.0 is done.1 loaded told (serves_so w named d asked done.0 found done.2)
+serve_outcome w named asked connections d (Err ends.NotListening) s loaded found done told silent fewer front untouched is =
+    heard_fewer w named asked connections d s loaded found is fewer.0 silent fewer.1
+serve_outcome w named asked connections d (Err ends.WriteFailed) s loaded found done told silent fewer front untouched is = untold is front loaded silent untouched
+serve_outcome w named asked connections d (Err ends.NoMemory) s loaded found done told silent fewer front untouched is = wanting_service is silent untouched
 
 -- ---- `migrate`
 
@@ -418,13 +421,13 @@ never_drilled w start count s (wrote_drill is wrote flushed) e = omega (arith, i
 never_drilled w start count s (broke_drill is fails broke) e = omega (arith, is, e)
 never_drilled w start count s (wanting_drill is silent) e = omega (arith, is, e)
 
-never_served : {F S K A : Type 0} (w : World F S K A) (named : Named) (connections : Option ℕ) (s : ℕ) → ServeOutcome w named connections s → s ≡ BAD_WORDS → ⊥
-never_served w named connections s (answered count is all loaded told serves) e = omega (arith, is, e)
-never_served w named connections s (answered_fewer count is fails few loaded told serves) e = omega (arith, is, e)
-never_served w named connections s (unheard is fails loaded told nobody) e = omega (arith, is, e)
-never_served w named connections s (untold is fails loaded told nobody) e = omega (arith, is, e)
-never_served w named connections s (wanting_service is told nobody) e = omega (arith, is, e)
-never_served w named connections s (unloaded_service stopped silent nobody) e = never_stopped w named s stopped e
+never_served : {F S K A : Type 0} (w : World F S K A) (named : Named) (asked : ℕ) (connections : Option ℕ) (s : ℕ) → ServeOutcome w named asked connections s → s ≡ BAD_WORDS → ⊥
+never_served w named asked connections s (answered count is all loaded told serves) e = omega (arith, is, e)
+never_served w named asked connections s (answered_fewer count is fails few loaded told serves) e = omega (arith, is, e)
+never_served w named asked connections s (unheard is fails loaded told nobody) e = omega (arith, is, e)
+never_served w named asked connections s (untold is fails loaded told nobody) e = omega (arith, is, e)
+never_served w named asked connections s (wanting_service is told nobody) e = omega (arith, is, e)
+never_served w named asked connections s (unloaded_service stopped silent nobody) e = never_stopped w named s stopped e
 
 only_placeless : {F S K A : Type 0} (w : World F S K A) (url : List ℕ) (s : ℕ) → MigrateOutcome w url s → s ≡ BAD_WORDS → ((p : PlaceView) → IsPlace url p → ⊥) × (OutputStays w)
 only_placeless w url s (settled t is none at wrote flushed) e = absurd (omega (arith, is, e))
@@ -457,23 +460,23 @@ only_piped_by : {F S K A : Type 0} (w : World F S K A) (c : Conversion) (turns s
 only_piped_by w c turns s (talked loaded held) e = absurd (never_talked held.end s held.is_status e)
 only_piped_by w c turns s (unserved stopped input output) e = let found = only_addressless w c s stopped e in (found.0, found.1, input, output.0)
 
-only_served_by : {F S K A : Type 0} (w : World F S K A) (c : Conversion) (connections : Option ℕ) (s : ℕ) → ServeByOutcome w c connections s → s ≡ BAD_WORDS
+only_served_by : {F S K A : Type 0} (w : World F S K A) (c : Conversion) (asked : ℕ) (connections : Option ℕ) (s : ℕ) → ServeByOutcome w c asked connections s → s ≡ BAD_WORDS
     → ((a : AddressView) → IsAddress c.url a → ⊥) × (FilesStay w) × (OutputStays w) × (EarsStay w)
-only_served_by w c connections s (answered count is all loaded told serves) e = absurd (omega (arith, is, e))
-only_served_by w c connections s (answered_fewer count is fails few loaded told serves) e = absurd (omega (arith, is, e))
-only_served_by w c connections s (unheard is fails loaded told nobody) e = absurd (omega (arith, is, e))
-only_served_by w c connections s (untold is fails loaded told nobody) e = absurd (omega (arith, is, e))
-only_served_by w c connections s (wanting_service is told nobody) e = absurd (omega (arith, is, e))
-only_served_by w c connections s (unloaded_service stopped silent nobody) e = let found = only_addressless w c s stopped e in (found.0, found.1, silent.0, found.2)
+only_served_by w c asked connections s (answered count is all loaded told serves) e = absurd (omega (arith, is, e))
+only_served_by w c asked connections s (answered_fewer count is fails few loaded told serves) e = absurd (omega (arith, is, e))
+only_served_by w c asked connections s (unheard is fails loaded told nobody) e = absurd (omega (arith, is, e))
+only_served_by w c asked connections s (untold is fails loaded told nobody) e = absurd (omega (arith, is, e))
+only_served_by w c asked connections s (wanting_service is told nobody) e = absurd (omega (arith, is, e))
+only_served_by w c asked connections s (unloaded_service stopped silent nobody) e = let found = only_addressless w c s stopped e in (found.0, found.1, silent.0, found.2)
 
 -- a line whose words are told to be bad has a place or a converter's address that is none, and touches nothing
 pub bad_words : {F S K A : Type 0} (w : World F S K A) (line : Line) (s : ℕ) → Outcome w line s → s ≡ BAD_WORDS → IsPlaceless line × (FilesStay w) × (InputStays w) × (OutputStays w) × (EarsStay w)
 bad_words w (pipe named turns) s out e = absurd (never_piped w named turns s out.0 e)
 bad_words w (task c r t) s out e = absurd (never_tasked w _ t s out.0 e)
 bad_words w (drill start count) s out e = absurd (never_drilled w start count s out.0 e)
-bad_words w (serve v) s out e = absurd (never_served w _ v.connections s out.0 e)
+bad_words w (serve v) s out e = absurd (never_served w _ v.workers v.connections s out.0 e)
 bad_words w (remote migrate url) s out e = let found = only_placeless w url s out.0 e in (found.0, out.1, out.2, found.1, out.3)
 bad_words w (remote dump url) s out e = let found = only_undumped w url s out.0 e in (found.0, out.1, out.2, found.1, out.3)
 bad_words w (pipe_by c turns) s out e = let found = only_piped_by w c turns s out.0 e in (found.0, found.1, found.2, found.3, out.1)
-bad_words w (serve_by c l) s out e = let found = only_served_by w c l.connections s out.0 e in (found.0, found.1, out.1, found.2, found.3)
+bad_words w (serve_by c l) s out e = let found = only_served_by w c l.workers l.connections s out.0 e in (found.0, found.1, out.1, found.2, found.3)
 bad_words w (remote load url) s out e = let found = only_unloaded w url s out.0 e in (found.0, out.1, found.1, found.2, out.2)

@@ -1,5 +1,5 @@
 -- Conversations with a server that was opened for a definition.
-use Rattle.std.proofs.Common.{◌≡◌, ℕ, List, Option, Some, None, Result, Ok, Err, refl, ap, sym, subst}
+use Rattle.std.proofs.Common.{◌≡◌, ℕ, List, [], Option, Some, None, Result, Ok, Err, refl, ap, sym, subst}
 use Rattle.std.specs.Prelude.{IfOk}
 use Rattle.kj_value.specs.declared.error.NoMemory.{NoMemory}
 use Rattle.kube_meta.specs.declared.limits.TheConstants.Limits.{STANDING}
@@ -17,7 +17,8 @@ use Rattle.shared_api.specs.Base.{server_of}
 use Rattle.shared_api.specs.Passes.{ApiOf}
 use Rattle.shared_api.specs.declared.cell.CoreBase.{CoreBase}
 use Rattle.http_front.specs.Link.{Links}
-use Rattle.kubeconv_cmd.specs.Serving.{At, AnswersAndWorks, Conversed, Converses, MayRise, Start, front_of, link_end, meaning_of, no_faults, opening}
+use Rattle.http_front.specs.Paced.{Paced}
+use Rattle.kubeconv_cmd.specs.Serving.{At, AnswersAndWorks, Conversed, Converses, IsPaced, MayRise, Paces, Start, Streams, front_of, link_end, meaning_of, no_faults, opening}
 use Rattle.kubeconv_cmd.specs.declared.pipe.PipeEnd.{PipeEnd}
 
 -- the first pass of a server has the number 0, and is alone
@@ -44,6 +45,24 @@ opened {V = V} meaning a v versions start fails turns b left before written end 
       (record { log = items w.seen; claim = None }) after left before written) new link)),
 )
 
+-- The same of how the conversation was paced, over an inbox that held nothing.
+pub opened_paced : {V I O : Type 0} (meaning : V → Meaning) (a : ApiOf (CoreBase V)) (v : View (CoreBase V)) (versions : V) (start : Start) (fails : Type 0) (turns : ℕ) (s : Streams I O)
+    (held behind : List ℕ) (end : PipeEnd) (after : At)
+    → a.base ≡ record { versions = versions; limits = STANDING; boot = start.boot } → v ≡ opening_view a.base → held ≡ []
+    → Paced s.tell (AnswersAndWorks (record { server = server_of meaning a.base; told = start.told }) fails turns) s.most (link_end end)
+    (record { log = items v.seen; claim = None }) (record { held = held; input = s.input_before; output = s.output_before }) after (record { held = behind; input = s.input; output = s.output })
+    → IsPaced s (front_of (meaning versions) start) fails turns end
+opened_paced {V = V} meaning a v versions start fails turns s held behind end after base new empty paced = (
+  after,
+  behind,
+  subst (λ (c : CoreBase V). Paced s.tell (AnswersAndWorks (record { server = server_of meaning c; told = start.told }) fails turns) s.most (link_end end)
+      opening (record { held = []; input = s.input_before; output = s.output_before }) after (record { held = behind; input = s.input; output = s.output })) base
+      (subst (λ (w : View (CoreBase V)). Paced s.tell (AnswersAndWorks (record { server = server_of meaning a.base; told = start.told }) fails turns) s.most (link_end end)
+      (record { log = items w.seen; claim = None }) (record { held = []; input = s.input_before; output = s.output_before }) after (record { held = behind; input = s.input; output = s.output })) new
+      (subst (λ (xs : List ℕ). Paced s.tell (AnswersAndWorks (record { server = server_of meaning a.base; told = start.told }) fails turns) s.most (link_end end)
+      (record { log = items v.seen; claim = None }) (record { held = xs; input = s.input_before; output = s.output_before }) after (record { held = behind; input = s.input; output = s.output })) empty paced)),
+)
+
 -- a definition that was loaded means what its texts do
 pub converses : (crd rules : List ℕ) (turns : ℕ) (start : Start) (b : List ℕ) (before written : Option (List ℕ)) (end : PipeEnd) (d : Definition) (l : LoadedView)
     → Loads crd rules l → d ≡ set_of l
@@ -62,3 +81,14 @@ pub converses_at : (result : Result PipeEnd NoMemory) (crd rules : List ℕ) (tu
     → IfOk result (Converses crd rules turns start b before written)
 converses_at (Ok end) crd rules turns start b before written d l loads is talk = converses crd rules turns start b before written end d l loads is talk
 converses_at (Err e) crd rules turns start b before written d l loads is talk = tt
+
+pub paces_at : {I O : Type 0} (result : Result PipeEnd NoMemory) (crd rules : List ℕ) (turns : ℕ) (start : Start) (s : Streams I O) (d : Definition) (l : LoadedView)
+    → Loads crd rules l → d ≡ set_of l
+    → IfOk result (IsPaced s (front_of (meaning_of d) start) (MayRise no_faults) turns)
+    → IfOk result (Paces crd rules turns start s)
+paces_at (Ok end) crd rules turns start s d l loads is paced = record {
+  loaded = l;
+  loads = loads;
+  paced = subst (λ (x : Definition). IsPaced s (front_of (meaning_of x) start) (MayRise no_faults) turns end) is paced;
+}
+paces_at (Err e) crd rules turns start s d l loads is paced = tt

@@ -1,5 +1,5 @@
 -- Connections that are answered beside each other.
-use Rattle.std.specs.Prelude.{◌≡◌, ◌⊎◌, ℕ, List, length, Option}
+use Rattle.std.specs.Prelude.{◌≡◌, ◌≤◌, ◌⊎◌, ℕ, List, length, Option, Some}
 use Rattle.kube_meta.specs.declared.limits.TheConstants.Limits.{STANDING}
 use Rattle.api_calls.specs.Item.{Logged}
 use Rattle.api_calls.specs.Legal.{IsLegal}
@@ -7,16 +7,16 @@ use Rattle.api_calls.specs.Meaning.{Meaning}
 use Rattle.edge_io.specs.Connections.{Origin, Ending}
 use Rattle.crd_loading.specs.Load.{Loads}
 use Rattle.crd_loading.specs.View.{LoadedView}
-use Rattle.serve_spans.specs.Owners.{At, Within, IsWork}
+use Rattle.serve_spans.specs.Owners.{At, Within, IsOfWorker}
 use Rattle.serve_spans.specs.Served.{Among, origins_of, HandsOutAll, AddsAll}
 use Rattle.serve_spans.specs.Spans.{Span, AllServed, AreApart}
 use Rattle.serve_many.specs.Answered.{IsAnswered}
 use Rattle.kubeconv_cmd.specs.Serving.{Start, front_of, no_faults, served_meaning}
 
--- So many connections were handed out, and as many were given back. One list tells what they were answered: it is legal, begins with
--- nothing entered, and has for each connection a span in which one pass served it. No two share an item, and each item is one of a
--- connection's or a worker's. Each pass has a tool, whose faults are counted so.
-pub record AnsweredAll {A : Type 0} (faults : A → ℕ) (m : Meaning) (start : Start) (count : ℕ) (h0 handed : Option (List Origin)) (g0 given : Option (List Ending)) : Type 0 where
+-- So many connections were handed out, and as many were given back, with so many workers asked for beside them. One list tells what they were
+-- answered: it is legal, begins with nothing entered, and has for each connection a span in which one pass served it. No two share an item, and
+-- each item is one of a connection's or a worker's. Each pass has a tool, whose faults are counted so.
+pub record AnsweredAll {A : Type 0} (faults : A → ℕ) (m : Meaning) (start : Start) (asked count : ℕ) (h0 handed : Option (List Origin)) (g0 given : Option (List Ending)) : Type 0 where
   pub log : List Logged
   pub legal : IsLegal m STANDING log
   pub origins : List (Option Origin)
@@ -28,10 +28,14 @@ pub record AnsweredAll {A : Type 0} (faults : A → ℕ) (m : Meaning) (start : 
   pub each : (o : Option Origin) → Among o origins → Among o (origins_of endings)
   pub served : AllServed (IsAnswered faults (front_of m start)) log endings spans
   pub apart : AreApart spans
-  pub owned : (i : ℕ) (x : Logged) → At log i x → Within spans i x ⊎ IsWork x.item
+  -- the numbers of the workers' passes, which are no more than were asked for
+  pub workers : List ℕ
+  pub few : length workers ≤ asked
+  -- the pass of the number 0 accepts, and takes the turns of workers without a thread
+  pub owned : (i : ℕ) (x : Logged) → At log i x → Within spans i x ⊎ IsOfWorker (Some 0) asked workers x
 
 -- the same by the definition and the rules that two texts are, without a tool
-pub record ServesAll (crd rules : List ℕ) (start : Start) (count : ℕ) (h0 handed : Option (List Origin)) (g0 given : Option (List Ending)) : Type 0 where
+pub record ServesAll (crd rules : List ℕ) (start : Start) (asked count : ℕ) (h0 handed : Option (List Origin)) (g0 given : Option (List Ending)) : Type 0 where
   pub loaded : LoadedView
   pub loads : Loads crd rules loaded
-  pub answered : AnsweredAll no_faults (served_meaning loaded) start count h0 handed g0 given
+  pub answered : AnsweredAll no_faults (served_meaning loaded) start asked count h0 handed g0 given

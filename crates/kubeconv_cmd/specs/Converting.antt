@@ -14,7 +14,7 @@ use Rattle.hook_versions.specs.Facts.{hooked}
 use Rattle.hook_versions.specs.Loads.{LoadsHook, HasNoHub}
 use Rattle.kubeconv_cmd.specs.Beside.{AnsweredAll}
 use Rattle.kubeconv_cmd.specs.Refusal.{IsText, IsUnfit, blame_text}
-use Rattle.kubeconv_cmd.specs.Serving.{Start, Conversed, MayRise, front_of}
+use Rattle.kubeconv_cmd.specs.Serving.{Start, Conversed, IsPaced, MayRise, Streams, front_of}
 use Rattle.kubeconv_cmd.specs.declared.pipe.PipeEnd.{PipeEnd}
 
 -- ---- what is refused
@@ -51,8 +51,14 @@ pub record ConversesBy (crd hub : List ℕ) (turns : ℕ) (start : Start) (input
   pub loads : LoadsHook crd hub definition
   pub conversed : Conversed (front_of (converted_meaning definition) start) (MayRise converter_faults) turns input before written end
 
--- Connections were answered by it. Each pass has a converter of its own, and an answer says that it failed only where its count rose.
-pub record ServesAllBy (crd hub : List ℕ) (start : Start) (count : ℕ) (h0 handed : Option (List Origin)) (g0 given : Option (List Ending)) : Type 0 where
+-- It was paced so by it: each answer was handed on before more was read.
+pub record PacesBy {I O : Type 0} (crd hub : List ℕ) (turns : ℕ) (start : Start) (s : Streams I O) (end : PipeEnd) : Type 0 where
   pub definition : Definition
   pub loads : LoadsHook crd hub definition
-  pub answered : AnsweredAll converter_faults (converted_meaning definition) start count h0 handed g0 given
+  pub paced : IsPaced s (front_of (converted_meaning definition) start) (MayRise converter_faults) turns end
+
+-- Connections were answered by it. Each pass has a converter of its own, and an answer says that it failed only where its count rose.
+pub record ServesAllBy (crd hub : List ℕ) (start : Start) (asked count : ℕ) (h0 handed : Option (List Origin)) (g0 given : Option (List Ending)) : Type 0 where
+  pub definition : Definition
+  pub loads : LoadsHook crd hub definition
+  pub answered : AnsweredAll converter_faults (converted_meaning definition) start asked count h0 handed g0 given

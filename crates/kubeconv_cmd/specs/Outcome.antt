@@ -3,7 +3,7 @@ use Rattle.std.specs.Prelude.{◌≡◌, ◌<◌, ◌⊎◌, ⊤, ℕ, List, Opt
 use Rattle.edge_io.specs.Sends.{AddsSome}
 use Rattle.tcp_links.specs.Links.{Ending as LinkEnding}
 use Rattle.http_address.specs.Address.{AddressView, IsAddress}
-use Rattle.place.specs.Place.{IsPlace, Names, PlaceView}
+use Rattle.place.specs.Place.{IsPlace, PlaceView}
 use Rattle.far_migrate.specs.Counts.{Counts, answer, link, restarted}
 use Rattle.far_migrate.specs.Puts.{Handled, all, failed}
 use Rattle.record_dump.specs.Dumps.{OnDone, OnFaults as OnDumpFaults}
@@ -17,13 +17,14 @@ use Rattle.far_lines.specs.Loaded.{LoadedAt, count_lines}
 use Rattle.std.specs.Io.KnownBytes.{append_known, IsAtEnd}
 use Rattle.edge_io.specs.Causes.{Rose}
 use Rattle.edge_io.specs.Connections.{Origin, Ending}
+use Rattle.http_front.specs.Paced.{Handles}
 use Rattle.command_lines.specs.Lines.{Named, from_files, example, Conversion, Task, Line, pipe, task, drill, serve, migrate, dump, load, remote, pipe_by, serve_by}
 use Rattle.kubeconv_cmd.specs.Texts.{Texts}
 use Rattle.kubeconv_cmd.specs.Listening.{Told, ToldSome, Announced}
 use Rattle.kubeconv_cmd.specs.Beside.{ServesAll}
-use Rattle.kubeconv_cmd.specs.Converting.{ConversesBy, IsConvertible, RefusesConverted, ServesAllBy}
+use Rattle.kubeconv_cmd.specs.Converting.{ConversesBy, IsConvertible, PacesBy, RefusesConverted, ServesAllBy}
 use Rattle.kubeconv_cmd.specs.Tasks.{AnswersTexts, RefusesTexts, Wrote, Broke}
-use Rattle.kubeconv_cmd.specs.Serving.{Start, Converses, DrillsTexts, WasHeld}
+use Rattle.kubeconv_cmd.specs.Serving.{Start, Converses, DrillsTexts, Paces, Streams, WasHeld}
 use Rattle.kubeconv_cmd.specs.Refusal.{RefusesNamed, IsServed}
 use Rattle.kubeconv_cmd.specs.Status.{answer_line, dump_status, dump_error_line, line_saying, refusal_line, restore_status, restore_error_line}
 use Rattle.kubeconv_cmd.specs.declared.pipe.PipeEnd.{PipeEnd}
@@ -67,6 +68,9 @@ pub record World (F S K A : Type 0) : Type 0 where
   pub errors_faults : ℕ
   pub ears_faults_before : ℕ
   pub ears_faults : ℕ
+  -- what the input and the output tell in each of their states, and how many bytes one read of the input gives at most
+  pub tell : Handles S K
+  pub most : Option ℕ
   -- the state of each
   pub files_before : F
   pub files : F
@@ -146,6 +150,10 @@ IsSilent w = (OutputStays w) × (w.written ≡ w.written_before) × (w.flushed �
 abbrev pub HearsNobody : {F S K A : Type 0} → World F S K A → Type 0
 HearsNobody w = (w.handed ≡ w.handed_before) × (w.returned ≡ w.returned_before)
 
+-- what a conversation reads and writes
+abbrev pub streams_of : {F S K A : Type 0} → World F S K A → Streams S K
+streams_of w = record { tell = w.tell; most = w.most; input_before = w.source_before; input = w.source; output_before = w.sink_before; output = w.sink }
+
 -- ---- no definition
 
 -- something of a file is refused, and the error line names the file and says why
@@ -171,20 +179,23 @@ pub data StoppedBy {F S K A : Type 0} (w : World F S K A) (c : Conversion) (stat
 
 -- ---- each line
 
--- Where there is a definition, `loaded` says so, and `converses` that a conversation was held by it to an end; and `stopped` why there is none.
-pub data HeldOutcome {F S K A : Type 0} (w : World F S K A) (loaded : Type 0) (converses : PipeEnd → Type 0) (stopped : Type 0) (status : ℕ) : Type 0 where
+-- Where there is a definition, `loaded` says so, and `converses` that a conversation was held by it to an end, and `paces` how; and `stopped` why
+-- there is none.
+pub data HeldOutcome {F S K A : Type 0} (w : World F S K A) (loaded : Type 0) (converses paces : PipeEnd → Type 0) (stopped : Type 0) (status : ℕ) : Type 0 where
   -- a conversation was held to some end
-  talked : loaded → WasHeld converses (InputFails w) (OutputFails w) (HasHandedOn w) status → HeldOutcome w loaded converses stopped status
+  talked : loaded → WasHeld converses paces (InputFails w) (OutputFails w) (HasHandedOn w) status → HeldOutcome w loaded converses paces stopped status
   -- none was: nothing was read of the input, and nothing written
-  unserved : stopped → (InputStays w) → IsSilent w → HeldOutcome w loaded converses stopped status
+  unserved : stopped → (InputStays w) → IsSilent w → HeldOutcome w loaded converses paces stopped status
 
 abbrev pub PipeOutcome : {F S K A : Type 0} → World F S K A → Named → ℕ → ℕ → Type 0
 PipeOutcome w named turns status =
-    HeldOutcome w (HasLoaded w named) (λ end. OfInput w named (λ crd rules b. Converses crd rules turns w.start b w.written_before w.written end)) (Stopped w named status) status
+    HeldOutcome w (HasLoaded w named) (λ end. OfInput w named (λ crd rules b. Converses crd rules turns w.start b w.written_before w.written end))
+    (λ end. OfTexts w named (λ crd rules. Paces crd rules turns w.start (streams_of w) end)) (Stopped w named status) status
 
 abbrev pub PipeByOutcome : {F S K A : Type 0} → World F S K A → Conversion → ℕ → ℕ → Type 0
 PipeByOutcome w c turns status =
-    HeldOutcome w (HasLoadedBy w c) (λ end. OfFileAndInput w c (λ crd b. ConversesBy crd c.hub turns w.start b w.written_before w.written end)) (StoppedBy w c status) status
+    HeldOutcome w (HasLoadedBy w c) (λ end. OfFileAndInput w c (λ crd b. ConversesBy crd c.hub turns w.start b w.written_before w.written end))
+    (λ end. OfFile w c (λ crd. PacesBy crd c.hub turns w.start (streams_of w) end)) (StoppedBy w c status) status
 
 pub data TaskOutcome {F S K A : Type 0} (w : World F S K A) (named : Named) (t : Task) (status : ℕ) : Type 0 where
   -- the whole input was read, and its line was written and handed on
@@ -212,12 +223,12 @@ pub data DrillOutcome {F S K A : Type 0} (w : World F S K A) (start count status
       → DrillOutcome w start count status
   wanting_drill : status ≡ NO_MEMORY → IsSilent w → DrillOutcome w start count status
 
--- so many connections were handed out, answered by one history and given back
-abbrev pub AnswersSo : {F S K A : Type 0} → World F S K A → Named → ℕ → Type 0
-AnswersSo w named count = OfTexts w named (λ crd rules. ServesAll crd rules w.start count w.handed_before w.handed w.returned_before w.returned)
+-- so many connections were handed out, answered by one history and given back, with so many workers asked for
+abbrev pub AnswersSo : {F S K A : Type 0} → World F S K A → Named → ℕ → ℕ → Type 0
+AnswersSo w named asked count = OfTexts w named (λ crd rules. ServesAll crd rules w.start asked count w.handed_before w.handed w.returned_before w.returned)
 
-abbrev pub AnswersSoBy : {F S K A : Type 0} → World F S K A → Conversion → ℕ → Type 0
-AnswersSoBy w c count = OfFile w c (λ crd. ServesAllBy crd c.hub w.start count w.handed_before w.handed w.returned_before w.returned)
+abbrev pub AnswersSoBy : {F S K A : Type 0} → World F S K A → Conversion → ℕ → ℕ → Type 0
+AnswersSoBy w c asked count = OfFile w c (λ crd. ServesAllBy crd c.hub w.start asked count w.handed_before w.handed w.returned_before w.returned)
 
 -- nothing was written, or it was told where connections come
 abbrev pub MayHaveTold : {F S K A : Type 0} → World F S K A → Type 0
@@ -239,11 +250,11 @@ pub data ServiceOutcome {F S K A : Type 0} (w : World F S K A) (loaded : Type 0)
   wanting_service : status ≡ NO_MEMORY → MayHaveTold w → HearsNobody w → ServiceOutcome w loaded answers stopped connections status
   unloaded_service : stopped → IsSilent w → HearsNobody w → ServiceOutcome w loaded answers stopped connections status
 
-abbrev pub ServeOutcome : {F S K A : Type 0} → World F S K A → Named → Option ℕ → ℕ → Type 0
-ServeOutcome w named connections status = ServiceOutcome w (HasLoaded w named) (AnswersSo w named) (Stopped w named status) connections status
+abbrev pub ServeOutcome : {F S K A : Type 0} → World F S K A → Named → ℕ → Option ℕ → ℕ → Type 0
+ServeOutcome w named asked connections status = ServiceOutcome w (HasLoaded w named) (AnswersSo w named asked) (Stopped w named status) connections status
 
-abbrev pub ServeByOutcome : {F S K A : Type 0} → World F S K A → Conversion → Option ℕ → ℕ → Type 0
-ServeByOutcome w c connections status = ServiceOutcome w (HasLoadedBy w c) (AnswersSoBy w c) (StoppedBy w c status) connections status
+abbrev pub ServeByOutcome : {F S K A : Type 0} → World F S K A → Conversion → ℕ → Option ℕ → ℕ → Type 0
+ServeByOutcome w c asked connections status = ServiceOutcome w (HasLoadedBy w c) (AnswersSoBy w c asked) (StoppedBy w c status) connections status
 
 -- the link that was made to the place of the address made the exchanges of a migration that came to this, and was given back
 pub record MigratedAt {F S K A : Type 0} (w : World F S K A) (url : List ℕ) (h : Handled) : Type 0 where
@@ -335,9 +346,9 @@ abbrev pub Outcome : {F S K A : Type 0} → World F S K A → Line → ℕ → T
 Outcome w (pipe named turns) status = PipeOutcome w named turns status × (EarsStay w)
 Outcome w (task c r t) status = TaskOutcome w (from_files c r) t status × (EarsStay w)
 Outcome w (drill start count) status = DrillOutcome w start count status × (FilesStay w) × (InputStays w) × (EarsStay w)
-Outcome w (serve s) status = ServeOutcome w (from_files s.crd s.rules) s.connections status × (InputStays w)
+Outcome w (serve s) status = ServeOutcome w (from_files s.crd s.rules) s.workers s.connections status × (InputStays w)
 Outcome w (remote migrate url) status = MigrateOutcome w url status × (FilesStay w) × (InputStays w) × (EarsStay w)
 Outcome w (remote dump url) status = DumpOutcome w url status × (FilesStay w) × (InputStays w) × (EarsStay w)
 Outcome w (remote load url) status = LoadOutcome w url status × (FilesStay w) × (EarsStay w)
 Outcome w (pipe_by c turns) status = PipeByOutcome w c turns status × (EarsStay w)
-Outcome w (serve_by c l) status = ServeByOutcome w c l.connections status × (InputStays w)
+Outcome w (serve_by c l) status = ServeByOutcome w c l.workers l.connections status × (InputStays w)

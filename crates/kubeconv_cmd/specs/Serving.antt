@@ -19,6 +19,7 @@ use Rattle.crd_loading.specs.Set.{set_of}
 use Rattle.http_wire.specs.Head.{Request}
 use Rattle.http_wire.specs.declared.limits.TheConstants.{MOST_REQUESTS}
 use Rattle.http_front.specs.Link.{LinkBlames, Links, UnlessUnwritten}
+use Rattle.http_front.specs.Paced.{Handles, Paced}
 use Rattle.request_replies.specs.Replies.{Front, Replies}
 use Rattle.http_front.specs.declared.link.End.{End as LinkEnd}
 use Rattle.http_front.specs.declared.link.End.TheVariants as links
@@ -109,6 +110,23 @@ abbrev pub Conversed : Front → Type 0 → ℕ → List ℕ → Option (List �
 Conversed f fails turns input before written end =
     (after : At) × legal f.server.meaning f.server.limits after.log × Links (AnswersAndWorks f fails turns) MOST_REQUESTS ⊥ (link_end end) opening after (Some input) before written
 
+-- What a conversation reads and writes: what these tell in each of their states, how many bytes one read gives at most where that is told, and
+-- the states in which they were found and left.
+pub record Streams (I O : Type 0) : Type 0 where
+  pub tell : Handles I O
+  pub most : Option ℕ
+  pub input_before : I
+  pub input : I
+  pub output_before : O
+  pub output : O
+
+-- Each request was answered, its answer was handed on and the worker took its turns before anything was read but what came with the request.
+-- `held` is what was read that no request took.
+abbrev pub IsPaced : {I O : Type 0} → Streams I O → Front → Type 0 → ℕ → PipeEnd → Type 0
+IsPaced s f fails turns end = (after : At) × (held : List ℕ)
+    × Paced s.tell (AnswersAndWorks f fails turns) s.most (link_end end)
+    opening (record { held = []; input = s.input_before; output = s.output_before }) after (record { held = held; input = s.input; output = s.output })
+
 -- a fault of reading has this cause, and one of writing that
 abbrev pub Blames : PipeEnd → Type 0 → Type 0 → Type 0
 Blames end reads writes = LinkBlames (link_end end) reads writes
@@ -128,11 +146,19 @@ pub record Converses (crd rules : List ℕ) (turns : ℕ) (start : Start) (input
   pub loads : Loads crd rules loaded
   pub conversed : Conversed (front_of (served_meaning loaded) start) (MayRise no_faults) turns input before written end
 
--- A conversation was held to this end, and the status is that of the end. A fault of the input has one cause, and one of the output
--- another. Unless the output failed, what is written is handed on, also where the input failed.
-pub record WasHeld (converses : PipeEnd → Type 0) (reads writes handed_on : Type 0) (status : ℕ) : Type 0 where
+-- It was paced so by them.
+pub record Paces {I O : Type 0} (crd rules : List ℕ) (turns : ℕ) (start : Start) (s : Streams I O) (end : PipeEnd) : Type 0 where
+  pub loaded : LoadedView
+  pub loads : Loads crd rules loaded
+  pub paced : IsPaced s (front_of (served_meaning loaded) start) (MayRise no_faults) turns end
+
+-- A conversation was held to this end, and the status is that of the end. `paces` says that each answer was handed on before more was read. A
+-- fault of the input has one cause, and one of the output another. Unless the output failed, what is written is handed on, also where the
+-- input failed.
+pub record WasHeld (converses paces : PipeEnd → Type 0) (reads writes handed_on : Type 0) (status : ℕ) : Type 0 where
   pub end : PipeEnd
   pub conversed : converses end
+  pub paced : paces end
   pub blames : Blames end reads writes
   pub hands_on : UnlessUnwritten (link_end end) handed_on
   pub is_status : status ≡ pipe_status end

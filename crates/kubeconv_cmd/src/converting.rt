@@ -4,7 +4,7 @@ ghost use Rattle.edge_io.specs.Causes.{Rose};
 ghost use Rattle.http_address.specs.Address.{AddressView, IsAddress};
 ghost use Rattle.hook_versions.specs.Loads.{LoadsHook};
 ghost use Rattle.http_front.specs.Link.{UnlessUnwritten};
-ghost use Rattle.kubeconv_cmd.specs.Serving.{Blames, Conversed, MayRise, front_of, link_end};
+ghost use Rattle.kubeconv_cmd.specs.Serving.{Blames, Conversed, IsPaced, MayRise, front_of, link_end};
 ghost use Rattle.kubeconv_cmd.specs.Beside.{AnsweredAll};
 ghost use Rattle.kubeconv_cmd.specs.Converting.{DoesntLoad, RefusesConverted, converted_meaning, converter_faults};
 ghost use Rattle.kubeconv_cmd.specs.Listening.{Told, ToldSome, Announced, NamesPlace};
@@ -129,6 +129,8 @@ pub(crate) fn serve_converted<R: Wait, L: Links, S: Source, K: Sink, C: Clock>(
 ) -> Result<PipeEnd, NoMemory>
     ensures talk { (b : List ℕ) → S.left input.old ≡ Some b
         → IfOk result (Conversed (front_of (converted_meaning found.versions.set) (record { boot = boot; told = C.told clock.now })) (MayRise converter_faults) turns b (K.written output.old) (K.written output.new)) }
+    ensures paced { IfOk result (IsPaced (record { tell = record { left = S.left; written = K.written; flushed = K.flushed }; most = S.most input.old; input_before = input.old; input = input.new; output_before = output.old; output = output.new })
+        (front_of (converted_meaning found.versions.set) (record { boot = boot; told = C.told clock.now })) (MayRise converter_faults) turns) }
     ensures blames { IfOk result (λ end. Blames end (Rose (S.faults input.old) (S.faults input.new)) (Rose (K.faults output.old) (K.faults output.new))) }
     ensures flushed { IfOk result (λ end. UnlessUnwritten (link_end end) (K.flushed output.old ≡ K.written output.old → K.flushed output.new ≡ K.written output.new)) }
     ensures untouched { OnErr result ((input.new ≡ input.old) × (output.new ≡ output.old)) }
@@ -162,14 +164,14 @@ pub(crate) fn connect_converted<
 where
     L::One: Sync,
     ensures done { OnOk result ((count : ℕ) × (listening.entry.connections ≡ Some count)
-        × AnsweredAll converter_faults (converted_meaning found.versions.set) (record { boot = boot; told = C.told clock.now }) count (A.origins ears.old) (A.origins ears.new) (A.returned ears.old) (A.returned ears.new)) }
+        × AnsweredAll converter_faults (converted_meaning found.versions.set) (record { boot = boot; told = C.told clock.now }) listening.entry.workers count (A.origins ears.old) (A.origins ears.new) (A.returned ears.old) (A.returned ears.new)) }
     ensures place { NamesPlace (A.is_told listening.entry.place.now) (K.written output.old) (K.written output.new) }
     ensures told { OnOk result (Announced (K.written output.old) (K.written output.new) (K.flushed output.new)) }
     ensures silent { IfErr result (Silent (K.written output.new ≡ K.written output.old) (ToldSome (K.written output.old) (K.written output.new)) (Told (K.written output.old) (K.written output.new))) }
     ensures unheard { IfErr result (OnUnheard (Rose (A.faults ears.old) (A.faults ears.new)
         × (((A.origins ears.new ≡ A.origins ears.old) × (A.returned ears.new ≡ A.returned ears.old))
         ⊎ ((count : ℕ) × IfSome listening.entry.connections (λ n. count < n)
-        × AnsweredAll converter_faults (converted_meaning found.versions.set) (record { boot = boot; told = C.told clock.now }) count (A.origins ears.old) (A.origins ears.new) (A.returned ears.old) (A.returned ears.new)
+        × AnsweredAll converter_faults (converted_meaning found.versions.set) (record { boot = boot; told = C.told clock.now }) listening.entry.workers count (A.origins ears.old) (A.origins ears.new) (A.returned ears.old) (A.returned ears.new)
         × Announced (K.written output.old) (K.written output.new) (K.flushed output.new))))) }
     ensures untold { IfErr result (OnUntold (Rose (K.faults output.old) (K.faults output.new))) }
     ensures untouched { IfErr result (UnlessUnheard ((A.origins ears.new ≡ A.origins ears.old) × (A.returned ears.new ≡ A.returned ears.old))) }

@@ -8,8 +8,9 @@ ghost use Rattle.turn_cell.specs.Views.{IsAlone};
 ghost use Rattle.shared_api.specs.Base.{server_of};
 ghost use Rattle.shared_api.specs.Passes.{IsOf};
 ghost use Rattle.http_front.specs.Link.{Links, UnlessUnwritten};
+ghost use Rattle.http_front.specs.Paced.{Paced};
 ghost use Rattle.http_front.specs.Steps.{IsSameBut};
-ghost use Rattle.kubeconv_cmd.specs.Serving.{At, AnswersAndWorks, Blames, Conversed, MayRise, TakesTurns, front_of, link_end};
+ghost use Rattle.kubeconv_cmd.specs.Serving.{At, AnswersAndWorks, Blames, Conversed, IsPaced, MayRise, TakesTurns, front_of, link_end};
 
 use api_calls::Versions;
 use edge_io::{Clock, Sink, Source};
@@ -77,7 +78,10 @@ fn converse<V: Versions + Drop, R: Wait, S: Source, K: Sink, C: Clock>(
     requires alone { IsAlone pass.old.view }
     requires empty { inbox.old.bytes ≡ [] }
     ensures talk { (after : At) × legal (V.meaning api.now.base.versions) api.now.base.limits after.log × Links (AnswersAndWorks (record { server = server_of V.meaning api.now.base; told = C.told clock.now }) (MayRise V.Tool.faults) turns) MOST_REQUESTS ⊥ (link_end result)
-        (record { log = items pass.old.view.seen; claim = worker.old.claim }) after (S.left input.old) (K.written output.old) (K.written output.new) }
+        (record { log = items pass.old.view.seen; claim = worker.old.claim }) after (S.left input.old) (K.written output.old) (K.written output.new)
+        × Paced (record { left = S.left; written = K.written; flushed = K.flushed }) (AnswersAndWorks (record { server = server_of V.meaning api.now.base; told = C.told clock.now }) (MayRise V.Tool.faults) turns) (S.most input.old) (link_end result)
+        (record { log = items pass.old.view.seen; claim = worker.old.claim }) (record { held = inbox.old.bytes; input = input.old; output = output.old })
+        after (record { held = inbox.new.bytes; input = input.new; output = output.new }) }
     ensures blames { Blames result (Rose (S.faults input.old) (S.faults input.new)) (Rose (K.faults output.old) (K.faults output.new)) }
     ensures flushed { UnlessUnwritten (link_end result) (K.flushed output.old ≡ K.written output.old → K.flushed output.new ≡ K.written output.new) }
 {
@@ -114,6 +118,8 @@ pub(crate) fn serve<V: Versions + Drop, R: Wait, S: Source, K: Sink, C: Clock>(
 ) -> Result<PipeEnd, NoMemory>
     ensures talk { (b : List ℕ) → S.left input.old ≡ Some b
         → IfOk result (Conversed (front_of (V.meaning versions) (record { boot = boot; told = C.told clock.now })) (MayRise V.Tool.faults) turns b (K.written output.old) (K.written output.new)) }
+    ensures paced { IfOk result (IsPaced (record { tell = record { left = S.left; written = K.written; flushed = K.flushed }; most = S.most input.old; input_before = input.old; input = input.new; output_before = output.old; output = output.new })
+        (front_of (V.meaning versions) (record { boot = boot; told = C.told clock.now })) (MayRise V.Tool.faults) turns) }
     ensures blames { IfOk result (λ end. Blames end (Rose (S.faults input.old) (S.faults input.new)) (Rose (K.faults output.old) (K.faults output.new))) }
     ensures flushed { IfOk result (λ end. UnlessUnwritten (link_end end) (K.flushed output.old ≡ K.written output.old → K.flushed output.new ≡ K.written output.new)) }
     ensures untouched { OnErr result ((input.new ≡ input.old) × (output.new ≡ output.old)) }

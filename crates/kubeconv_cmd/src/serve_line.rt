@@ -101,14 +101,14 @@ where
     V::Tool: Send,
     requires { workers ≤ 15 }
     ensures done { OnOk result ((count : ℕ) × (connections ≡ Some count)
-        × AnsweredAll V.Tool.faults (V.meaning versions) (record { boot = boot; told = C.told clock.now }) count (A.origins ears.old) (A.origins ears.new) (A.returned ears.old) (A.returned ears.new)) }
+        × AnsweredAll V.Tool.faults (V.meaning versions) (record { boot = boot; told = C.told clock.now }) workers count (A.origins ears.old) (A.origins ears.new) (A.returned ears.old) (A.returned ears.new)) }
     ensures place { NamesPlace (A.is_told place.now) (K.written output.old) (K.written output.new) }
     ensures told { OnOk result (Announced (K.written output.old) (K.written output.new) (K.flushed output.new)) }
     ensures silent { IfErr result (Silent (K.written output.new ≡ K.written output.old) (ToldSome (K.written output.old) (K.written output.new)) (Told (K.written output.old) (K.written output.new))) }
     ensures unheard { IfErr result (OnUnheard (Rose (A.faults ears.old) (A.faults ears.new)
         × (((A.origins ears.new ≡ A.origins ears.old) × (A.returned ears.new ≡ A.returned ears.old))
         ⊎ ((count : ℕ) × IfSome connections (λ n. count < n)
-        × AnsweredAll V.Tool.faults (V.meaning versions) (record { boot = boot; told = C.told clock.now }) count (A.origins ears.old) (A.origins ears.new) (A.returned ears.old) (A.returned ears.new)
+        × AnsweredAll V.Tool.faults (V.meaning versions) (record { boot = boot; told = C.told clock.now }) workers count (A.origins ears.old) (A.origins ears.new) (A.returned ears.old) (A.returned ears.new)
         × Announced (K.written output.old) (K.written output.new) (K.flushed output.new))))) }
     ensures untold { IfErr result (OnUntold (Rose (K.faults output.old) (K.faults output.new))) }
     ensures untouched { IfErr result (UnlessUnheard ((A.origins ears.new ≡ A.origins ears.old) × (A.returned ears.new ≡ A.returned ears.old))) }
@@ -158,7 +158,7 @@ pub(crate) fn serve_set<
 ) -> Result<(), Unserved>
     ensures done { OnOk result ((count : ℕ) × (service.entry.connections ≡ Some count)
         × ((crd rules : List ℕ) (l : LoadedView) → Loads crd rules l → definition_of versions ≡ set_of l
-        → ServesAll crd rules (record { boot = boot; told = C.told clock.now }) count (A.origins ears.old) (A.origins ears.new) (A.returned ears.old) (A.returned ears.new))) }
+        → ServesAll crd rules (record { boot = boot; told = C.told clock.now }) service.entry.workers count (A.origins ears.old) (A.origins ears.new) (A.returned ears.old) (A.returned ears.new))) }
     ensures place { NamesPlace (A.is_told service.entry.place.now) (K.written output.old) (K.written output.new) }
     ensures told { OnOk result (Announced (K.written output.old) (K.written output.new) (K.flushed output.new)) }
     ensures silent { IfErr result (Silent (K.written output.new ≡ K.written output.old) (ToldSome (K.written output.old) (K.written output.new)) (Told (K.written output.old) (K.written output.new))) }
@@ -166,7 +166,7 @@ pub(crate) fn serve_set<
         × (((A.origins ears.new ≡ A.origins ears.old) × (A.returned ears.new ≡ A.returned ears.old))
         ⊎ ((count : ℕ) × IfSome service.entry.connections (λ n. count < n)
         × ((crd rules : List ℕ) (l : LoadedView) → Loads crd rules l → definition_of versions ≡ set_of l
-        → ServesAll crd rules (record { boot = boot; told = C.told clock.now }) count (A.origins ears.old) (A.origins ears.new) (A.returned ears.old) (A.returned ears.new))
+        → ServesAll crd rules (record { boot = boot; told = C.told clock.now }) service.entry.workers count (A.origins ears.old) (A.origins ears.new) (A.returned ears.old) (A.returned ears.new))
         × Announced (K.written output.old) (K.written output.new) (K.flushed output.new))))) }
     ensures untold { IfErr result (OnUntold (Rose (K.faults output.old) (K.faults output.new))) }
     ensures untouched { IfErr result (UnlessUnheard ((A.origins ears.new ≡ A.origins ears.old) × (A.returned ears.new ≡ A.returned ears.old))) }

@@ -81,6 +81,8 @@ where
       errors_faults = E.faults errors.new;
       ears_faults_before = A.faults ears.old;
       ears_faults = A.faults ears.new;
+      tell = record { left = S.left; written = K.written; flushed = K.flushed };
+      most = S.most input.old;
       files_before = files.old;
       files = files.new;
       source_before = input.old;
@@ -285,6 +287,8 @@ where
       errors_faults = E.faults errors.new;
       ears_faults_before = A.faults ears.old;
       ears_faults = A.faults ears.new;
+      tell = record { left = S.left; written = K.written; flushed = K.flushed };
+      most = S.most input.old;
       files_before = files.old;
       files = files.new;
       source_before = input.old;

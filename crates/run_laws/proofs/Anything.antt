@@ -26,7 +26,7 @@ pub talk_any : {F S K A : Type 0} (w : World F S K A) (line : Line) (s : ℕ) (c
 talk_any w (pipe named turns) s crd rules b out texts known nf nr nw = pipe_talk w named turns s crd rules b out.0 texts known nf nr nw
 talk_any w (task c r t) s crd rules b out texts known nf nr nw = task_talk w (from_files c r) t s crd rules b out.0 texts known nf nr nw
 talk_any w (drill start count) s crd rules b out texts known nf nr nw = third _ _ _ (drill_talk w start count s crd rules out.0 texts nw)
-talk_any w (serve v) s crd rules b out texts known nf nr nw = serve_talk w (from_files v.crd v.rules) v.connections s crd rules out.0 texts nf nw
+talk_any w (serve v) s crd rules b out texts known nf nr nw = serve_talk w (from_files v.crd v.rules) v.workers v.connections s crd rules out.0 texts nf nw
 talk_any w (remote work url) s crd rules b out texts known nf nr nw = absurd texts
 talk_any w (pipe_by c turns) s crd rules b out texts known nf nr nw = absurd texts
 talk_any w (serve_by c l) s crd rules b out texts known nf nr nw = absurd texts
@@ -36,7 +36,7 @@ pub complete_any : {F S K A : Type 0} (w : World F S K A) (line : Line) (s : ℕ
 complete_any w (pipe named turns) s crd rules out texts fit nf nr nw ne = pipe_complete w named turns s crd rules out.0 texts fit nf nr nw
 complete_any w (task c r t) s crd rules out texts fit nf nr nw ne = task_complete w (from_files c r) t s crd rules out.0 texts fit nf nr nw
 complete_any w (drill start count) s crd rules out texts fit nf nr nw ne = drill_complete w start count s out.0 nw
-complete_any w (serve v) s crd rules out texts fit nf nr nw ne = serve_complete w (from_files v.crd v.rules) v.connections s crd rules out.0 texts fit nf nw ne
+complete_any w (serve v) s crd rules out texts fit nf nr nw ne = serve_complete w (from_files v.crd v.rules) v.workers v.connections s crd rules out.0 texts fit nf nw ne
 complete_any w (remote work url) s crd rules out texts fit nf nr nw ne = absurd texts
 complete_any w (pipe_by c turns) s crd rules out texts fit nf nr nw ne = absurd texts
 complete_any w (serve_by c l) s crd rules out texts fit nf nr nw ne = absurd texts
@@ -46,7 +46,7 @@ pub refused_any : {F S K A : Type 0} (w : World F S K A) (line : Line) (s : ℕ)
 refused_any w (pipe named turns) s crd rules name why out texts nf bad = pipe_refuses w named turns s crd rules name why out.0 texts nf bad
 refused_any w (task c r t) s crd rules name why out texts nf bad = task_refuses w (from_files c r) t s crd rules name why out.0 texts nf bad
 refused_any w (drill start count) s crd rules name why out texts nf bad = absurd bad
-refused_any w (serve v) s crd rules name why out texts nf bad = serve_refuses w (from_files v.crd v.rules) v.connections s crd rules name why out.0 texts nf bad
+refused_any w (serve v) s crd rules name why out texts nf bad = serve_refuses w (from_files v.crd v.rules) v.workers v.connections s crd rules name why out.0 texts nf bad
 refused_any w (remote work url) s crd rules name why out texts nf bad = absurd texts
 refused_any w (pipe_by c turns) s crd rules name why out texts nf bad = absurd texts
 refused_any w (serve_by c l) s crd rules name why out texts nf bad = absurd texts
@@ -59,23 +59,23 @@ pub refusal_any : {F S K A : Type 0} (w : World F S K A) (line : Line) (s : ℕ)
 refusal_any w (pipe named turns) s out e = pipe_blames w named turns s out.0 e
 refusal_any w (task c r t) s out e = task_blames w (from_files c r) t s out.0 e
 refusal_any w (drill start count) s out e = absurd (drill_never REFUSED (λ e. omega (arith, e)) (λ e. omega (arith, e)) (λ e. omega (arith, e)) w start count s out.0 e)
-refusal_any w (serve v) s out e = (serve_blames w (from_files v.crd v.rules) v.connections s out.0 e).0
+refusal_any w (serve v) s out e = (serve_blames w (from_files v.crd v.rules) v.workers v.connections s out.0 e).0
 refusal_any w (remote migrate url) s out e = absurd (migrate_never REFUSED (λ e. omega (arith, e)) (λ e. omega (arith, e)) (λ e. omega (arith, e)) (λ e. omega (arith, e)) (λ e. omega (arith, e)) (λ e. omega (arith, e)) (λ e. omega (arith, e)) w url s out.0 e)
 refusal_any w (remote dump url) s out e = absurd (dump_never REFUSED (λ e. omega (arith, e)) (λ e. omega (arith, e)) (λ e. omega (arith, e)) (λ e. omega (arith, e)) (λ e. omega (arith, e)) (λ e. omega (arith, e)) (λ e. omega (arith, e)) w url s out.0 e)
 refusal_any w (remote load url) s out e = absurd (load_never REFUSED (λ e. omega (arith, e)) (λ e. omega (arith, e)) (λ e. omega (arith, e)) (λ e. omega (arith, e)) (λ e. omega (arith, e)) (λ e. omega (arith, e)) (λ e. omega (arith, e)) (λ e. omega (arith, e)) (λ e. omega (arith, e)) (λ e. omega (arith, e)) w url s out.0 e)
 refusal_any w (pipe_by c turns) s out e = blames_no_texts w c (pipe_by_blames w c turns s out.0 e).0
-refusal_any w (serve_by c l) s out e = blames_no_texts w c (serve_by_blames w c l.connections s out.0 e).0
+refusal_any w (serve_by c l) s out e = blames_no_texts w c (serve_by_blames w c l.workers l.connections s out.0 e).0
 
 pub unserved_any : {F S K A : Type 0} (w : World F S K A) (line : Line) (s : ℕ) → Outcome w line s → s ≡ REFUSED → (InputStays w) × (OutputStays w)
 unserved_any w (pipe named turns) s out e = pipe_unserved w named turns s out.0 (inl e)
 unserved_any w (task c r t) s out e = task_unserved w (from_files c r) t s out.0 e
 unserved_any w (drill start count) s out e = absurd (drill_never REFUSED (λ e. omega (arith, e)) (λ e. omega (arith, e)) (λ e. omega (arith, e)) w start count s out.0 e)
-unserved_any w (serve v) s out e = (out.1, (serve_blames w (from_files v.crd v.rules) v.connections s out.0 e).1)
+unserved_any w (serve v) s out e = (out.1, (serve_blames w (from_files v.crd v.rules) v.workers v.connections s out.0 e).1)
 unserved_any w (remote migrate url) s out e = absurd (migrate_never REFUSED (λ e. omega (arith, e)) (λ e. omega (arith, e)) (λ e. omega (arith, e)) (λ e. omega (arith, e)) (λ e. omega (arith, e)) (λ e. omega (arith, e)) (λ e. omega (arith, e)) w url s out.0 e)
 unserved_any w (remote dump url) s out e = absurd (dump_never REFUSED (λ e. omega (arith, e)) (λ e. omega (arith, e)) (λ e. omega (arith, e)) (λ e. omega (arith, e)) (λ e. omega (arith, e)) (λ e. omega (arith, e)) (λ e. omega (arith, e)) w url s out.0 e)
 unserved_any w (remote load url) s out e = absurd (load_never REFUSED (λ e. omega (arith, e)) (λ e. omega (arith, e)) (λ e. omega (arith, e)) (λ e. omega (arith, e)) (λ e. omega (arith, e)) (λ e. omega (arith, e)) (λ e. omega (arith, e)) (λ e. omega (arith, e)) (λ e. omega (arith, e)) (λ e. omega (arith, e)) w url s out.0 e)
 unserved_any w (pipe_by c turns) s out e = let found = pipe_by_blames w c turns s out.0 e in (found.1, found.2)
-unserved_any w (serve_by c l) s out e = (out.1, (serve_by_blames w c l.connections s out.0 e).1)
+unserved_any w (serve_by c l) s out e = (out.1, (serve_by_blames w c l.workers l.connections s out.0 e).1)
 
 pub ears_any : {F S K A : Type 0} (w : World F S K A) (line : Line) (s : ℕ) → Outcome w line s → HearsNone line → (EarsStay w)
 ears_any w (pipe named turns) s out none = out.1
@@ -104,31 +104,31 @@ pub reading_any : {F S K A : Type 0} (w : World F S K A) (line : Line) (s : ℕ)
 reading_any w (pipe named turns) s out e = pipe_reading w named turns s out.0 e
 reading_any w (task c r t) s out e = task_reading w (from_files c r) t s out.0 e
 reading_any w (drill start count) s out e = absurd (drill_never READ_FAILED (λ e. omega (arith, e)) (λ e. omega (arith, e)) (λ e. omega (arith, e)) w start count s out.0 e)
-reading_any w (serve v) s out e = inl (serve_reading w (from_files v.crd v.rules) v.connections s out.0 e)
+reading_any w (serve v) s out e = inl (serve_reading w (from_files v.crd v.rules) v.workers v.connections s out.0 e)
 reading_any w (remote migrate url) s out e = absurd (migrate_never READ_FAILED (λ e. omega (arith, e)) (λ e. omega (arith, e)) (λ e. omega (arith, e)) (λ e. omega (arith, e)) (λ e. omega (arith, e)) (λ e. omega (arith, e)) (λ e. omega (arith, e)) w url s out.0 e)
 reading_any w (remote dump url) s out e = absurd (dump_never READ_FAILED (λ e. omega (arith, e)) (λ e. omega (arith, e)) (λ e. omega (arith, e)) (λ e. omega (arith, e)) (λ e. omega (arith, e)) (λ e. omega (arith, e)) (λ e. omega (arith, e)) w url s out.0 e)
 reading_any w (remote load url) s out e = inr (load_reading w url s out.0 e)
 reading_any w (pipe_by c turns) s out e = pipe_by_reading w c turns s out.0 e
-reading_any w (serve_by c l) s out e = inl (serve_by_reading w c l.connections s out.0 e)
+reading_any w (serve_by c l) s out e = inl (serve_by_reading w c l.workers l.connections s out.0 e)
 
 pub writing_any : {F S K A : Type 0} (w : World F S K A) (line : Line) (s : ℕ) → Outcome w line s → s ≡ WRITE_FAILED → (OutputFails w)
 writing_any w (pipe named turns) s out e = pipe_writing w named turns s out.0 e
 writing_any w (task c r t) s out e = (task_broke w (from_files c r) t s out.0 e).0
 writing_any w (drill start count) s out e = (drill_broke w start count s out.0 e).0
-writing_any w (serve v) s out e = serve_writing w (from_files v.crd v.rules) v.connections s out.0 e
+writing_any w (serve v) s out e = serve_writing w (from_files v.crd v.rules) v.workers v.connections s out.0 e
 writing_any w (remote migrate url) s out e = migrate_writing w url s out.0 e
 writing_any w (remote dump url) s out e = dump_writing w url s out.0 e
 writing_any w (remote load url) s out e = load_writing w url s out.0 e
 writing_any w (pipe_by c turns) s out e = pipe_by_writing w c turns s out.0 e
-writing_any w (serve_by c l) s out e = serve_by_writing w c l.connections s out.0 e
+writing_any w (serve_by c l) s out e = serve_by_writing w c l.workers l.connections s out.0 e
 
 pub hearing_any : {F S K A : Type 0} (w : World F S K A) (line : Line) (s : ℕ) → Outcome w line s → s ≡ LISTEN_FAILED → (EarsFail w)
 hearing_any w (pipe named turns) s out e = absurd (pipe_never LISTEN_FAILED (λ e. omega (arith, e)) (λ e. omega (arith, e)) (λ e. omega (arith, e)) (λ e. omega (arith, e)) (λ e. omega (arith, e)) (λ e. omega (arith, e)) (λ e. omega (arith, e)) w named turns s out.0 e)
 hearing_any w (task c r t) s out e = absurd (task_never LISTEN_FAILED (λ e. omega (arith, e)) (λ e. omega (arith, e)) (λ e. omega (arith, e)) (λ e. omega (arith, e)) (λ e. omega (arith, e)) (λ e. omega (arith, e)) w (from_files c r) t s out.0 e)
 hearing_any w (drill start count) s out e = absurd (drill_never LISTEN_FAILED (λ e. omega (arith, e)) (λ e. omega (arith, e)) (λ e. omega (arith, e)) w start count s out.0 e)
-hearing_any w (serve v) s out e = (serve_failed w (from_files v.crd v.rules) v.connections s out.0 e).0
+hearing_any w (serve v) s out e = (serve_failed w (from_files v.crd v.rules) v.workers v.connections s out.0 e).0
 hearing_any w (remote migrate url) s out e = absurd (migrate_never LISTEN_FAILED (λ e. omega (arith, e)) (λ e. omega (arith, e)) (λ e. omega (arith, e)) (λ e. omega (arith, e)) (λ e. omega (arith, e)) (λ e. omega (arith, e)) (λ e. omega (arith, e)) w url s out.0 e)
 hearing_any w (remote dump url) s out e = absurd (dump_never LISTEN_FAILED (λ e. omega (arith, e)) (λ e. omega (arith, e)) (λ e. omega (arith, e)) (λ e. omega (arith, e)) (λ e. omega (arith, e)) (λ e. omega (arith, e)) (λ e. omega (arith, e)) w url s out.0 e)
 hearing_any w (remote load url) s out e = absurd (load_never LISTEN_FAILED (λ e. omega (arith, e)) (λ e. omega (arith, e)) (λ e. omega (arith, e)) (λ e. omega (arith, e)) (λ e. omega (arith, e)) (λ e. omega (arith, e)) (λ e. omega (arith, e)) (λ e. omega (arith, e)) (λ e. omega (arith, e)) (λ e. omega (arith, e)) w url s out.0 e)
 hearing_any w (pipe_by c turns) s out e = absurd (pipe_by_hearing w c turns s out.0 e)
-hearing_any w (serve_by c l) s out e = (serve_by_failed w c l.connections s out.0 e).0
+hearing_any w (serve_by c l) s out e = (serve_by_failed w c l.workers l.connections s out.0 e).0

@@ -10,9 +10,9 @@ use Rattle.command_lines.specs.Lines.{Named}
 use Rattle.kubeconv_cmd.specs.Texts.{Texts}
 use Rattle.kubeconv_cmd.specs.Refusal.{RefusesNamed, IsServed}
 use Rattle.http_front.specs.Link.{UnlessUnwritten}
-use Rattle.kubeconv_cmd.specs.Serving.{Blames, Converses, WasHeld, link_end}
+use Rattle.kubeconv_cmd.specs.Serving.{Blames, Converses, Paces, WasHeld, link_end}
 use Rattle.kubeconv_cmd.specs.Status.{status_of, pipe_status}
-use Rattle.kubeconv_cmd.specs.Outcome.{World, OfInput, BlamesFile, HasHandedOn, Stopped, unreadable, refused, wanting, PipeOutcome, talked, unserved, FilesFail, InputFails, OutputFails, InputStays, OutputStays}
+use Rattle.kubeconv_cmd.specs.Outcome.{World, OfInput, OfTexts, streams_of, BlamesFile, HasHandedOn, Stopped, unreadable, refused, wanting, PipeOutcome, talked, unserved, FilesFail, InputFails, OutputFails, InputStays, OutputStays}
 use Rattle.kubeconv_cmd.specs.declared.pipe.PipeEnd.{PipeEnd}
 use Rattle.kubeconv_cmd.specs.declared.pipe.PipeEnd.TheVariants.{Closed, Torn, Refused, Spent, ReadFault, WriteFault}
 use Rattle.kubeconv_cmd.specs.declared.status.TheConstants.{DONE, REFUSED, READ_FAILED, WRITE_FAILED, NO_MEMORY, CUT, TOO_MANY}
@@ -102,10 +102,16 @@ unheld w named s (refused is blames) = inl is
 unheld w named s (wanting is) = inr (inl is)
 
 pub pipe_held : {F S K A : Type 0} (w : World F S K A) (named : Named) (turns s : ℕ) → PipeOutcome w named turns s
-    → WasHeld (λ end. OfInput w named (λ crd rules b. Converses crd rules turns w.start b w.written_before w.written end)) (InputFails w) (OutputFails w) (HasHandedOn w) s
+    → WasHeld (λ end. OfInput w named (λ crd rules b. Converses crd rules turns w.start b w.written_before w.written end))
+    (λ end. OfTexts w named (λ crd rules. Paces crd rules turns w.start (streams_of w) end)) (InputFails w) (OutputFails w) (HasHandedOn w) s
     ⊎ (IsUnheld (FilesFail w) s × (InputStays w) × (OutputStays w))
 pipe_held w named turns s (talked loaded held) = inl held
 pipe_held w named turns s (unserved stopped input output) = inr (unheld w named s stopped, input, output.0)
+
+pub pipe_paced : {F S K A : Type 0} (w : World F S K A) (named : Named) (turns s : ℕ) (crd rules : List ℕ) → PipeOutcome w named turns s → Texts w.file named crd rules
+    → ((end : PipeEnd) × (s ≡ pipe_status end) × Paces crd rules turns w.start (streams_of w) end) ⊎ ((InputStays w) × (OutputStays w))
+pipe_paced w named turns s crd rules (talked loaded held) texts = inl (held.end, held.is_status, held.paced crd rules texts)
+pipe_paced w named turns s crd rules (unserved stopped input output) texts = inr (input, output.0)
 
 pub handed_end : (end : PipeEnd) (s : ℕ) (handed_on : Type 0) → s ≡ pipe_status end → UnlessUnwritten (link_end end) handed_on → s ≢ WRITE_FAILED → handed_on
 handed_end Closed s handed_on is h other = h

@@ -5,10 +5,11 @@ ghost use Rattle.http_wire.specs.Stream.{Asks, End};
 ghost use Rattle.http_wire.specs.declared.limits.TheConstants.{MOST_REQUESTS};
 ghost use Rattle.command_lines.specs.Lines.{Named, pipe};
 ghost use Rattle.kubeconv_cmd.specs.Texts.{Texts};
-ghost use Rattle.kubeconv_cmd.specs.Outcome.{HasHandedOn, OfInput, Outcome, World, FilesFail, InputFails, OutputFails, InputStays, OutputStays};
+ghost use Rattle.kubeconv_cmd.specs.Outcome.{HasHandedOn, OfInput, OfTexts, Outcome, World, FilesFail, InputFails, OutputFails, InputStays, OutputStays, streams_of};
 ghost use Rattle.kubeconv_cmd.specs.Refusal.{IsServed};
-ghost use Rattle.kubeconv_cmd.specs.Serving.{Converses, WasHeld};
-ghost use Rattle.kubeconv_cmd.specs.Status.{status_of};
+ghost use Rattle.kubeconv_cmd.specs.Serving.{Converses, Paces, WasHeld};
+ghost use Rattle.kubeconv_cmd.specs.Status.{pipe_status, status_of};
+ghost use Rattle.kubeconv_cmd.specs.declared.pipe.PipeEnd.{PipeEnd};
 ghost use Rattle.kubeconv_cmd.specs.declared.pipe.PipeEnd.TheVariants.{ReadFault as ReadFaulted, WriteFault as WriteFaulted};
 ghost use Rattle.kubeconv_cmd.specs.declared.status.TheConstants.{BAD_INPUT, NO_MEMORY, READ_FAILED, WRITE_FAILED};
 ghost use Rattle.run_laws.specs.Ran.{IsUnheld};
@@ -19,8 +20,12 @@ use http_wire::laws::one_reading;
 pub fn whatever_fails<F, S, K, A>()
     // A conversation was held to some end, and the status is that of the end; or none was held, and nothing was read of the input or written.
     ensures held { (w : World F S K A) (named : Named) (turns status : ℕ) → Outcome w (pipe named turns) status
-        → WasHeld (λ end. OfInput w named (λ crd rules b. Converses crd rules turns w.start b w.written_before w.written end)) (InputFails w) (OutputFails w) (HasHandedOn w) status
+        → WasHeld (λ end. OfInput w named (λ crd rules b. Converses crd rules turns w.start b w.written_before w.written end))
+        (λ end. OfTexts w named (λ crd rules. Paces crd rules turns w.start (streams_of w) end)) (InputFails w) (OutputFails w) (HasHandedOn w) status
         ⊎ (IsUnheld (FilesFail w) status × (InputStays w) × (OutputStays w)) }
+    // Each request was answered and its answer handed on before anything was read but what came with it; or no conversation was held.
+    ensures paced { (w : World F S K A) (named : Named) (turns status : ℕ) (crd rules : List ℕ) → Outcome w (pipe named turns) status → Texts w.file named crd rules
+        → ((end : PipeEnd) × (status ≡ pipe_status end) × Paces crd rules turns w.start (streams_of w) end) ⊎ ((InputStays w) × (OutputStays w)) }
     // A fault of reading is one of the files, with nothing read or written, or comes behind the answers to the first requests;
     // one of writing comes behind those and a front of one more response.
     ensures unread { (w : World F S K A) (named : Named) (turns status : ℕ) (crd rules b : List ℕ) → Outcome w (pipe named turns) status → Texts w.file named crd rules → w.input ≡ Some b → status ≡ READ_FAILED

@@ -1,5 +1,5 @@
 -- A worker's item moves only numbers, and a marked migration is of the storage version.
-use Rattle.std.proofs.Common.{◌≡◌, ◌∙◌, ◌+◌, refl, sym, ap, subst, inl, inr, ℕ, Bool, true, false, List, [], ◌∷◌, ◌++◌, Option, None, Some, length, append_assoc}
+use Rattle.std.proofs.Common.{◌≡◌, ◌∙◌, ◌+◌, ◌<◌, ◌≤◌, arith, refl, sym, ap, subst, inl, inr, ℕ, Bool, true, false, List, [], ◌∷◌, ◌++◌, Option, None, Some, length, append_assoc}
 use Rattle.std.specs.Prelude.{◌⊎◌, if◌then◌else◌}
 use Rattle.std.specs.Ordering.{match_ordering}
 use Rattle.std.specs.declared.cmp.Ordering.{Ordering}
@@ -20,7 +20,7 @@ use Rattle.api_calls.specs.State.{State, effect, next_number, opening, revision,
 use Rattle.api_calls.specs.Work.{Turn, Work, idle_turn, whole_turn, work_of, work_turn}
 use Rattle.api_calls.proofs.Parts.{legal_from-append}
 use Rattle.api_calls.proofs.Standing.{succeeded-all}
-use Rattle.serve_spans.specs.Owners.{At, IsWork, IsWorkIf, Within}
+use Rattle.serve_spans.specs.Owners.{At, IsOfWorker, IsWork, IsWorkIf, Within}
 use Rattle.serve_spans.specs.Spans.{Span}
 use Rattle.kubeconv_cmd.specs.Serving.{At as Place, TakesTurn, turn_at}
 use Rattle.serve_laws.specs.Moves.{AreMoved, MovesNumbers}
@@ -56,14 +56,25 @@ worked n (entry (StartMigration name)) s w = absurd w
 
 -- an item that is of none of the spans is a worker's
 pub moves-in : (m : Meaning) (log before after : List Logged) (spans : List Span) (x : Logged) → log ≡ before ++ x ∷ after → (Within spans (length before) x → ⊥)
-    → ((i : ℕ) (y : Logged) → At log i y → Within spans i y ⊎ IsWork y.item) → MovesNumbers (state m (items before)) (state m (items before ++ x.item ∷ []))
-moves-in m log before after spans x is outside owned =
+    → (number : Option ℕ) (asked : ℕ) (workers : List ℕ) → ((i : ℕ) (y : Logged) → At log i y → Within spans i y ⊎ IsOfWorker number asked workers y)
+    → MovesNumbers (state m (items before)) (state m (items before ++ x.item ∷ []))
+moves-in m log before after spans x is outside number asked workers owned =
     subst (λ (s : State). MovesNumbers (state m (items before)) s) (sym (state-more m (items before) x.item))
     (worked (next_number (items before)) x.item (state m (items before)) (by (owned (length before) x (before, after, is, refl))))
   where
-    by : Within spans (length before) x ⊎ IsWork x.item → IsWork x.item
+    by : Within spans (length before) x ⊎ IsOfWorker number asked workers x → IsWork x.item
     by (inl w) = absurd (outside w)
-    by (inr w) = w
+    by (inr w) = w.0
+
+-- where no workers were asked for there is none
+pub none-works : (spans : List Span) (number : Option ℕ) (workers : List ℕ) (i : ℕ) (x : Logged) → length workers ≤ 0 → Within spans i x ⊎ IsOfWorker number 0 workers x → Within spans i x
+none-works spans number workers i x few (inl w) = w
+none-works spans number [] i x few (inr w) = absurd (nobody w.1)
+  where
+    nobody : ⊥ ⊎ ((number ≡ Some x.by) × (0 < 0)) → ⊥
+    nobody (inl none) = none
+    nobody (inr none) = let lt = none.1 in omega arith
+none-works spans number (m ∷ ms) i x few (inr w) = absurd (omega (arith, few))
 
 -- the guard of the mark names the migration, and the law of a success holds of the part of the list up to there
 pub stands-in : (m : Meaning) (limits : Limits) (log before after later : List Item) → legal m limits log → log ≡ before ++ entry MarkSucceeded ∷ (after ++ later)

@@ -12,7 +12,7 @@ ghost use Rattle.api_calls.specs.LegalLists.{KeepsStorage};
 ghost use Rattle.api_calls.specs.Legal.{Each};
 ghost use Rattle.api_calls.specs.State.{state};
 ghost use Rattle.edge_io.specs.Connections.{Ending, Origin};
-ghost use Rattle.serve_spans.specs.Owners.{Within};
+ghost use Rattle.serve_spans.specs.Owners.{At as StandsAt, Within};
 ghost use Rattle.crd_loading.specs.View.{LoadedView};
 ghost use Rattle.kubeconv_cmd.specs.Beside.{ServesAll};
 ghost use Rattle.kubeconv_cmd.specs.Serving.{At, Converses, Start, TakesTurn, front_of, served_meaning};
@@ -25,17 +25,23 @@ pub mod converting;
 /// most, with the version at which it is stored. No value changes, no object comes or goes, and the flags and the stored versions
 /// stay.
 pub fn moves_only_numbers()
-    ensures { (crd rules : List ℕ) (start : Start) (count : ℕ) (h0 handed : Option (List Origin)) (g0 given : Option (List Ending))
-        → (s : ServesAll crd rules start count h0 handed g0 given) (before after : List Logged) (x : Logged)
+    ensures { (crd rules : List ℕ) (start : Start) (asked count : ℕ) (h0 handed : Option (List Origin)) (g0 given : Option (List Ending))
+        → (s : ServesAll crd rules start asked count h0 handed g0 given) (before after : List Logged) (x : Logged)
         → s.answered.log ≡ before ++ x ∷ after → ¬ (Within s.answered.spans (length before) x)
         → MovesNumbers (state (served_meaning s.loaded) (items before)) (state (served_meaning s.loaded) (items before ++ x.item ∷ [])) }
+{}
+
+/// Where the words ask for no workers, each item was entered by a connection's request.
+pub fn all_is_requested()
+    ensures { (crd rules : List ℕ) (start : Start) (count : ℕ) (h0 handed : Option (List Origin)) (g0 given : Option (List Ending))
+        → (s : ServesAll crd rules start 0 count h0 handed g0 given) (i : ℕ) (x : Logged) → StandsAt s.answered.log i x → Within s.answered.spans i x }
 {}
 
 /// A migration that is marked Succeeded while connections are answered is of the storage version, and from then on each object
 /// stands there until the storage version changes, even if it changes back.
 pub fn stands_at_the_target()
-    ensures { (crd rules : List ℕ) (start : Start) (count : ℕ) (h0 handed : Option (List Origin)) (g0 given : Option (List Ending))
-        → (s : ServesAll crd rules start count h0 handed g0 given) (before after later : List Item)
+    ensures { (crd rules : List ℕ) (start : Start) (asked count : ℕ) (h0 handed : Option (List Origin)) (g0 given : Option (List Ending))
+        → (s : ServesAll crd rules start asked count h0 handed g0 given) (before after later : List Item)
         → items s.answered.log ≡ before ++ entry MarkSucceeded ∷ (after ++ later)
         → (m : Migration) × (running (state (served_meaning s.loaded) before).migrations ≡ Some m) × (m.target ≡ (state (served_meaning s.loaded) before).flags.storage)
         × (Each (KeepsStorage m.target) after → Each (λ e. e.at ≡ m.target) (state (served_meaning s.loaded) (before ++ entry MarkSucceeded ∷ after)).objects) }

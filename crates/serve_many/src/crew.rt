@@ -151,9 +151,9 @@ where
     ensures of { IsOf V.meaning api.now pass.new }
     ensures crew { All (λ h. IsOf V.meaning api.now h.running.handle.promise.job.value.pass) crew.new.items }
     ensures room { (vec_len crew.new ≤ vec_len crew.old + 1) × (vec_capacity crew.new ≡ vec_capacity crew.old) }
-    ensures going { (told : Option (List ℕ)) (n : ℕ) (v0 : View (CoreBase V)) (h0 : Option (List Origin)) (g0 : Option (List Ending)) (jobs : List (Job (CoreBase V))) (count : ℕ) (handed : Option (List Origin)) (given : Option (List Ending))
-        → Going (IsAnswered V.Tool.faults (front_of V.meaning api.now.base told)) n v0 h0 g0 (map (λ h. h.running.handle.promise.job.value.pass.view) crew.old.items) jobs pass.old.view count handed given
-        → Going (IsAnswered V.Tool.faults (front_of V.meaning api.now.base told)) n v0 h0 g0 (map (λ h. h.running.handle.promise.job.value.pass.view) crew.new.items) jobs pass.new.view count handed given }
+    ensures going { (told : Option (List ℕ)) (n asked : ℕ) (v0 : View (CoreBase V)) (h0 : Option (List Origin)) (g0 : Option (List Ending)) (jobs : List (Job (CoreBase V))) (count : ℕ) (handed : Option (List Origin)) (given : Option (List Ending))
+        → Going (IsAnswered V.Tool.faults (front_of V.meaning api.now.base told)) n asked v0 h0 g0 (map (λ h. h.running.handle.promise.job.value.pass.view) crew.old.items) jobs pass.old.view count handed given
+        → Going (IsAnswered V.Tool.faults (front_of V.meaning api.now.base told)) n (asked + 1) v0 h0 g0 (map (λ h. h.running.handle.promise.job.value.pass.view) crew.new.items) jobs pass.new.view count handed given }
 {
     let Ok((shut, theirs)) = two_flags(alloc) else {
         return false;
@@ -203,10 +203,11 @@ where
     requires of { IsOf V.meaning api.now pass.old }
     requires room { (crew.old.items ≡ []) × (workers ≤ vec_capacity crew.old) }
     ensures of { IsOf V.meaning api.now pass.new }
+    ensures idle { result ≤ workers }
     ensures crew { All (λ h. IsOf V.meaning api.now h.running.handle.promise.job.value.pass) crew.new.items }
     ensures going { (told : Option (List ℕ)) (n : ℕ) (v0 : View (CoreBase V)) (h0 : Option (List Origin)) (g0 : Option (List Ending)) (jobs : List (Job (CoreBase V))) (count : ℕ) (handed : Option (List Origin)) (given : Option (List Ending))
-        → Going (IsAnswered V.Tool.faults (front_of V.meaning api.now.base told)) n v0 h0 g0 [] jobs pass.old.view count handed given
-        → Going (IsAnswered V.Tool.faults (front_of V.meaning api.now.base told)) n v0 h0 g0 (map (λ h. h.running.handle.promise.job.value.pass.view) crew.new.items) jobs pass.new.view count handed given }
+        → Going (IsAnswered V.Tool.faults (front_of V.meaning api.now.base told)) n 0 v0 h0 g0 [] jobs pass.old.view count handed given
+        → Going (IsAnswered V.Tool.faults (front_of V.meaning api.now.base told)) n workers v0 h0 g0 (map (λ h. h.running.handle.promise.job.value.pass.view) crew.new.items) jobs pass.new.view count handed given }
 {
     let mut idle = 0;
     for _i in 0..workers {
@@ -243,9 +244,9 @@ pub(crate) fn dismiss<V: Versions + Drop, G: PatientGate + Drop, R: Threads>(
     requires of { IsOf V.meaning api.now pass.old }
     requires crew { All (λ h. IsOf V.meaning api.now h.running.handle.promise.job.value.pass) crew.items }
     ensures of { IsOf V.meaning api.now pass.new }
-    ensures going { (told : Option (List ℕ)) (n : ℕ) (v0 : View (CoreBase V)) (h0 : Option (List Origin)) (g0 : Option (List Ending)) (jobs : List (Job (CoreBase V))) (count : ℕ) (handed : Option (List Origin)) (given : Option (List Ending))
-        → Going (IsAnswered V.Tool.faults (front_of V.meaning api.now.base told)) n v0 h0 g0 (map (λ h. h.running.handle.promise.job.value.pass.view) crew.items) jobs pass.old.view count handed given
-        → Going (IsAnswered V.Tool.faults (front_of V.meaning api.now.base told)) n v0 h0 g0 [] jobs pass.new.view count handed given }
+    ensures going { (told : Option (List ℕ)) (n asked : ℕ) (v0 : View (CoreBase V)) (h0 : Option (List Origin)) (g0 : Option (List Ending)) (jobs : List (Job (CoreBase V))) (count : ℕ) (handed : Option (List Origin)) (given : Option (List Ending))
+        → Going (IsAnswered V.Tool.faults (front_of V.meaning api.now.base told)) n asked v0 h0 g0 (map (λ h. h.running.handle.promise.job.value.pass.view) crew.items) jobs pass.old.view count handed given
+        → Going (IsAnswered V.Tool.faults (front_of V.meaning api.now.base told)) n asked v0 h0 g0 [] jobs pass.new.view count handed given }
 {
     for hired in &crew {
         hired.close();

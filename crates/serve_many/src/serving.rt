@@ -60,7 +60,7 @@ where
     ensures memory { IfErr result (λ _. (ears.new ≡ ears.old) × (pass.new ≡ pass.old)) }
     ensures served { IfOk result (λ done. (n : ℕ) → pass.old.view.number ≡ Some n
         → (count : ℕ) × MatchBool done (connections ≡ Some count) (IfSome connections (λ k. count < k))
-        × ServedAll (IsAnswered V.Tool.faults (front_of V.meaning api.now.base (C.told clock.now))) pass.old.view pass.new.view count (A.origins ears.old) (A.origins ears.new) (A.returned ears.old) (A.returned ears.new)) }
+        × ServedAll (IsAnswered V.Tool.faults (front_of V.meaning api.now.base (C.told clock.now))) workers pass.old.view pass.new.view count (A.origins ears.old) (A.origins ears.new) (A.returned ears.old) (A.returned ears.new)) }
 {
     let mut crew: Vec<HiredHere<'s, V, R>> = Vec::with_capacity(alloc, workers)?;
     let mut running: Vec<Link<'s, V, A, C>> = match Vec::with_capacity(alloc, MOST_RUNNING) {
@@ -116,7 +116,7 @@ where
     ensures memory { IfErr result (λ _. (ears.new ≡ ears.old) × (pass.new ≡ pass.old)) }
     ensures served { IfOk result (λ done. (n : ℕ) → pass.old.view.number ≡ Some n
         → (count : ℕ) × MatchBool done (connections ≡ Some count) (IfSome connections (λ k. count < k))
-        × ServedAll (IsAnswered V.Tool.faults (front_of V.meaning api.now.base (C.told clock.now))) pass.old.view pass.new.view count (A.origins ears.old) (A.origins ears.new) (A.returned ears.old) (A.returned ears.new)) }
+        × ServedAll (IsAnswered V.Tool.faults (front_of V.meaning api.now.base (C.told clock.now))) workers pass.old.view pass.new.view count (A.origins ears.old) (A.origins ears.new) (A.returned ears.old) (A.returned ears.new)) }
 {
     let own = &mut *pass;
     let heard = &mut *ears;
@@ -132,7 +132,7 @@ where
             ensures memory { IfErr result.0 (λ _. (result.2.now ≡ heard.entry.now) × (result.1.now ≡ own.entry.now)) }
             ensures served { IfOk result.0 (λ done. (n : ℕ) → own.entry.now.view.number ≡ Some n
                 → (count : ℕ) × MatchBool done (connections ≡ Some count) (IfSome connections (λ k. count < k))
-                × ServedAll (IsAnswered V.Tool.faults (front_of V.meaning api.entry.now.base (C.told clock.entry.now))) own.entry.now.view result.1.now.view count (A.origins heard.entry.now) (A.origins result.2.now) (A.returned heard.entry.now) (A.returned result.2.now)) }
+                × ServedAll (IsAnswered V.Tool.faults (front_of V.meaning api.entry.now.base (C.told clock.entry.now))) workers own.entry.now.view result.1.now.view count (A.origins heard.entry.now) (A.origins result.2.now) (A.returned heard.entry.now) (A.returned result.2.now)) }
         {
             let end = serve_in(
                 rt,
@@ -185,10 +185,11 @@ where
     requires workers { workers ≤ 15 }
     ensures of { IsOf V.meaning api.now pass.new }
     // Each connection that was handed out was served in a span of the list and given back. `Done` is where they were as many as
-    // were asked for, and at `EarsFault` they were fewer.
+    // were asked for, and at `EarsFault` they were fewer. What no connection entered is of so many workers at most, with a pass each, or of the
+    // pass that accepts, where there are any.
     ensures served { UnlessNoMemory result ((n : ℕ) → pass.old.view.number ≡ Some n
         → (count : ℕ) × EndsAt result connections count
-        × ServedAll (IsAnswered V.Tool.faults (front_of V.meaning api.now.base (C.told clock.now))) pass.old.view pass.new.view count (A.origins ears.old) (A.origins ears.new) (A.returned ears.old) (A.returned ears.new)) }
+        × ServedAll (IsAnswered V.Tool.faults (front_of V.meaning api.now.base (C.told clock.now))) workers pass.old.view pass.new.view count (A.origins ears.old) (A.origins ears.new) (A.returned ears.old) (A.returned ears.new)) }
     // A fault comes only where the ears' count rose, and without memory nothing was done.
     ensures blames { ServeBlames result (Rose (A.faults ears.old) (A.faults ears.new)) ((ears.new ≡ ears.old) × (pass.new ≡ pass.old)) }
 {

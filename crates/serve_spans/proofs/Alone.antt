@@ -136,32 +136,40 @@ in_dec n (m ∷ ms) = go (ℕ_discrete n m) (in_dec n ms)
     go (no ne) rest =
         ⊎_elim (λ (a : In n ms). inl (inr a)) (λ (f : In n ms → ⊥). inr (λ (h : In n (m ∷ ms)). ⊎_elim (λ (e : n ≡ m). ne e) (λ (a : In n ms). f a) h)) rest
 
-module _ {B : Type 0} (v0 : View B) where
-  pub cover_starts : IsCovering v0 v0 []
+module _ {B : Type 0} (Works : Logged → Type 0) (v0 : View B) where
+  pub cover_starts : IsCovering Works v0 v0 []
   cover_starts = record {
     covered = λ i x at le own. absurd (let lt = at_within v0.seen i x at in omega arith);
     only = λ a0 a m out. refl;
   }
 
-  pub cover_same : (v u : View B) (ss : List Span) → IsCovering v0 v ss → numbers_of u ≡ numbers_of v → u.seen ≡ v.seen → (IsAlone v0 → IsAlone u → ⊥) → IsCovering v0 u ss
+  pub cover_same : (v u : View B) (ss : List Span) → IsCovering Works v0 v ss → numbers_of u ≡ numbers_of v → u.seen ≡ v.seen → (IsAlone v0 → IsAlone u → ⊥) → IsCovering Works v0 u ss
   cover_same v u ss h numbers seen more = record {
     covered = λ i x at le own. h.covered i x (subst (λ (k : List Logged). At k i x) seen at) le (subst (λ (ns : List ℕ). In x.by ns) numbers own);
     only = λ a0 a m out. absurd (more a0 a);
   }
 
+  -- more are workers' items
+  pub cover_more : (More : Logged → Type 0) (v : View B) (ss : List Span) → IsCovering Works v0 v ss → ((x : Logged) → Works x → More x) → IsCovering More v0 v ss
+  cover_more More v ss h more = record {
+    covered = λ i x at le own. ⊎_elim (λ (c : Within ss i x). inl c) (λ (c : Works x). inr (more x c)) (h.covered i x at le own);
+    only = h.only;
+  }
+
   -- a pass that was made after v0 was met into v, which is u
-  pub cover_met : (v p w u : View B) (n m : ℕ) (ss ss' : List Span) → IsCovering v0 v ss → v.number ≡ Some n → IsPrefix v0.seen v.seen
+  pub cover_met : (More : Logged → Type 0) (v p w u : View B) (n m : ℕ) (ss ss' : List Span) → IsCovering Works v0 v ss → v.number ≡ Some n → IsPrefix v0.seen v.seen
       → p.number ≡ Some m → p.met ≡ [] → items_of m p.seen ≡ [] → IsSameBut p w → IsPrefix p.seen w.seen → Meets v w u
       → ((i : ℕ) (x : Logged) → Within ss i x → Within ss' i x)
-      → ((i : ℕ) (x : Logged) → At w.seen i x → length p.seen ≤ i → x.by ≡ m → Within ss' i x ⊎ IsWork x.item)
-      → IsCovering v0 u ss'
-  cover_met v p w u n m ss ss' h vn grows named unmet fresh same up met mono own =
+      → ((x : Logged) → Works x → More x)
+      → ((i : ℕ) (x : Logged) → At w.seen i x → length p.seen ≤ i → x.by ≡ m → Within ss' i x ⊎ More x)
+      → IsCovering More v0 u ss'
+  cover_met More v p w u n m ss ss' h vn grows named unmet fresh same up met mono more own =
       let numbers_w : numbers_of w ≡ m ∷ [] = ap (λ (q : View B). numbers_of q) same ∙ (λ i. numbers_or (named i) (unmet i)) in
       let numbers : numbers_of u ≡ numbers_of v ++ numbers_of w = ap (λ (q : View B). numbers_of q) met.0 ∙ numbers_met v w n vn in
       record {
         covered = λ i x at le inside.
             ⊎_elim (λ (a : In x.by (numbers_of v)).
-            ⊎_elim (λ (c : Within ss i x). inl (mono i x c)) (λ (c : IsWork x.item). inr c) (h.covered i x (at_old v.seen u.seen i x met.1.0 (met.1.3 x.by a) at) le a))
+            ⊎_elim (λ (c : Within ss i x). inl (mono i x c)) (λ (c : Works x). inr (more x c)) (h.covered i x (at_old v.seen u.seen i x met.1.0 (met.1.3 x.by a) at) le a))
             (λ (a : In x.by (numbers_of w)).
             let by : x.by ≡ m = ⊎_elim (λ (e : x.by ≡ m). e) (λ (f : ⊥). absurd f) (subst (λ (ns : List ℕ). In x.by ns) numbers_w a) in
             let at_w : At w.seen i x = at_old w.seen u.seen i x met.1.1 (met.1.4 x.by a) at in
@@ -174,16 +182,16 @@ module _ {B : Type 0} (v0 : View B) where
       }
 
   -- the pass v itself served a connection, in a span s of that, and is z
-  pub cover_here : (v z : View B) (n : ℕ) (ss : List Span) (s : Span) → IsCovering v0 v ss → v.number ≡ Some n → IsSameBut v z → IsPrefix v.seen z.seen → Quiet n v z
+  pub cover_here : (v z : View B) (n : ℕ) (ss : List Span) (s : Span) → IsCovering Works v0 v ss → v.number ≡ Some n → IsSameBut v z → IsPrefix v.seen z.seen → Quiet n v z
       → s.from ≡ length v.seen → s.to ≡ length z.seen → s.number ≡ n
-      → IsCovering v0 z (ss ++ s ∷ [])
+      → IsCovering Works v0 z (ss ++ s ∷ [])
   cover_here v z n ss s h named same up quiet from to of =
       let numbers : numbers_of z ≡ numbers_of v = ap (λ (q : View B). numbers_of q) same in
       let number : z.number ≡ Some n = ap (λ (q : View B). q.number) same ∙ named in
       record {
         covered = λ i x at le inside.
             ⊎_elim (λ (lt : i < length v.seen).
-            ⊎_elim (λ (c : Within ss i x). inl (within_front ss s i x c)) (λ (c : IsWork x.item). inr c)
+            ⊎_elim (λ (c : Within ss i x). inl (within_front ss s i x c)) (λ (c : Works x). inr c)
             (h.covered i x (at_front v.seen z.seen i x up lt at) le (subst (λ (ns : List ℕ). In x.by ns) numbers inside)))
             (λ (ge : length v.seen ≤ i). new i x at ge (subst (λ (ns : List ℕ). In x.by ns) numbers inside) (ℕ_discrete x.by n))
             (lt_or i (length v.seen));
@@ -193,13 +201,13 @@ module _ {B : Type 0} (v0 : View B) where
       }
     where
       new : (i : ℕ) (x : Logged) → At z.seen i x → length v.seen ≤ i → In x.by (numbers_of v) → Dec (x.by ≡ n)
-          → Within (ss ++ s ∷ []) i x ⊎ IsWork x.item
+          → Within (ss ++ s ∷ []) i x ⊎ Works x
       new i x at ge inside (yes e) = let lt = at_within z.seen i x at in inl (within_last ss s i x (e ∙ sym of) (omega arith) (omega arith))
       new i x at ge inside (no ne) = absurd (let lt = at_within v.seen i x (at_old v.seen z.seen i x up (quiet x.by ne (inl inside)) at) in omega arith)
 
   -- the pass v itself took a worker's turns, and is z
-  pub cover_works : (v z : View B) (n : ℕ) (ss : List Span) → IsCovering v0 v ss → v.number ≡ Some n → TakesTurns n v z → IsCovering v0 z ss
-  cover_works v z n ss h named turns =
+  pub cover_works : (v z : View B) (n : ℕ) (ss : List Span) → IsCovering Works v0 v ss → v.number ≡ Some n → TakesTurns n v z → ((x : Logged) → IsWork x.item → x.by ≡ n → Works x) → IsCovering Works v0 z ss
+  cover_works v z n ss h named turns theirs =
       let same = turns.same in
       let numbers : numbers_of z ≡ numbers_of v = ap (λ (q : View B). numbers_of q) same in
       let number : z.number ≡ Some n = ap (λ (q : View B). q.number) same ∙ named in
@@ -212,13 +220,13 @@ module _ {B : Type 0} (v0 : View B) where
             turns.quiet m (λ e. out (subst (λ (k : ℕ). In k (numbers_of z)) (sym e) (number_in z n number))) (inr alone) ∙ h.only a0 alone m (λ k. out (subst (λ (ns : List ℕ). In m ns) (sym numbers) k));
       }
     where
-      new : (i : ℕ) (x : Logged) → At z.seen i x → length v.seen ≤ i → In x.by (numbers_of v) → Dec (x.by ≡ n) → Within ss i x ⊎ IsWork x.item
-      new i x at ge inside (yes e) = inr (turns.work i x at ge e)
+      new : (i : ℕ) (x : Logged) → At z.seen i x → length v.seen ≤ i → In x.by (numbers_of v) → Dec (x.by ≡ n) → Within ss i x ⊎ Works x
+      new i x at ge inside (yes e) = inr (theirs x (turns.work i x at ge e) e)
       new i x at ge inside (no ne) = absurd (let lt = at_within v.seen i x (at_old v.seen z.seen i x turns.grows (turns.quiet x.by ne (inl inside)) at) in omega arith)
 
   -- where both are alone, nothing else was added
-  pub cover_all : (v : View B) (ss : List Span) → IsCovering v0 v ss → IsPrefix v0.seen v.seen → IsAlone v0 → IsAlone v → (i : ℕ) (x : Logged) → At v.seen i x → length v0.seen ≤ i
-      → Within ss i x ⊎ IsWork x.item
+  pub cover_all : (v : View B) (ss : List Span) → IsCovering Works v0 v ss → IsPrefix v0.seen v.seen → IsAlone v0 → IsAlone v → (i : ℕ) (x : Logged) → At v.seen i x → length v0.seen ≤ i
+      → Within ss i x ⊎ Works x
   cover_all v ss h grows a0 a i x at le =
       ⊎_elim (λ (own : In x.by (numbers_of v)). h.covered i x at le own)
       (λ (out : In x.by (numbers_of v) → ⊥). absurd (let lt = at_within v0.seen i x (at_old v0.seen v.seen i x grows (h.only a0 a x.by out) at) in omega arith))

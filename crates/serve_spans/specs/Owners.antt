@@ -2,6 +2,7 @@
 use Rattle.std.specs.Prelude.{ℕ, ◌≡◌, ◌<◌, ◌≤◌, ◌⊎◌, List, [], ◌∷◌, ◌++◌, length, Option, None, Some}
 use mathlib.Core.List.{IsPrefix}
 use Rattle.api_calls.specs.Item.{Logged, Item, entry, note, Create, Replace, Mark, Release, Touch, Delete, SetVersions, Trim, StartMigration, MarkSucceeded}
+use Rattle.turn_cell.specs.Numbers.{In}
 use Rattle.turn_cell.specs.declared.view.View.{View}
 use Rattle.serve_spans.specs.Spans.{Span, IsSameBut, Quiet}
 
@@ -32,6 +33,11 @@ IsWork (entry (StartMigration name)) = ⊥
 abbrev pub IsWorkIf : Option Item → Type 0
 IsWorkIf None = Unit {0}
 IsWorkIf (Some i) = IsWork i
+
+-- The item is a worker's: of a pass of one of these numbers; or of the pass of that one number, where so many workers were asked for that
+-- there is one.
+abbrev pub IsOfWorker : Option ℕ → ℕ → List ℕ → Logged → Type 0
+IsOfWorker number asked workers x = IsWork x.item × (In x.by workers ⊎ ((number ≡ Some x.by) × (0 < asked)))
 
 -- each item of the pass m behind p is a worker's
 abbrev pub AreWork : ℕ → List Logged → List Logged → Type 0

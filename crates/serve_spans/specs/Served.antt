@@ -7,7 +7,7 @@ use Rattle.turn_cell.specs.Views.{IsAlone, numbers_of}
 use Rattle.turn_cell.specs.declared.view.Share.{Share}
 use Rattle.turn_cell.specs.declared.view.View.{View}
 use Rattle.serve_spans.specs.Spans.{Service, Span, AllServed, AreApart, AreLate, AreOf}
-use Rattle.serve_spans.specs.Owners.{At, Within, IsWork}
+use Rattle.serve_spans.specs.Owners.{At, Within, IsOfWorker}
 
 abbrev pub Among : {X : Type 0} → X → List X → Type 0
 Among x [] = ⊥
@@ -28,8 +28,8 @@ AddsAll before endings now = (xs : List Ending) → before ≡ Some xs → now �
 abbrev pub IsSamePart : Share → Share → Type 0
 IsSamePart a b = a.top * 2 ^ b.halves ≡ b.top * 2 ^ a.halves
 
--- So many connections were handed out, and all were given back. The pass was v0, whose number is n, and is v.
-pub record ServedAll {B : Type 0} (Serves : Service) (v0 v : View B) (count : ℕ) (h0 handed : Option (List Origin)) (g0 given : Option (List Ending)) : Type 0 where
+-- So many connections were handed out, and all were given back, with so many workers asked for beside them. The pass was v0, and is v.
+pub record ServedAll {B : Type 0} (Serves : Service) (asked : ℕ) (v0 v : View B) (count : ℕ) (h0 handed : Option (List Origin)) (g0 given : Option (List Ending)) : Type 0 where
   pub origins : List (Option Origin)
   pub endings : List Ending
   pub spans : List Span
@@ -47,5 +47,9 @@ pub record ServedAll {B : Type 0} (Serves : Service) (v0 v : View B) (count : �
   pub apart : AreApart spans
   -- it was served by this pass, or by one that was met into it
   pub met : AreOf (numbers_of v) spans
-  -- where the pass was alone it is alone again, and all that is new stands in a span of its pass or is a worker's
-  pub alone : IsAlone v0 → IsAlone v × ((i : ℕ) (x : Logged) → At v.seen i x → length v0.seen ≤ i → Within spans i x ⊎ IsWork x.item)
+  -- the numbers of the workers' passes, which are no more than were asked for
+  pub workers : List ℕ
+  pub few : length workers ≤ asked
+  -- where the pass was alone it is alone again, and all that is new stands in a span of its pass, or is a worker's: of one of these passes, or of
+  -- this pass, which takes the turns of workers without a thread
+  pub alone : IsAlone v0 → IsAlone v × ((i : ℕ) (x : Logged) → At v.seen i x → length v0.seen ≤ i → Within spans i x ⊎ IsOfWorker v0.number asked workers x)

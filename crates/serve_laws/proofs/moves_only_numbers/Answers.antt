@@ -1,7 +1,8 @@
+use Rattle.std.proofs.Common.{Some}
 use Rattle.kubeconv_cmd.specs.Serving.{served_meaning}
 use Rattle.serve_laws.proofs.Moving.{moves-in}
 use Rattle.serve_laws.proofs.moves_only_numbers.Goals as goal
 
 pub returns : goal.returns
-returns g = λ crd rules start count h0 handed g0 given s before after x is outside.
-    moves-in (served_meaning s.loaded) s.answered.log before after s.answered.spans x is outside s.answered.owned
+returns g = λ crd rules start asked count h0 handed g0 given s before after x is outside.
+    moves-in (served_meaning s.loaded) s.answered.log before after s.answered.spans x is outside (Some 0) asked s.answered.workers s.answered.owned

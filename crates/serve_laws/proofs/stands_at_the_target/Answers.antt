@@ -5,5 +5,5 @@ use Rattle.serve_laws.proofs.Moving.{stands-in}
 use Rattle.serve_laws.proofs.stands_at_the_target.Goals as goal
 
 pub returns : goal.returns
-returns g = λ crd rules start count h0 handed g0 given s before after later is.
+returns g = λ crd rules start asked count h0 handed g0 given s before after later is.
     stands-in (served_meaning s.loaded) STANDING (items s.answered.log) before after later s.answered.legal.guards is

@@ -8,7 +8,7 @@ use Rattle.turn_cell.specs.Rule.{parts_of}
 use Rattle.turn_cell.specs.Views.{IsAlone, numbers_of}
 use Rattle.turn_cell.specs.declared.view.View.{View}
 use Rattle.serve_spans.specs.Spans.{Service, Span, AllServed, AreApart, AreLate}
-use Rattle.serve_spans.specs.Owners.{At, Within, IsWork}
+use Rattle.serve_spans.specs.Owners.{At, Within, IsOfWorker}
 use Rattle.serve_spans.specs.Served.{Among, origins_of, HandsOutAll, AddsAll}
 
 -- the number of each span is one of these, and each ends by k
@@ -28,9 +28,9 @@ pub record IsServing {B : Type 0} (Serves : Service) (n : ℕ) (v0 : View B) (ou
   pub count : length hs ≡ length cs + length out
   pub each : (o : Option Origin) → Among o hs → Among o (origins_of cs) ⊎ Among o out
 
--- What the pass v has seen since it was v0: each item of a pass that was met into it stands in a span of its pass, or is a worker's. Where both are alone there are no others
-pub record IsCovering {B : Type 0} (v0 v : View B) (spans : List Span) : Type 0 where
-  pub covered : (i : ℕ) (x : Logged) → At v.seen i x → length v0.seen ≤ i → In x.by (numbers_of v) → Within spans i x ⊎ IsWork x.item
+-- What the pass v has seen since it was v0: each item of a pass that was met into it stands in a span of its pass, or is one of Works. Where both are alone there are no others
+pub record IsCovering {B : Type 0} (Works : Logged → Type 0) (v0 v : View B) (spans : List Span) : Type 0 where
+  pub covered : (i : ℕ) (x : Logged) → At v.seen i x → length v0.seen ≤ i → In x.by (numbers_of v) → Within spans i x ⊎ Works x
   pub only : IsAlone v0 → IsAlone v → (m : ℕ) → ¬ In m (numbers_of v) → items_of m v.seen ≡ items_of m v0.seen
 
 -- ---- shares
@@ -72,8 +72,8 @@ module _ {B : Type 0} where
   AllBegun v0 [] = Unit {0}
   AllBegun v0 (p ∷ ps) = IsBegun v0 p × AllBegun v0 ps
 
--- So many connections were handed out since the pass was v0, whose number is n. `crew` are the workers' passes, and `jobs` the connections that are still being served. The pass is v
-pub record Going {B : Type 0} (Serves : Service) (n : ℕ) (v0 : View B) (h0 : Option (List Origin)) (g0 : Option (List Ending))
+-- So many connections were handed out since the pass was v0, whose number is n, and so many workers were asked for. `crew` are the passes of workers that work, and `jobs` the connections that are still being served. The pass is v
+pub record Going {B : Type 0} (Serves : Service) (n asked : ℕ) (v0 : View B) (h0 : Option (List Origin)) (g0 : Option (List Ending))
     (crew : List (View B)) (jobs : List (Job B)) (v : View B) (count : ℕ) (handed : Option (List Origin)) (given : Option (List Ending)) : Type 0 where
   pub hs : List (Option Origin)
   pub cs : List Ending
@@ -82,6 +82,9 @@ pub record Going {B : Type 0} (Serves : Service) (n : ℕ) (v0 : View B) (h0 : O
   pub given_back : AddsAll g0 cs given
   pub counted : length hs ≡ count
   pub serving : IsServing Serves n v0 (out_of jobs) v hs cs spans
-  pub covering : IsCovering v0 v spans
+  -- the numbers of the passes of workers that are over
+  pub workers : List ℕ
+  pub few : length workers + length crew ≤ asked
+  pub covering : IsCovering (IsOfWorker (Some n) asked workers) v0 v spans
   pub begun : AllBegun v0 (views_of jobs ++ crew)
   pub shared : IsShared v0 v (views_of jobs ++ crew)

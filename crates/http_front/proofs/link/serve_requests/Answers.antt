@@ -2,7 +2,7 @@ use Rattle.std.proofs.Common.{◌∙◌, None, refl, arith, inl, inr}
 use Rattle.http_front.specs.Steps.{point_of}
 use Rattle.http_front.proofs.Calling.{quiet_on, same_number, same_on}
 use Rattle.http_front.specs.Paced.{none_yet, one_more}
-use Rattle.http_front.proofs.Pacing.{took, finished, quiet_hands}
+use Rattle.http_front.proofs.Pacing.{took, finished}
 use Rattle.http_front.proofs.Talking.{so_far_from, so_far_more, ended_so, ended_last, ended_spent, broke_reading, broke}
 use Rattle.http_front.proofs.link.serve_requests.Goals as goal
 
@@ -26,7 +26,7 @@ pub loop-count-preserved : goal.loop-count-preserved
 loop-count-preserved g c = record {
   of = c.in-Answered.ensures.of;
   so_far = λ n named. so_far_more _ _ _ _ _ _ _ _ _ _ _ (c.loop-count.invariant.so_far n named) (c.in-Answered.ensures.did n (same_number c.args.pass.now.view c.loop-count.pass.view n c.loop-count.invariant.same named));
-  paced = λ n named. one_more _ _ _ _ (c.loop-count.invariant.paced n named) (took g.S.Source.left g.S.Source.most (c.in-Answered.ensures.did n (same_number c.args.pass.now.view c.loop-count.pass.view n c.loop-count.invariant.same named))
+  paced = λ n named. one_more _ _ _ _ (c.loop-count.invariant.paced n named) (took g.S.Source.left g.K.Sink.written g.K.Sink.flushed g.S.Source.most (c.in-Answered.ensures.did n (same_number c.args.pass.now.view c.loop-count.pass.view n c.loop-count.invariant.same named))
       c.in-Answered.ensures.ready c.in-Answered.ensures.prompt c.in-Answered.ensures.flushed c.loop-count.invariant.most);
   most = c.in-Answered.ensures.most ∙ c.loop-count.invariant.most;
   same = same_on c.args.pass.now.view c.loop-count.pass.view c.serve_one.new.pass.view c.loop-count.invariant.same c.in-Answered.ensures.same;
@@ -131,37 +131,37 @@ returns-clause-flushed g c = c.loop-count.invariant.flushed
 pub returns-in-Last-clause-paced : goal.returns-in-Last-clause-paced
 returns-in-Last-clause-paced g c = λ n named.
     finished _ _ (c.loop-count.invariant.paced n named)
-    (inr (took g.S.Source.left g.S.Source.most (c.in-Last.ensures.did n (same_number c.args.pass.now.view c.loop-count.pass.view n c.loop-count.invariant.same named))
+    (inr (took g.S.Source.left g.K.Sink.written g.K.Sink.flushed g.S.Source.most (c.in-Last.ensures.did n (same_number c.args.pass.now.view c.loop-count.pass.view n c.loop-count.invariant.same named))
     c.in-Last.ensures.ready c.in-Last.ensures.prompt c.in-Last.ensures.flushed c.loop-count.invariant.most))
 
 pub returns-in-Closed-clause-paced : goal.returns-in-Closed-clause-paced
 returns-in-Closed-clause-paced g c = λ n named.
     finished _ _ (c.loop-count.invariant.paced n named)
-    (inl (took g.S.Source.left g.S.Source.most (c.in-Closed.ensures.did n (same_number c.args.pass.now.view c.loop-count.pass.view n c.loop-count.invariant.same named))
-    c.in-Closed.ensures.ready c.in-Closed.ensures.prompt (quiet_hands g.K.Sink.written g.K.Sink.flushed c.in-Closed.ensures.flushed) c.loop-count.invariant.most))
+    (inl (took g.S.Source.left g.K.Sink.written g.K.Sink.flushed g.S.Source.most (c.in-Closed.ensures.did n (same_number c.args.pass.now.view c.loop-count.pass.view n c.loop-count.invariant.same named))
+    c.in-Closed.ensures.ready c.in-Closed.ensures.prompt c.in-Closed.ensures.flushed c.loop-count.invariant.most))
 
 pub returns-in-Torn-clause-paced : goal.returns-in-Torn-clause-paced
 returns-in-Torn-clause-paced g c = λ n named.
     finished _ _ (c.loop-count.invariant.paced n named)
-    (took g.S.Source.left g.S.Source.most (c.in-Torn.ensures.did n (same_number c.args.pass.now.view c.loop-count.pass.view n c.loop-count.invariant.same named))
-    c.in-Torn.ensures.ready c.in-Torn.ensures.prompt (quiet_hands g.K.Sink.written g.K.Sink.flushed c.in-Torn.ensures.flushed) c.loop-count.invariant.most)
+    (took g.S.Source.left g.K.Sink.written g.K.Sink.flushed g.S.Source.most (c.in-Torn.ensures.did n (same_number c.args.pass.now.view c.loop-count.pass.view n c.loop-count.invariant.same named))
+    c.in-Torn.ensures.ready c.in-Torn.ensures.prompt c.in-Torn.ensures.flushed c.loop-count.invariant.most)
 
 pub returns-in-Refused-clause-paced : goal.returns-in-Refused-clause-paced
 returns-in-Refused-clause-paced g c = λ n named.
     finished _ _ (c.loop-count.invariant.paced n named)
-    (took g.S.Source.left g.S.Source.most (c.in-Refused.ensures.did n (same_number c.args.pass.now.view c.loop-count.pass.view n c.loop-count.invariant.same named))
+    (took g.S.Source.left g.K.Sink.written g.K.Sink.flushed g.S.Source.most (c.in-Refused.ensures.did n (same_number c.args.pass.now.view c.loop-count.pass.view n c.loop-count.invariant.same named))
     c.in-Refused.ensures.ready c.in-Refused.ensures.prompt c.in-Refused.ensures.flushed c.loop-count.invariant.most)
 
 pub returns-in-ReadFault-clause-paced : goal.returns-in-ReadFault-clause-paced
 returns-in-ReadFault-clause-paced g c = λ n named.
     finished _ _ (c.loop-count.invariant.paced n named)
-    (took g.S.Source.left g.S.Source.most (c.in-ReadFault.ensures.did n (same_number c.args.pass.now.view c.loop-count.pass.view n c.loop-count.invariant.same named))
-    c.in-ReadFault.ensures.ready c.in-ReadFault.ensures.prompt (quiet_hands g.K.Sink.written g.K.Sink.flushed c.in-ReadFault.ensures.flushed) c.loop-count.invariant.most)
+    (took g.S.Source.left g.K.Sink.written g.K.Sink.flushed g.S.Source.most (c.in-ReadFault.ensures.did n (same_number c.args.pass.now.view c.loop-count.pass.view n c.loop-count.invariant.same named))
+    c.in-ReadFault.ensures.ready c.in-ReadFault.ensures.prompt c.in-ReadFault.ensures.flushed c.loop-count.invariant.most)
 
 pub returns-in-WriteFault-clause-paced : goal.returns-in-WriteFault-clause-paced
 returns-in-WriteFault-clause-paced g c = λ n named.
     finished _ _ (c.loop-count.invariant.paced n named)
-    (took g.S.Source.left g.S.Source.most (c.in-WriteFault.ensures.did n (same_number c.args.pass.now.view c.loop-count.pass.view n c.loop-count.invariant.same named))
+    (took g.S.Source.left g.K.Sink.written g.K.Sink.flushed g.S.Source.most (c.in-WriteFault.ensures.did n (same_number c.args.pass.now.view c.loop-count.pass.view n c.loop-count.invariant.same named))
     c.in-WriteFault.ensures.ready c.in-WriteFault.ensures.prompt tt c.loop-count.invariant.most)
 
 pub returns-clause-paced : goal.returns-clause-paced

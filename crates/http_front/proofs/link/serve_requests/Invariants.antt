@@ -16,9 +16,9 @@ invariant-loop-count g l = record {
       (point_of g.V.Tool.Tool.faults l.fn.pass) (point_of g.V.Tool.Tool.faults l.pass) l.count
       (g.S.Source.left l.fn.input) (prepend_known l.inbox.bytes (g.S.Source.left l.input)) (g.K.Sink.written l.fn.output) (g.K.Sink.written l.output);
   paced : (n : ℕ) → l.fn.pass.view.number ≡ Some n
-      → InTurn (StepAnswers (record { server = server_of g.V.Versions.meaning l.api.base; told = g.C.Clock.told l.clock }) n) (g.S.Source.most l.fn.input)
-      (point_of g.V.Tool.Tool.faults l.fn.pass) (record { held = l.fn.inbox.bytes; left = g.S.Source.left l.fn.input; written = g.K.Sink.written l.fn.output; flushed = g.K.Sink.flushed l.fn.output })
-      (point_of g.V.Tool.Tool.faults l.pass) (record { held = l.inbox.bytes; left = g.S.Source.left l.input; written = g.K.Sink.written l.output; flushed = g.K.Sink.flushed l.output });
+      → InTurn (record { left = g.S.Source.left; written = g.K.Sink.written; flushed = g.K.Sink.flushed }) (StepAnswers (record { server = server_of g.V.Versions.meaning l.api.base; told = g.C.Clock.told l.clock }) n) (g.S.Source.most l.fn.input)
+      (point_of g.V.Tool.Tool.faults l.fn.pass) (record { held = l.fn.inbox.bytes; input = l.fn.input; output = l.fn.output })
+      (point_of g.V.Tool.Tool.faults l.pass) (record { held = l.inbox.bytes; input = l.input; output = l.output });
   most : g.S.Source.most l.input ≡ g.S.Source.most l.fn.input;
   same : IsSameBut l.fn.pass.view l.pass.view;
   quiet : (n : ℕ) → l.fn.pass.view.number ≡ Some n → Quiet n l.fn.pass.view l.pass.view;

@@ -53,19 +53,27 @@ pub returns-in-Ok-hand_on-clause-prompt : goal.returns-in-Ok-hand_on-clause-prom
 returns-in-Ok-hand_on-clause-prompt g c = λ none m is.
     let few = c.in-Ok.ensures.prompt none m is in
     let behind = length-drop c.read_request.new.inbox.request c.read_request.new.inbox.bytes in
-    rw (c.step_of.ensures, c.used.ensures) (if_answered c.in-Ok.parts.closing _ (omega (arith, behind, few, c.in-Ok.ensures.next.within)))
+    rw (c.step_of.ensures, c.used.ensures) (if_answered c.in-Ok.parts.closing _ _ (omega (arith, behind, few, c.in-Ok.ensures.next.within)))
 
 pub returns-in-Err-BadHead-clause-prompt : goal.returns-in-Err-BadHead-clause-prompt
-returns-in-Err-BadHead-clause-prompt g c = λ none m is. if_refused _ _ _ c.refused.result _ c.refused.ensures.wrote
+returns-in-Err-BadHead-clause-prompt g c = λ none m is.
+    if_refused _ _ _ c.refused.result _ _ (faults.BadHead, λ b known. rw c.in-Err-BadHead.field-0-is at (c.in-Err-BadHead.ensures.asks b known)) c.refused.ensures.wrote
 
 pub returns-in-Err-HeadTooLong-clause-prompt : goal.returns-in-Err-HeadTooLong-clause-prompt
 returns-in-Err-HeadTooLong-clause-prompt g c = λ none m is.
-    if_refused _ _ _ c.refused-in-Err-HeadTooLong.result _ c.refused-in-Err-HeadTooLong.ensures.wrote
+    if_refused _ _ _ c.refused-in-Err-HeadTooLong.result _ _ (faults.HeadTooLong, λ b known. rw c.in-Err-HeadTooLong.field-0-is at (c.in-Err-HeadTooLong.ensures.asks b known)) c.refused-in-Err-HeadTooLong.ensures.wrote
 
 pub returns-in-Err-LengthRequired-clause-prompt : goal.returns-in-Err-LengthRequired-clause-prompt
 returns-in-Err-LengthRequired-clause-prompt g c = λ none m is.
-    if_refused _ _ _ c.refused-in-Err-LengthRequired.result _ c.refused-in-Err-LengthRequired.ensures.wrote
+    if_refused _ _ _ c.refused-in-Err-LengthRequired.result _ _ (faults.LengthRequired, λ b known. rw c.in-Err-LengthRequired.field-0-is at (c.in-Err-LengthRequired.ensures.asks b known)) c.refused-in-Err-LengthRequired.ensures.wrote
 
 pub returns-clause-prompt : goal.returns-clause-prompt
 returns-clause-prompt g c = λ none m is.
-    if_refused _ _ _ c.refused-in-Err-BodyTooLong.result _ c.refused-in-Err-BodyTooLong.ensures.wrote
+    if_refused _ _ _ c.refused-in-Err-BodyTooLong.result _ _ (faults.BodyTooLong c.in-Err-BodyTooLong.length, λ b known. rw c.in-Err-BodyTooLong.field-0-is at (c.in-Err-BodyTooLong.ensures.asks b known))
+    (rw c.in-Err-BodyTooLong.length-is at c.refused-in-Err-BodyTooLong.ensures.wrote)
+
+pub returns-in-Ok-clause-prompt : goal.returns-in-Ok-clause-prompt
+returns-in-Ok-clause-prompt g c = λ none m is.
+    let few = c.in-Ok.ensures.prompt none m is in
+    let behind = length-drop c.read_request.new.inbox.request c.read_request.new.inbox.bytes in
+    inl (rw c.used.ensures (omega (arith, behind, few, c.in-Ok.ensures.next.within)))

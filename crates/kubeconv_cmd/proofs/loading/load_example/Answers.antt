@@ -1,6 +1,3 @@
-use Rattle.std.proofs.Common.{◌∙◌}
-use Rattle.crontab_example.specs.Documents.{definition_document, rules_document}
-use Rattle.kubeconv_cmd.proofs.DrillEnding.{loads_again}
 use Rattle.kubeconv_cmd.proofs.Taking.{faultless}
 use Rattle.kubeconv_cmd.proofs.loading.load_example.Goals as goal
 

@@ -1,4 +1,4 @@
-use Rattle.std.proofs.Common.{ℕ, inl, inr}
+use Rattle.std.proofs.Common.{inr}
 use Rattle.kubeconv_cmd.proofs.Serving.{first_number}
 use Rattle.kubeconv_cmd.proofs.ServeEnding.{answered_all, rose_since}
 use Rattle.kubeconv_cmd.proofs.serve_line.serve_connections.Goals as goal
@@ -8,7 +8,7 @@ returns-in-Done-clause-done g c =
     let all = c.in-Done.ensures.served 0 (first_number _ _ c.in-Ok-open.ensures.new) in (
       all.0,
       all.1,
-      answered_all g.V.Tool.Tool.faults g.V.Versions.meaning c.in-Ok-open.api.base c.args.versions (record { boot = c.args.boot; told = g.C.Clock.told c.args.clock.now }) _ _ all.0 _ _ _ _ _ _
+      answered_all g.V.Tool.Tool.faults g.V.Versions.meaning c.in-Ok-open.api.base c.args.versions (record { boot = c.args.boot; told = g.C.Clock.told c.args.clock.now }) _ _ c.args.workers all.0 _ _ _ _ _ _
           c.in-Ok-open.ensures.base c.in-Ok-open.ensures.new c.listen_at.ensures.origins c.listen_at.ensures.returned c.in-Done.ensures.of.legal all.2,
     )
 
@@ -19,7 +19,7 @@ returns-in-EarsFault-clause-unheard g c =
       inr (
         all.0,
         all.1,
-        answered_all g.V.Tool.Tool.faults g.V.Versions.meaning c.in-Ok-open.api.base c.args.versions (record { boot = c.args.boot; told = g.C.Clock.told c.args.clock.now }) _ _ all.0 _ _ _ _ _ _
+        answered_all g.V.Tool.Tool.faults g.V.Versions.meaning c.in-Ok-open.api.base c.args.versions (record { boot = c.args.boot; told = g.C.Clock.told c.args.clock.now }) _ _ c.args.workers all.0 _ _ _ _ _ _
             c.in-Ok-open.ensures.base c.in-Ok-open.ensures.new c.listen_at.ensures.origins c.listen_at.ensures.returned c.in-EarsFault.ensures.of.legal all.2,
         c.in-Ok-listen_at.ensures.told,
       ),

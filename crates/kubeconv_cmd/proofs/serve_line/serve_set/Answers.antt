@@ -23,10 +23,10 @@ returns-clause-done g c =
     let start : Start = record { boot = c.args.boot; told = g.C.Clock.told c.args.clock.now } in
     let d = definition_of c.args.versions in
     done_as c.serve_connections.result c.args.service.connections
-    (λ (n : ℕ). AnsweredAll no_faults (meaning_of d) start n (g.A.Ears.origins c.args.ears.now) (g.A.Ears.origins c.serve_connections.new.ears) (g.A.Ears.returned c.args.ears.now) (g.A.Ears.returned c.serve_connections.new.ears))
+    (λ (n : ℕ). AnsweredAll no_faults (meaning_of d) start c.workers.result n (g.A.Ears.origins c.args.ears.now) (g.A.Ears.origins c.serve_connections.new.ears) (g.A.Ears.returned c.args.ears.now) (g.A.Ears.returned c.serve_connections.new.ears))
     (λ (n : ℕ). (crd rules : List ℕ) (l : LoadedView) → Loads crd rules l → d ≡ set_of l
-    → ServesAll crd rules start n (g.A.Ears.origins c.args.ears.now) (g.A.Ears.origins c.serve_connections.new.ears) (g.A.Ears.returned c.args.ears.now) (g.A.Ears.returned c.serve_connections.new.ears))
-    (λ n answered crd rules l loads is. serves_all crd rules start n _ _ _ _ d l loads is answered)
+    → ServesAll crd rules start c.args.service.workers n (g.A.Ears.origins c.args.ears.now) (g.A.Ears.origins c.serve_connections.new.ears) (g.A.Ears.returned c.args.ears.now) (g.A.Ears.returned c.serve_connections.new.ears))
+    (λ n answered crd rules l loads is. serves_all crd rules start c.args.service.workers n _ _ _ _ d l loads is (rw c.workers.ensures.is at answered))
     c.serve_connections.ensures.done
 
 pub returns-clause-unheard : goal.returns-clause-unheard
@@ -34,11 +34,11 @@ returns-clause-unheard g c =
     let start : Start = record { boot = c.args.boot; told = g.C.Clock.told c.args.clock.now } in
     let d = definition_of c.args.versions in
     fewer_as c.serve_connections.result c.args.service.connections
-    (λ (n : ℕ). AnsweredAll no_faults (meaning_of d) start n (g.A.Ears.origins c.args.ears.now) (g.A.Ears.origins c.serve_connections.new.ears) (g.A.Ears.returned c.args.ears.now) (g.A.Ears.returned c.serve_connections.new.ears))
+    (λ (n : ℕ). AnsweredAll no_faults (meaning_of d) start c.workers.result n (g.A.Ears.origins c.args.ears.now) (g.A.Ears.origins c.serve_connections.new.ears) (g.A.Ears.returned c.args.ears.now) (g.A.Ears.returned c.serve_connections.new.ears))
     (λ (n : ℕ). (crd rules : List ℕ) (l : LoadedView) → Loads crd rules l → d ≡ set_of l
-    → ServesAll crd rules start n (g.A.Ears.origins c.args.ears.now) (g.A.Ears.origins c.serve_connections.new.ears) (g.A.Ears.returned c.args.ears.now) (g.A.Ears.returned c.serve_connections.new.ears))
+    → ServesAll crd rules start c.args.service.workers n (g.A.Ears.origins c.args.ears.now) (g.A.Ears.origins c.serve_connections.new.ears) (g.A.Ears.returned c.args.ears.now) (g.A.Ears.returned c.serve_connections.new.ears))
     (Rose (g.A.Ears.faults c.args.ears.now) (g.A.Ears.faults c.serve_connections.new.ears))
     ((g.A.Ears.origins c.serve_connections.new.ears ≡ g.A.Ears.origins c.args.ears.now) × (g.A.Ears.returned c.serve_connections.new.ears ≡ g.A.Ears.returned c.args.ears.now))
     (Announced (g.K.Sink.written c.args.output.now) (g.K.Sink.written c.serve_connections.new.output) (g.K.Sink.flushed c.serve_connections.new.output))
-    (λ n answered crd rules l loads is. serves_all crd rules start n _ _ _ _ d l loads is answered)
+    (λ n answered crd rules l loads is. serves_all crd rules start c.args.service.workers n _ _ _ _ d l loads is (rw c.workers.ensures.is at answered))
     c.serve_connections.ensures.unheard

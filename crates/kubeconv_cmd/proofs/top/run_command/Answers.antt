@@ -4,7 +4,7 @@ use Rattle.crd_versions.specs.Set.{definition_of}
 use Rattle.command_lines.specs.Given.{conversion_of, named_of, task_of}
 use Rattle.command_lines.specs.Lines.{from_files}
 use Rattle.kubeconv_cmd.specs.Outcome.{unserved, unloaded_task, unloaded_service}
-use Rattle.kubeconv_cmd.proofs.Serving.{converses_at}
+use Rattle.kubeconv_cmd.proofs.Serving.{converses_at, paces_at}
 use Rattle.kubeconv_cmd.proofs.Outcomes.{stopped_so, stopped_line, pipe_outcome, pipe_by_outcome, serve_by_outcome, stopped_by, unconverted_says, never_held, never_connected, task_outcome, tasks_line, drill_outcome, serve_outcome, migrate_outcome, migrated_line, bad_migration, dump_outcome, dumps_line, bad_dump, load_outcome, loads_line, bad_load}
 use Rattle.kubeconv_cmd.proofs.top.run_command.Goals as goal
 
@@ -17,6 +17,9 @@ returns-in-Ok-clause-outcome g c =
           let found = c.in-Ok.ensures.loaded crd rules texts in
           converses_at c.serve-came.result crd rules c.in-Pipe.turns (record { boot = c.args.boot; told = g.C.Clock.told c.args.clock.now }) b
           (g.K.Sink.written c.args.output.now) (g.K.Sink.written c.serve-came.new.output) (definition_of c.in-Ok.versions) found.0 found.1 found.2 (c.serve-came.ensures.talk b known))
+          (λ crd rules texts.
+          let found = c.in-Ok.ensures.loaded crd rules texts in
+          paces_at c.serve-came.result crd rules c.in-Pipe.turns (record { boot = c.args.boot; told = g.C.Clock.told c.args.clock.now }) _ (definition_of c.in-Ok.versions) found.0 found.1 found.2 c.serve-came.ensures.paced)
           c.serve-came.ensures.blames c.serve-came.ensures.flushed c.serve-came.ensures.untouched
           (λ e. (ap g.K.Sink.written e, ap g.K.Sink.flushed e)) c.tell_pipe.ensures.status,
       refl,
@@ -86,7 +89,7 @@ returns-in-Drill-clause-errors g c =
 pub returns-in-Ok-load_named-2-clause-outcome : goal.returns-in-Ok-load_named-2-clause-outcome
 returns-in-Ok-load_named-2-clause-outcome g c =
     rw c.in-Serve.is (
-      serve_outcome _ (from_files c.in-Serve.service.crd.now c.in-Serve.service.rules.now) c.in-Serve.service.connections (definition_of c.in-Ok-load_named-2.versions) c.serve_set-came.result c.tell_served.result
+      serve_outcome _ (from_files c.in-Serve.service.crd.now c.in-Serve.service.rules.now) c.in-Serve.service.workers c.in-Serve.service.connections (definition_of c.in-Ok-load_named-2.versions) c.serve_set-came.result c.tell_served.result
           c.in-Ok-load_named-2.ensures.served c.in-Ok-load_named-2.ensures.loaded
           c.serve_set-came.ensures.done c.serve_set-came.ensures.told c.serve_set-came.ensures.silent c.serve_set-came.ensures.unheard
           c.serve_set-came.ensures.untold c.serve_set-came.ensures.untouched c.tell_served.ensures.status,
@@ -233,7 +236,7 @@ returns-in-Ok-load_converted-clause-outcome g c =
     rw c.in-PipeBy.is (
       pipe_by_outcome _ k d c.in-PipeBy.turns c.serve_converted-held.result c.tell_pipe-in-Ok-load_converted.result
           c.in-Ok-load_converted.ensures.taken c.in-Ok-load_converted.ensures.loaded c.in-Ok-load_converted.ensures.address
-          c.serve_converted-held.ensures.talk c.serve_converted-held.ensures.blames c.serve_converted-held.ensures.flushed c.serve_converted-held.ensures.untouched
+          c.serve_converted-held.ensures.talk c.serve_converted-held.ensures.paced c.serve_converted-held.ensures.blames c.serve_converted-held.ensures.flushed c.serve_converted-held.ensures.untouched
           (λ e. (ap g.K.Sink.written e, ap g.K.Sink.flushed e)) c.tell_pipe-in-Ok-load_converted.ensures.status,
       refl,
     )
@@ -257,7 +260,7 @@ returns-in-Ok-load_converted-2-clause-outcome g c =
     let k = conversion_of c.in-ServeBy.conversion in
     let d = c.in-Ok-load_converted-2.found.versions.set in
     rw c.in-ServeBy.is (
-      serve_by_outcome _ k c.in-ServeBy.listening.connections d c.connect_converted-came.result c.tell_served-in-Ok-load_converted-2.result
+      serve_by_outcome _ k c.in-ServeBy.listening.workers c.in-ServeBy.listening.connections d c.connect_converted-came.result c.tell_served-in-Ok-load_converted-2.result
           c.in-Ok-load_converted-2.ensures.taken c.in-Ok-load_converted-2.ensures.loaded c.in-Ok-load_converted-2.ensures.address
           c.connect_converted-came.ensures.done c.connect_converted-came.ensures.told c.connect_converted-came.ensures.silent c.connect_converted-came.ensures.unheard
           c.connect_converted-came.ensures.untold c.connect_converted-came.ensures.untouched c.tell_served-in-Ok-load_converted-2.ensures.status,

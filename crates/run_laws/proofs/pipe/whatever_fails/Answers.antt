@@ -1,10 +1,13 @@
 use Rattle.std.proofs.Common.{inr, arith}
 use Rattle.kubeconv_cmd.specs.declared.status.TheConstants.{BAD_INPUT}
-use Rattle.run_laws.proofs.PipeLaws.{pipe_held, pipe_handed_on, pipe_unread, pipe_unwritten, pipe_unserved, pipe_never}
+use Rattle.run_laws.proofs.PipeLaws.{pipe_held, pipe_paced, pipe_handed_on, pipe_unread, pipe_unwritten, pipe_unserved, pipe_never}
 use Rattle.run_laws.proofs.pipe.whatever_fails.Goals as goal
 
 pub returns-clause-held : goal.returns-clause-held
 returns-clause-held g c = λ w named turns s out. pipe_held w named turns s out.0
+
+pub returns-clause-paced : goal.returns-clause-paced
+returns-clause-paced g c = λ w named turns s crd rules out texts. pipe_paced w named turns s crd rules out.0 texts
 
 pub returns-clause-unread : goal.returns-clause-unread
 returns-clause-unread g c = λ w named turns s crd rules b out texts known e. pipe_unread w named turns s crd rules b out.0 texts known e

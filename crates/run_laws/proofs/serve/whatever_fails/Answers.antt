@@ -5,14 +5,14 @@ use Rattle.run_laws.proofs.ServeLaws.{serve_runs, serve_says, serve_never}
 use Rattle.run_laws.proofs.serve.whatever_fails.Goals as goal
 
 pub returns-clause-serves : goal.returns-clause-serves
-returns-clause-serves g c = λ w v s out. serve_runs w (from_files v.crd v.rules) v.connections s out.0
+returns-clause-serves g c = λ w v s out. serve_runs w (from_files v.crd v.rules) v.workers v.connections s out.0
 
 pub returns-clause-says : goal.returns-clause-says
-returns-clause-says g c = λ w v s out. serve_says w (from_files v.crd v.rules) v.connections s out.0
+returns-clause-says g c = λ w v s out. serve_says w (from_files v.crd v.rules) v.workers v.connections s out.0
 
 pub returns-clause-no_input : goal.returns-clause-no_input
 returns-clause-no_input g c = λ w v s out. (
   out.1,
   λ e. serve_never BAD_INPUT (λ e. omega (arith, e)) (λ e. omega (arith, e)) (λ e. omega (arith, e)) (λ e. omega (arith, e)) (λ e. omega (arith, e)) (λ e. omega (arith, e))
-      w (from_files v.crd v.rules) v.connections s out.0 e,
+      w (from_files v.crd v.rules) v.workers v.connections s out.0 e,
 )

@@ -8,5 +8,5 @@ loop-i-preserved g c = record {
   idle = search rules;
   capacity = search rules;
   crew = c.hire_one.ensures.crew;
-  going = λ told n v0 h0 g0 jobs count handed given start. c.hire_one.ensures.going told n v0 h0 g0 jobs count handed given (c.loop-i.invariant.going told n v0 h0 g0 jobs count handed given start);
+  going = λ told n v0 h0 g0 jobs count handed given start. c.hire_one.ensures.going told n c.loop-i._i v0 h0 g0 jobs count handed given (c.loop-i.invariant.going told n v0 h0 g0 jobs count handed given start);
 }

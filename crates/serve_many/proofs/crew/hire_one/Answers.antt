@@ -1,9 +1,9 @@
-use Rattle.std.proofs.Common.{◌≡◌, ◌++◌, ◌∷◌, [], All, List, map, ap, sym, ◌∙◌, subst}
+use Rattle.std.proofs.Common.{◌≡◌, ◌+◌, ◌++◌, ◌∷◌, [], All, List, map, ap, sym, ◌∙◌, subst}
 use Rattle.shared_api.specs.Passes.{IsOf}
 use Rattle.shared_api.specs.declared.cell.CoreBase.{CoreBase}
 use Rattle.turn_cell.specs.declared.view.View.{View}
 use Rattle.serve_spans.specs.inner.Keeping.{Going}
-use Rattle.serve_spans.proofs.Going.{going_hired, going_dismissed}
+use Rattle.serve_spans.proofs.Going.{going_hired, going_dismissed, going_idle}
 use Rattle.serve_spans.proofs.Lists.{map_snoc}
 use Rattle.serve_many.specs.Answered.{IsAnswered, front_of}
 use Rattle.serve_many.proofs.Answering.{answered_grows}
@@ -17,28 +17,28 @@ returns-in-Ok-start_work-clause-crew g c =
     (subst (λ q. IsOf g.V.Versions.meaning c.args.api.now q.pass) (sym c.in-Ok-start_work.ensures.begun) c.in-Some.ensures.made.0))
 
 pub returns-in-Ok-start_work-clause-going : goal.returns-in-Ok-start_work-clause-going
-returns-in-Ok-start_work-clause-going g c told n v0 h0 g0 jobs count handed given start =
+returns-in-Ok-start_work-clause-going g c told n asked v0 h0 g0 jobs count handed given start =
     let f = front_of g.V.Versions.meaning c.args.api.now.base told in
     let crew : List (View (CoreBase g.row.V.Denot)) = map (λ h. h.running.handle.promise.job.value.pass.view) c.args.crew.now.items in
     let p = c.in-Some.own.view in
     let u = c.make_pass.new.pass.view in
     let made = c.in-Some.ensures.made in
-    let next : Going (IsAnswered g.V.Tool.Tool.faults f) n v0 h0 g0 (crew ++ p ∷ []) jobs u count handed given =
-    going_hired (IsAnswered g.V.Tool.Tool.faults f) (answered_grows g.V.Tool.Tool.faults f) n v0 h0 g0 crew jobs p c.args.pass.now.view u count handed given start made.1 made.2 in
+    let next : Going (IsAnswered g.V.Tool.Tool.faults f) n (asked + 1) v0 h0 g0 (crew ++ p ∷ []) jobs u count handed given =
+    going_hired (IsAnswered g.V.Tool.Tool.faults f) (answered_grows g.V.Tool.Tool.faults f) n asked v0 h0 g0 crew jobs p c.args.pass.now.view u count handed given start made.1 made.2 in
     let parts : map (λ h. h.running.handle.promise.job.value.pass.view) c.push_reserved.new.self.items ≡ crew ++ p ∷ [] =
     ap (λ xs. map (λ h. h.running.handle.promise.job.value.pass.view) xs) c.push_reserved.ensures.items
     ∙ (map_snoc (λ h. h.running.handle.promise.job.value.pass.view) c.args.crew.now.items c.in-Ok-start_work.hired
     ∙ ap (λ q. crew ++ q.pass.view ∷ []) c.in-Ok-start_work.ensures.begun) in
-    subst (λ (vs : List (View (CoreBase g.row.V.Denot))). Going (IsAnswered g.V.Tool.Tool.faults f) n v0 h0 g0 vs jobs u count handed given) (sym parts) next
+    subst (λ (vs : List (View (CoreBase g.row.V.Denot))). Going (IsAnswered g.V.Tool.Tool.faults f) n (asked + 1) v0 h0 g0 vs jobs u count handed given) (sym parts) next
 
 pub returns-in-Err-clause-going : goal.returns-in-Err-clause-going
-returns-in-Err-clause-going g c told n v0 h0 g0 jobs count handed given start =
+returns-in-Err-clause-going g c told n asked v0 h0 g0 jobs count handed given start =
     let f = front_of g.V.Versions.meaning c.args.api.now.base told in
     let crew : List (View (CoreBase g.row.V.Denot)) = map (λ h. h.running.handle.promise.job.value.pass.view) c.args.crew.now.items in
     let p = c.in-Some.own.view in
     let v = c.make_pass.new.pass.view in
     let made = c.in-Some.ensures.made in
-    let next : Going (IsAnswered g.V.Tool.Tool.faults f) n v0 h0 g0 (crew ++ p ∷ []) jobs v count handed given =
-    going_hired (IsAnswered g.V.Tool.Tool.faults f) (answered_grows g.V.Tool.Tool.faults f) n v0 h0 g0 crew jobs p c.args.pass.now.view v count handed given start made.1 made.2 in
-    going_dismissed (IsAnswered g.V.Tool.Tool.faults f) (answered_grows g.V.Tool.Tool.faults f) n v0 h0 g0 crew jobs p v c.in-Err.back.view c.meet.new.into.view count handed given next
+    let next : Going (IsAnswered g.V.Tool.Tool.faults f) n (asked + 1) v0 h0 g0 (crew ++ p ∷ []) jobs v count handed given =
+    going_hired (IsAnswered g.V.Tool.Tool.faults f) (answered_grows g.V.Tool.Tool.faults f) n asked v0 h0 g0 crew jobs p c.args.pass.now.view v count handed given start made.1 made.2 in
+    going_dismissed (IsAnswered g.V.Tool.Tool.faults f) (answered_grows g.V.Tool.Tool.faults f) n (asked + 1) v0 h0 g0 crew jobs p v c.in-Err.back.view c.meet.new.into.view count handed given next
     (c.in-Err.ensures.done c.args.api.now made.0).1 c.meet.ensures.met
