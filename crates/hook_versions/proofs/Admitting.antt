@@ -1,5 +1,5 @@
 -- From what passed over its hub value to what is admitted or refused.
-use Rattle.std.proofs.Common.{◌≡◌, ◌∙◌, ◌<◌, ◌≤◌, ℕ, List, ◌++◌, Option, Some, None, IsTrue, inl, inr, refl, ap, sym, subst}
+use Rattle.std.proofs.Common.{◌≡◌, ◌∙◌, ◌<◌, ◌≤◌, ℕ, ◌+◌, ◌*◌, List, ◌++◌, length, Option, Some, None, IsTrue, inl, inr, refl, ap, sym, subst, arith}
 use Rattle.std.specs.Prelude.{◌≢◌}
 use Rattle.kj_value.specs.Json.{depth}
 use Rattle.kj_value.specs.declared.rule.Rule.TheVariants as rule
@@ -8,6 +8,7 @@ use Rattle.kube_meta.specs.View.{MetaView, ObjectView}
 use Rattle.api_calls.specs.Cause.{why_of, cause_of}
 use Rattle.api_calls.specs.Meaning.{Request, Fault, Weighs, bad_request, invalid}
 use Rattle.api_calls.specs.Versions.{Refused}
+use Rattle.kube_meta.specs.declared.object.Shape.{Shape}
 use Rattle.api_calls.specs.declared.versions.AdmitFault.{AdmitFault}
 use Rattle.api_calls.specs.declared.versions.AdmitFault.TheVariants as fault
 use Rattle.api_calls.specs.declared.versions.TheConstants.{OBJECT_LEVELS}
@@ -19,13 +20,14 @@ use Rattle.crd_meaning.specs.Refusal.{object_path}
 use Rattle.crd_admission.specs.Steps as steps
 use Rattle.converters.specs.Turns.{Turn, answered, refused, failed}
 use Rattle.hook_laws.specs.Hook.{Hooked, version_text, hook_meaning, Admits, Refuses, IsHubOf, no_value, is_early, is_broken, unconverted, too_large}
-use Rattle.hook_laws.specs.Turning.{Becomes, as_it_is, by_turn, CameBack, AdmitsBy, RefusedBy, FailsBy, Made, turn_to, OfTurns, WasTurned}
+use Rattle.hook_laws.proofs.Forms.{by_place}
+use Rattle.hook_laws.specs.Turning.{Becomes, as_it_is, by_turn, AdmitsBy, RefusedBy, FailsBy, Made, turn_to, OfTurns, WasTurned}
 use Rattle.hook_versions.specs.inner.Steps.{IsStanding, Turns, NoTurn}
-use Rattle.hook_versions.specs.inner.Weighing.{IsPutAt, FailsOwn, IsNotPut, AreBack, MayRefuse}
-use Rattle.hook_versions.specs.Taken.{FailsRequest, own_failed, own_answer, later, ComesBackBy, BlamesRequest}
+use Rattle.hook_versions.specs.inner.Weighing.{IsOwn, own_turns, IsPutAt, FailsOwn, IsNotPut, HaveComeBack, AreBack, AreBackThen, IsKept, MayRefuse}
+use Rattle.hook_versions.specs.Taken.{AreFew, no_more, one_more, FailsRequest, own_failed, own_answer, later, ComesBackBy, BlamesRequest}
 use Rattle.hook_versions.specs.declared.turning.Unturned.TheVariants as unturned
-use Rattle.hook_versions.proofs.Trail.{one_made, both_made, made_so, made_first, made_later}
-use Rattle.hook_versions.proofs.Turned.{becomes_itself, becomes_turned, refused_made}
+use Rattle.hook_versions.proofs.Trail.{none_made, one_made, both_made, made_so, made_first}
+use Rattle.hook_versions.proofs.Turned.{turned_once, refused_made}
 use Rattle.hook_versions.proofs.Standing.{taken_standing, hub_near}
 use Rattle.hook_versions.proofs.Forming.{itself}
 use Rattle.hook_versions.proofs.Backs.{fails_more}
@@ -34,22 +36,29 @@ use Rattle.hook_versions.proofs.Weights as weights
 -- ---- the object at the hub
 
 module _ (k : Hooked) (told : Option (List Turn)) (v : ℕ) (x : ObjectView) where
-  pub put_itself : IsStanding k.definition v x → v ≡ k.definition.hub → IsPutAt k told told v x x
+  pub put_itself : IsStanding k.definition v x → v ≡ k.definition.hub → IsPutAt k told told v x x None
   put_itself s e = record {
-    turns = becomes_itself k.definition told v x x k.definition.hub e refl;
+    turns = none_made told (λ ts. IsOwn k.definition ts None x × (length ts ≡ own_turns None)) (tt, refl);
     hub = subst (λ (u : ℕ). IsStanding k.definition u x) e s;
     near = (itself k v x (subst (λ (u : ℕ). IsStanding k.definition u x) e s) e).near;
     turned = λ honest spoke. absurd (spoke e);
+    mine = tt;
+    here = λ _. refl;
+    elsewhere = λ spoke. absurd (spoke e);
   }
 
   module _ (now : Option (List Turn)) where
     pub put_turned : (h : ObjectView) → IsStanding k.definition v x → v ≢ k.definition.hub → Turns k.definition told now x k.definition.hub h
-        → (IsTrue k.honest → k.turned x (version_text k.definition k.definition.hub) ≡ Some h) → IsPutAt k told now v x h
+        → (IsTrue k.honest → k.turned x (version_text k.definition k.definition.hub) ≡ Some h) → IsPutAt k told now v x h (Some x)
     put_turned h s spoke t e = record {
-      turns = becomes_turned k.definition told now x k.definition.hub v h spoke t;
+      turns = made_so told now (λ ts. (length ts ≡ 1) × WasTurned k.definition ts x k.definition.hub h) (λ ts. IsOwn k.definition ts (Some x) h × (length ts ≡ own_turns (Some x)))
+          (λ ts p. (p.1, p.0)) (turned_once k.definition told now x k.definition.hub h t);
       hub = taken_standing k.definition v k.definition.hub x h t.answer s t.taken;
       near = hub_near k.definition v k.definition.hub x h t.answer s t.taken spoke;
       turned = λ honest _. e honest;
+      mine = record { sent = s.sent; turned = e };
+      here = λ same. absurd (spoke same);
+      elsewhere = λ _. refl;
     }
 
     pub own_fails : NoTurn k.definition told now x k.definition.hub unturned.Failed → OfTurns told now (FailsOwn k.definition x)
@@ -73,73 +82,110 @@ module _ (k : Hooked) (told : Option (List Turn)) (v : ℕ) (x : ObjectView) whe
 
 -- ---- what is admitted
 
-module _ (k : Hooked) (r : Request) (x h : ObjectView) (e : Option ℕ) (p : Passes k.definition r x e) (a b c : Option (List Turn)) (put : IsPutAt k a b r.version x h) where
-  hub_value : (weight : Option ℕ) → AreBack k b c h (count_of k.definition) weight → IsHubOf k r.version x h
-  hub_value weight back = record { near = put.near; whole = weights.whole k h b c put.hub weight back; turned = put.turned }
+module _ (k : Hooked) (r : Request) (x h : ObjectView) (e : Option ℕ) (p : Passes k.definition r x e) (a b c : Option (List Turn)) (own : Option ObjectView) (put : IsPutAt k a b r.version x h own) where
+  abbrev Then : Option ℕ → Type 0
+  Then weight = AreBackThen k b c own h 0 (Some 0) (count_of k.definition) weight
 
-  pub admits : (w : ℕ) → AreBack k b c h (count_of k.definition) (Some w) → Admits k r h e
-  admits w back = record { object = x; passes = p; hub = hub_value (Some w) back; light = weights.light k h b c put.hub w back }
+  back : (weight : Option ℕ) → Then weight → AreBack k a c own h (count_of k.definition) weight
+  back weight t = t.then a (weights.none_yet k h a b own put.turns)
+
+  hub_value : (weight : Option ℕ) → Then weight → IsHubOf k r.version x h
+  hub_value weight t = record { near = put.near; whole = weights.whole k h a c own put.hub weight (back weight t); turned = put.turned }
+
+  pub admits : (w : ℕ) → Then (Some w) → Admits k r h e
+  admits w t = record { object = x; passes = p; hub = hub_value (Some w) t; light = weights.light k h a c own put.hub w (back (Some w) t) }
 
   -- of what is let in
-  module _ (y : ObjectView) (f : Option ℕ) (same : y ≡ h) (number : f ≡ e) (w : ℕ) (back : AreBack k b c h (count_of k.definition) (Some w)) where
+  module _ (y : ObjectView) (f : Option ℕ) (same : y ≡ h) (number : f ≡ e) (w : ℕ) (t : Then (Some w)) where
     pub let_in : Admits k r y f
-    let_in = subst (λ (z : ObjectView). Admits k r z f) (sym same) (subst (λ (o : Option ℕ). Admits k r h o) (sym number) (admits w back))
+    let_in = subst (λ (z : ObjectView). Admits k r z f) (sym same) (subst (λ (o : Option ℕ). Admits k r h o) (sym number) (admits w t))
 
     pub weighs_in : 0 < count_of k.definition → IsTrue k.honest → Weighs (hook_meaning k no_settings) y w
-    weighs_in versions honest = subst (λ (z : ObjectView). Weighs (hook_meaning k no_settings) z w) (sym same) (weights.weighs k h b c put.hub w versions back honest)
+    weighs_in versions honest = subst (λ (z : ObjectView). Weighs (hook_meaning k no_settings) z w) (sym same) (weights.weighs k h a c own put.hub w versions (back (Some w) t) honest)
+
+    pub some_in : 0 < count_of k.definition → 0 < w
+    some_in versions = (back (Some w) t).some versions
 
     pub levels_in : depth (document y) ≤ OBJECT_LEVELS
     levels_in = subst (λ (z : ObjectView). depth (document z) ≤ OBJECT_LEVELS) (sym same) put.hub.sent.levels
+
+  pub kept_in : (v : ℕ) (s : Option Shape) (y : ObjectView) → y ≡ h → IsKept k v h s → IsKept k v y s
+  kept_in v s y same kept = subst (λ (z : ObjectView). IsKept k v z s) (sym same) kept
+
+  -- ---- the turns that it took
+
+  becomes : (ts : List Turn) → IsOwn k.definition ts own h → Becomes k.definition ts r.version x k.definition.hub h
+  becomes ts t =
+      by_place (Becomes k.definition ts r.version x k.definition.hub h) r.version k.definition.hub (λ here. as_it_is here (sym (put.near.hub here)))
+      (λ spoke. by_turn spoke (subst (λ (o : Option ObjectView). IsOwn k.definition ts o h) (put.elsewhere spoke) t))
 
   becomes_more : (us vs : List Turn) → Becomes k.definition us r.version x k.definition.hub h → Becomes k.definition (us ++ vs) r.version x k.definition.hub h
   becomes_more us vs (as_it_is e same) = as_it_is e same
   becomes_more us vs (by_turn other t) = by_turn other (record { answer = t.answer; made = made_first us vs _ t.made; good = t.good; taken = t.taken })
 
-  came_more : (us vs : List Turn) → CameBack k.definition vs h → CameBack k.definition (us ++ vs) h
-  came_more us vs c v known spoke =
-      let m = c v known spoke in
-      let there : WasTurned k.definition (us ++ vs) h v m.0 = record { answer = m.1.answer; made = made_later us vs _ m.1.made; good = m.1.good; taken = m.1.taken } in
-      let back : WasTurned k.definition (us ++ vs) m.0 k.definition.hub h = record { answer = m.2.answer; made = made_later us vs _ m.2.made; good = m.2.good; taken = m.2.taken } in
-      (m.0, there, back)
+  pub admits_by : (w : ℕ) → Then (Some w) → OfTurns a c (λ ts. AdmitsBy k.definition ts r h e)
+  admits_by w t =
+      made_so a c (λ ts. IsOwn k.definition ts own h × HaveComeBack k.definition ts own h (count_of k.definition)) (λ ts. AdmitsBy k.definition ts r h e)
+      (λ ts m. record { object = x; passes = p; becomes = becomes ts m.0; back = weights.came_back k h ts own m.1 }) (back (Some w) t).turns
 
-  pub admits_by : (w : ℕ) → AreBack k b c h (count_of k.definition) (Some w) → OfTurns a c (λ ts. AdmitsBy k.definition ts r h e)
-  admits_by w back =
-      both_made a b c (λ ts. Becomes k.definition ts r.version x k.definition.hub h) (λ ts. CameBack k.definition ts h) (λ ts. AdmitsBy k.definition ts r h e)
-      (λ us vs m n. record { object = x; passes = p; becomes = becomes_more us vs m; back = came_more us vs n })
-      put.turns (weights.came_back k h b c put.hub (Some w) back)
+  pub let_in_by : (y : ObjectView) (f : Option ℕ) → y ≡ h → f ≡ e → (w : ℕ) → Then (Some w) → OfTurns a c (λ ts. AdmitsBy k.definition ts r y f)
+  let_in_by y f same number w t =
+      subst (λ (z : ObjectView). OfTurns a c (λ ts. AdmitsBy k.definition ts r z f)) (sym same) (subst (λ (o : Option ℕ). OfTurns a c (λ ts. AdmitsBy k.definition ts r h o)) (sym number) (admits_by w t))
 
-  pub let_in_by : (y : ObjectView) (f : Option ℕ) → y ≡ h → f ≡ e → (w : ℕ) → AreBack k b c h (count_of k.definition) (Some w) → OfTurns a c (λ ts. AdmitsBy k.definition ts r y f)
-  let_in_by y f same number w back =
-      subst (λ (z : ObjectView). OfTurns a c (λ ts. AdmitsBy k.definition ts r z f)) (sym same) (subst (λ (o : Option ℕ). OfTurns a c (λ ts. AdmitsBy k.definition ts r h o)) (sym number) (admits_by w back))
+  -- ---- how many there were
+
+  module _ (known : r.version < count_of k.definition) (hub : k.definition.hub < count_of k.definition) where
+    few : (ts : List Turn) → HaveComeBack k.definition ts own h (count_of k.definition) → AreFew k.definition r h ts
+    few ts (inl m) = let past = m.0.past hub in no_more (omega (arith, past))
+    few ts (inr m) = by_place (AreFew k.definition r h ts) r.version k.definition.hub here elsewhere
+      where
+        here : r.version ≡ k.definition.hub → AreFew k.definition r h ts
+        here same =
+            let none : own_turns own ≡ 0 = ap own_turns (put.here same) in
+            let past = m.0.past hub in
+            no_more (omega (arith, past, none))
+
+        elsewhere : r.version ≢ k.definition.hub → AreFew k.definition r h ts
+        elsewhere spoke =
+            let mine = put.elsewhere spoke in
+            let one : own_turns own ≡ 1 = ap own_turns mine in
+            let past = m.0.past hub in
+            let form = m.1 r.version known spoke in
+            one_more x form.0 e p spoke form.1 (λ same. form.3 (mine ∙ ap Some (sym same))) (omega (arith, past, one))
+
+    pub few_in : (y : ObjectView) → y ≡ h → (w : ℕ) → Then (Some w) → OfTurns a c (AreFew k.definition r y)
+    few_in y same w t =
+        subst (λ (z : ObjectView). OfTurns a c (AreFew k.definition r z)) (sym same)
+        (made_so a c (λ ts. IsOwn k.definition ts own h × HaveComeBack k.definition ts own h (count_of k.definition)) (AreFew k.definition r h) (λ ts m. few ts m.1) (back (Some w) t).turns)
 
   -- ---- what is refused of its hub value
 
   name_is : h.meta.name ≡ x.meta.name
   name_is = sym (ap (λ (m : MetaView). m.name) put.near.meta)
 
-  pub refuses_hub : (rose more : Type 0) (f : AdmitFault) → (rose → more) → MayRefuse k b c h rose f → Refused (Refuses k r) more f
+  pub refuses_hub : (rose more : Type 0) (f : AdmitFault) → (rose → more) → MayRefuse k b c own h rose f → Refused (Refuses k r) more f
   refuses_hub rose more (fault.BadRequest why) g m = absurd m
   refuses_hub rose more (fault.Invalid name cause) g m = too_large (record {
     object = x;
     number = e;
     passes = p;
-    large = λ honest. (h, hub_value None m.0, weights.heavy k h b c put.hub m.0 honest);
+    large = λ honest. (h, hub_value None m.0, weights.heavy k h a c own put.hub (back None m.0) honest);
     told = m.1 ∙ ap (λ (n : List ℕ). breaks n object_path rule.Size) name_is;
   })
   refuses_hub rose more fault.Tool g m = g m.0
   refuses_hub rose more fault.NoMemory g m = tt
 
-  pub blames_hub : (rose : Type 0) (f : AdmitFault) → MayRefuse k b c h rose f → BlamesRequest k.definition a c r f
+  pub blames_hub : (rose : Type 0) (f : AdmitFault) → MayRefuse k b c own h rose f → BlamesRequest k.definition a c r f
   blames_hub rose (fault.BadRequest why) m = absurd m
   blames_hub rose (fault.Invalid name cause) m = inr (inr (
-    both_made a b c (λ ts. Becomes k.definition ts r.version x k.definition.hub h) (λ ts. CameBack k.definition ts h) (ComesBackBy k.definition r)
-        (λ us vs p1 q1. record { object = x; hub = h; number = e; passes = p; becomes = becomes_more us vs p1; back = came_more us vs q1 })
-        put.turns (weights.came_back k h b c put.hub None m.0),
+    made_so a c (λ ts. IsOwn k.definition ts own h × HaveComeBack k.definition ts own h (count_of k.definition)) (ComesBackBy k.definition r)
+        (λ ts q. record { object = x; hub = h; number = e; passes = p; becomes = becomes ts q.0; back = weights.came_back k h ts own q.1 })
+        (back None m.0).turns,
     (h.meta.name, m.1),
   ))
   blames_hub rose fault.Tool m =
-      both_made a b c (λ ts. Becomes k.definition ts r.version x k.definition.hub h) (FailsBy k.definition) (FailsRequest k.definition r)
-      (λ us vs p1 q1. later x h e p (becomes_more us vs p1) (fails_more k.definition us vs q1)) put.turns m.1
+      both_made a b c (λ ts. IsOwn k.definition ts own h × (length ts ≡ own_turns own)) (FailsBy k.definition) (FailsRequest k.definition r)
+      (λ us vs p1 q1. later x h e p (becomes_more us vs (becomes us p1.0)) (fails_more k.definition us vs q1)) put.turns m.1
   blames_hub rose fault.NoMemory m = tt
 
 -- ---- what is refused before
@@ -186,12 +232,13 @@ module _ (k : Hooked) (r : Request) (x : ObjectView) (e : Option ℕ) (p : Passe
 
 -- ---- what measures too much
 
-pub refused_size : (k : Hooked) (b c : Option (List Turn)) (h : ObjectView) (rose : Type 0) (f : AdmitFault) → AreBack k b c h (count_of k.definition) None
-    → Refused (λ g. g ≡ breaks h.meta.name object_path rule.Size) ⊥ f → MayRefuse k b c h rose f
-refused_size k b c h rose (fault.BadRequest why) back said = absurd (differ said)
+pub refused_size : (k : Hooked) (b c : Option (List Turn)) (own : Option ObjectView) (h : ObjectView) (rose : Type 0) (f : AdmitFault)
+    → AreBackThen k b c own h 0 (Some 0) (count_of k.definition) None
+    → Refused (λ g. g ≡ breaks h.meta.name object_path rule.Size) ⊥ f → MayRefuse k b c own h rose f
+refused_size k b c own h rose (fault.BadRequest why) back said = absurd (differ said)
   where
     differ : {n p : List ℕ} → bad_request (why_of why) ≡ breaks n p rule.Size → ⊥
     differ e = cc
-refused_size k b c h rose (fault.Invalid name cause) back said = (back, said)
-refused_size k b c h rose fault.Tool back said = absurd said
-refused_size k b c h rose fault.NoMemory back said = tt
+refused_size k b c own h rose (fault.Invalid name cause) back said = (back, said)
+refused_size k b c own h rose fault.Tool back said = absurd said
+refused_size k b c own h rose fault.NoMemory back said = tt

@@ -11,6 +11,7 @@ pub mod Parts
 pub mod Uids
 pub mod Fitting
 pub mod SameObjects
+pub mod SameTexts
 pub mod SpecDepth
 pub mod Loaded
 pub mod Asked

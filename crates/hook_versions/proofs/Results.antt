@@ -1,6 +1,6 @@
 -- What is said of a value that is there is carried on.
-use Rattle.std.proofs.Common.{◌≡◌, Option, Some, None, subst}
-use Rattle.std.specs.Prelude.{IfOk, IfErr, IfSome, Result, Ok, Err}
+use Rattle.std.proofs.Common.{◌≡◌, ◌⊎◌, inl, inr, Option, Some, None, sym, subst}
+use Rattle.std.specs.Prelude.{IfOk, IfErr, IfSome, Result, Ok, Err, option_map}
 
 pub one_ok : {A E : Type 0} (P Q : A → Type 0) (r : Result A E) → ((a : A) → P a → Q a) → IfOk r P → IfOk r Q
 one_ok P Q (Ok a) f p = f a p
@@ -21,3 +21,15 @@ some_ok P Q (Err e) f p = tt
 
 pub some_of : (A : Type 0) (P : A → Type 0) (o : Option A) (a : A) → o ≡ Some a → IfSome o P → P a
 some_of A P o a e h = let there : IfSome (Some a) P = subst (λ (p : Option A). IfSome p P) e h in there
+
+pub some_seen : {A B : Type 0} (f : A → B) (P : B → Type 0) (o : Option A) → IfSome (option_map f o) P → IfSome o (λ a. P (f a))
+some_seen f P (Some a) h = h
+some_seen f P None h = tt
+
+pub some_more : {A : Type 0} (P Q : A → Type 0) (o : Option A) → ((a : A) → P a → Q a) → IfSome o P → IfSome o Q
+some_more P Q (Some a) f h = f a h
+some_more P Q None f h = tt
+
+pub some_either : {A : Type 0} (P : A → Type 0) (o p q : Option A) → (o ≡ p) ⊎ (o ≡ q) → IfSome p P → IfSome q P → IfSome o P
+some_either P o p q (inl e) h g = subst (λ r. IfSome r P) (sym e) h
+some_either P o p q (inr e) h g = subst (λ r. IfSome r P) (sym e) g

@@ -1,5 +1,5 @@
 -- What one turn of a call comes to.
-use Rattle.std.proofs.Common.{◌≡◌, ◌∙◌, ℕ, List, Option, Some, inl, inr, refl, ap, ap₂, sym, subst}
+use Rattle.std.proofs.Common.{◌≡◌, ◌∙◌, ℕ, List, length, Option, Some, inl, inr, refl, ap, ap₂, sym, subst}
 use Rattle.std.specs.Prelude.{◌≢◌}
 use Rattle.kj_value.specs.Json.{Json}
 use Rattle.kube_meta.specs.View.{MetaView, ObjectView}
@@ -22,6 +22,11 @@ module _ (d : Definition) (before now : Option (List Turn)) (x : ObjectView) (v 
   was_turned y t =
       one_made before now (document x) (version_text d v) (answered t.answer) (λ ts. WasTurned d ts x v y) t.made
       (record { answer = t.answer; made = inl refl; good = t.taken.good; taken = t.taken.is })
+
+  pub turned_once : (y : ObjectView) → Turns d before now x v y → OfTurns before now (λ ts. (length ts ≡ 1) × WasTurned d ts x v y)
+  turned_once y t =
+      one_made before now (document x) (version_text d v) (answered t.answer) (λ ts. (length ts ≡ 1) × WasTurned d ts x v y) t.made
+      (refl, record { answer = t.answer; made = inl refl; good = t.taken.good; taken = t.taken.is })
 
   pub becomes_turned : (w : ℕ) (y : ObjectView) → w ≢ v → Turns d before now x v y → OfTurns before now (λ ts. Becomes d ts w x v y)
   becomes_turned w y other t =

@@ -1,5 +1,5 @@
 -- On which turns of a call the faults of a set rest.
-use Rattle.std.specs.Prelude.{◌≡◌, ◌⊎◌, ⊤, ℕ, List, Option}
+use Rattle.std.specs.Prelude.{◌≡◌, ◌≢◌, ◌≤◌, ◌+◌, ◌*◌, ◌⊎◌, ⊤, ℕ, List, length, Option}
 use Rattle.kj_value.specs.Json.{Json}
 use Rattle.kj_value.specs.declared.rule.Rule.TheVariants as rule
 use Rattle.kube_meta.specs.View.{ObjectView}
@@ -9,13 +9,13 @@ use Rattle.api_calls.specs.declared.versions.ConvFault.{ConvFault}
 use Rattle.api_calls.specs.declared.versions.ConvFault.TheVariants as conv
 use Rattle.api_calls.specs.declared.versions.AdmitFault.{AdmitFault}
 use Rattle.api_calls.specs.declared.versions.AdmitFault.TheVariants as admit
-use Rattle.crd_meaning.specs.Definition.{Definition}
+use Rattle.crd_meaning.specs.Definition.{Definition, count_of}
 use Rattle.crd_meaning.specs.Request.{breaks}
 use Rattle.crd_meaning.specs.Admission.{Passes}
 use Rattle.crd_meaning.specs.Refusal.{object_path}
 use Rattle.crd_admission.specs.Steps.{RefusesBody}
 use Rattle.converters.specs.Turns.{Turn, answered, failed}
-use Rattle.hook_laws.specs.Turning.{OfTurns, Made, turn_to, IsTakenAt, Becomes, CameBack, FailsBy, RefusedBy}
+use Rattle.hook_laws.specs.Turning.{OfTurns, Made, turn_to, WasTurned, IsTakenAt, Becomes, CameBack, FailsBy, RefusedBy}
 
 -- the tool's fault has its cause in a turn of the call
 abbrev pub BlamesTurn : Definition → Option (List Turn) → Option (List Turn) → ConvFault → Type 0
@@ -37,6 +37,12 @@ pub record ComesBackBy (d : Definition) (r : Request) (ts : List Turn) : Type 0 
   pub passes : Passes d r object number
   pub becomes : Becomes d ts r.version object d.hub hub
   pub back : CameBack d ts hub
+
+-- How many turns an admission took: at most two for each version but the hub, and one more only where the request's object stands elsewhere
+-- and isn't what the hub value was turned to at its version.
+pub data AreFew (d : Definition) (r : Request) (h : ObjectView) (ts : List Turn) : Type 0 where
+  no_more : length ts + 2 ≤ 2 * count_of d → AreFew d r h ts
+  one_more : (x y : ObjectView) (e : Option ℕ) → Passes d r x e → r.version ≢ d.hub → WasTurned d ts h r.version y → y ≢ x → length ts + 1 ≤ 2 * count_of d → AreFew d r h ts
 
 -- Why an object is invalid: no turn was made, and the body is refused as it is; or its own turn to the hub was refused, and the rule is
 -- `Converted`; or all turns were made, and the rule is `Size`.

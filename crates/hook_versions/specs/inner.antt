@@ -1,3 +1,4 @@
 pub mod Steps
 pub mod Weighing
 pub mod Hubs
+pub mod Sameness

@@ -17,7 +17,7 @@ ghost use Rattle.crd_settings.specs.SettledLaws.{settings_of};
 ghost use Rattle.hook_laws.specs.Hook.{HaveSoundDefaults, Admits, Refuses, IsForm, IsWhole, hook_meaning};
 ghost use Rattle.hook_laws.specs.Turning.{AdmitsBy, Becomes, OfTurns};
 ghost use Rattle.hook_versions.specs.Facts.{hooked};
-ghost use Rattle.hook_versions.specs.Taken.{BlamesTurn, BlamesRequest};
+ghost use Rattle.hook_versions.specs.Taken.{AreFew, BlamesTurn, BlamesRequest};
 
 use crate::admission::admitted;
 use crate::definition::HookDefinition;
@@ -166,11 +166,12 @@ impl<C: Converter> Versions for HookSet<C> {
 
         // The hub value has the parts of what passed, or of the answer to its turn to the hub, and came back from each other version.
         ensures rests { IfOk result (λ a. OfTurns (C.turns tool.old) (C.turns tool.new) (λ ts. AdmitsBy self.now.set ts (request_of input.now) (object_of a.hub) a.expected)) }
+        // At most 2n - 2 turns are made for n versions, and one more where the object isn't what its hub value is turned to at its version.
+        ensures few { IfOk result (λ a. OfTurns (C.turns tool.old) (C.turns tool.new) (AreFew self.now.set (request_of input.now) (object_of a.hub))) }
         // Each fault has its cause among the turns of the call.
         ensures blames { IfErr result (BlamesRequest self.now.set (C.turns tool.old) (C.turns tool.new) (request_of input.now)) }
     {
-        let _ = storage;
-        admitted(alloc, &self.set, tool, input)
+        admitted(alloc, &self.set, tool, input, storage)
     }
 
     fn hub_of(&self, alloc: Global, tool: &mut C, v: u8, stored: &[u8]) -> Result<Object, ConvFault>

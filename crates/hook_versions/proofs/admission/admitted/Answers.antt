@@ -1,5 +1,5 @@
 use Rattle.std.proofs.Common.{◌≡◌, ◌<◌, ◌≤◌, ℕ, None, Some, IsTrue, ap, sym, subst, length, arith}
-use Rattle.std.specs.Prelude.{IfErr}
+use Rattle.std.specs.Prelude.{IfErr, option_map}
 use Rattle.kj_value.specs.Json.{depth}
 use Rattle.kube_meta.specs.Document.{document}
 use Rattle.kube_meta.specs.View.{object_of}
@@ -15,11 +15,12 @@ use Rattle.crd_admission.specs.Steps.{with_rules, RefusesBody}
 use Rattle.hook_laws.specs.Hook.{Admits, hook_meaning}
 use Rattle.hook_laws.specs.Turning.{AdmitsBy, OfTurns}
 use Rattle.hook_versions.specs.Facts.{hooked}
-use Rattle.hook_versions.specs.inner.Weighing.{AreBack}
-use Rattle.hook_versions.proofs.Admitting.{let_in, let_in_by, weighs_in, levels_in, refuses_hub, blames_hub, refuses_body, blames_body, refuses_put, blames_put}
+use Rattle.hook_versions.specs.Taken.{AreFew}
+use Rattle.hook_versions.specs.inner.Weighing.{IsOwnOf, AreBackThen, IsKept}
+use Rattle.hook_versions.proofs.Admitting.{let_in, let_in_by, few_in, weighs_in, some_in, kept_in, levels_in, refuses_hub, blames_hub, refuses_body, blames_body, refuses_put, blames_put}
 use Rattle.hook_versions.proofs.Free.{passes_free}
 use Rattle.hook_versions.proofs.Objects.{passed_standing}
-use Rattle.hook_versions.proofs.Results.{one_ok, one_err}
+use Rattle.hook_versions.proofs.Results.{one_ok, one_err, some_seen}
 use Rattle.hook_versions.proofs.admission.admitted.Goals as goal
 
 pub pass_body-requires-clause-known : goal.pass_body-requires-clause-known
@@ -35,6 +36,11 @@ at_hub-requires-clause-standing g c =
     let passes : Passes d r x e = subst (λ (v : DefinitionView). Passes (with_rules v d.hub d.spokes) r x e) c.definition.ensures (c.in-Ok.ensures.passes d.hub d.spokes) in
     let passed : IsPassed d r.version x = subst (λ (v : DefinitionView). IsPassed (with_rules v d.hub d.spokes) r.version x) c.definition.ensures (c.in-Ok.ensures.passed d.hub d.spokes) in
     passed_standing d r.version x passed (passes_free d r x e c.versions.ensures.whole c.requires.known passes)
+
+pub let_in-came-requires-clause-own : goal.let_in-came-requires-clause-own
+let_in-came-requires-clause-own g c =
+    let k = hooked c.args.set.now g.C.Converter.HONEST g.C.Converter.turned in
+    some_seen object_of (IsOwnOf k (object_of c.in-Ok-at_hub.hub)) c.in-Ok-at_hub.own c.in-Ok-at_hub.ensures.put.mine
 
 pub returns-in-Err-clause-refused : goal.returns-in-Err-clause-refused
 returns-in-Err-clause-refused g c =
@@ -82,10 +88,11 @@ returns-in-Ok-at_hub-clause-ok g c =
     let passes : Passes d r x e = subst (λ (v : DefinitionView). Passes (with_rules v d.hub d.spokes) r x e) c.definition.ensures (c.in-Ok.ensures.passes d.hub d.spokes) in
     let a = g.C.Converter.turns c.args.tool.now in
     let b = g.C.Converter.turns c.at_hub.new.tool in
-    let z = g.C.Converter.turns c.let_in.new.tool in
+    let z = g.C.Converter.turns c.let_in-came.new.tool in
     let h = object_of c.in-Ok-at_hub.hub in
-    one_ok (λ m. (object_of m.hub ≡ h) × (m.expected ≡ e) × (m.shape ≡ None) × AreBack k b z h (count_of d) (Some m.weight)) (λ m. Admits k r (object_of m.hub) m.expected) c.let_in.result
-    (λ m t. let_in k r x h e passes a b z c.in-Ok-at_hub.ensures.put (object_of m.hub) m.expected t.0 t.1 m.weight t.3) c.let_in.ensures.back
+    let own = option_map object_of c.in-Ok-at_hub.own in
+    one_ok (λ m. (object_of m.hub ≡ h) × (m.expected ≡ e) × IsKept k c.args.storage h m.shape × AreBackThen k b z own h 0 (Some 0) (count_of d) (Some m.weight)) (λ m. Admits k r (object_of m.hub) m.expected) c.let_in-came.result
+    (λ m t. let_in k r x h e passes a b z own c.in-Ok-at_hub.ensures.put (object_of m.hub) m.expected t.0 t.1 m.weight t.3) c.let_in-came.ensures.back
 
 pub returns-in-Ok-at_hub-clause-rests : goal.returns-in-Ok-at_hub-clause-rests
 returns-in-Ok-at_hub-clause-rests g c =
@@ -97,10 +104,27 @@ returns-in-Ok-at_hub-clause-rests g c =
     let passes : Passes d r x e = subst (λ (v : DefinitionView). Passes (with_rules v d.hub d.spokes) r x e) c.definition.ensures (c.in-Ok.ensures.passes d.hub d.spokes) in
     let a = g.C.Converter.turns c.args.tool.now in
     let b = g.C.Converter.turns c.at_hub.new.tool in
-    let z = g.C.Converter.turns c.let_in.new.tool in
+    let z = g.C.Converter.turns c.let_in-came.new.tool in
     let h = object_of c.in-Ok-at_hub.hub in
-    one_ok (λ m. (object_of m.hub ≡ h) × (m.expected ≡ e) × (m.shape ≡ None) × AreBack k b z h (count_of d) (Some m.weight)) (λ m. OfTurns a z (λ ts. AdmitsBy d ts r (object_of m.hub) m.expected)) c.let_in.result
-    (λ m t. let_in_by k r x h e passes a b z c.in-Ok-at_hub.ensures.put (object_of m.hub) m.expected t.0 t.1 m.weight t.3) c.let_in.ensures.back
+    let own = option_map object_of c.in-Ok-at_hub.own in
+    one_ok (λ m. (object_of m.hub ≡ h) × (m.expected ≡ e) × IsKept k c.args.storage h m.shape × AreBackThen k b z own h 0 (Some 0) (count_of d) (Some m.weight)) (λ m. OfTurns a z (λ ts. AdmitsBy d ts r (object_of m.hub) m.expected)) c.let_in-came.result
+    (λ m t. let_in_by k r x h e passes a b z own c.in-Ok-at_hub.ensures.put (object_of m.hub) m.expected t.0 t.1 m.weight t.3) c.let_in-came.ensures.back
+
+pub returns-in-Ok-at_hub-clause-few : goal.returns-in-Ok-at_hub-clause-few
+returns-in-Ok-at_hub-clause-few g c =
+    let k = hooked c.args.set.now g.C.Converter.HONEST g.C.Converter.turned in
+    let d = c.args.set.now in
+    let r = request_of c.args.input.now in
+    let x = object_of c.in-Ok.passed.object in
+    let e = c.in-Ok.passed.expected in
+    let passes : Passes d r x e = subst (λ (v : DefinitionView). Passes (with_rules v d.hub d.spokes) r x e) c.definition.ensures (c.in-Ok.ensures.passes d.hub d.spokes) in
+    let a = g.C.Converter.turns c.args.tool.now in
+    let b = g.C.Converter.turns c.at_hub.new.tool in
+    let z = g.C.Converter.turns c.let_in-came.new.tool in
+    let h = object_of c.in-Ok-at_hub.hub in
+    let own = option_map object_of c.in-Ok-at_hub.own in
+    one_ok (λ m. (object_of m.hub ≡ h) × (m.expected ≡ e) × IsKept k c.args.storage h m.shape × AreBackThen k b z own h 0 (Some 0) (count_of d) (Some m.weight)) (λ m. OfTurns a z (AreFew d r (object_of m.hub))) c.let_in-came.result
+    (λ m t. few_in k r x h e passes a b z own c.in-Ok-at_hub.ensures.put c.requires.known c.hub.ensures.known (object_of m.hub) t.0 m.weight t.3) c.let_in-came.ensures.back
 
 pub returns-in-Ok-at_hub-clause-weighs : goal.returns-in-Ok-at_hub-clause-weighs
 returns-in-Ok-at_hub-clause-weighs g c =
@@ -112,11 +136,12 @@ returns-in-Ok-at_hub-clause-weighs g c =
     let passes : Passes d r x e = subst (λ (v : DefinitionView). Passes (with_rules v d.hub d.spokes) r x e) c.definition.ensures (c.in-Ok.ensures.passes d.hub d.spokes) in
     let a = g.C.Converter.turns c.args.tool.now in
     let b = g.C.Converter.turns c.at_hub.new.tool in
-    let z = g.C.Converter.turns c.let_in.new.tool in
+    let z = g.C.Converter.turns c.let_in-came.new.tool in
     let h = object_of c.in-Ok-at_hub.hub in
+    let own = option_map object_of c.in-Ok-at_hub.own in
     let least = c.versions.ensures.whole.least in
-    one_ok (λ m. (object_of m.hub ≡ h) × (m.expected ≡ e) × (m.shape ≡ None) × AreBack k b z h (count_of d) (Some m.weight)) (λ m. IsTrue k.honest → Weighs (hook_meaning k no_settings) (object_of m.hub) m.weight) c.let_in.result
-    (λ m t. weighs_in k r x h e passes a b z c.in-Ok-at_hub.ensures.put (object_of m.hub) m.expected t.0 t.1 m.weight t.3 (omega (arith, least))) c.let_in.ensures.back
+    one_ok (λ m. (object_of m.hub ≡ h) × (m.expected ≡ e) × IsKept k c.args.storage h m.shape × AreBackThen k b z own h 0 (Some 0) (count_of d) (Some m.weight)) (λ m. IsTrue k.honest → Weighs (hook_meaning k no_settings) (object_of m.hub) m.weight) c.let_in-came.result
+    (λ m t. weighs_in k r x h e passes a b z own c.in-Ok-at_hub.ensures.put (object_of m.hub) m.expected t.0 t.1 m.weight t.3 (omega (arith, least))) c.let_in-came.ensures.back
 
 pub returns-in-Ok-at_hub-clause-weight : goal.returns-in-Ok-at_hub-clause-weight
 returns-in-Ok-at_hub-clause-weight g c =
@@ -128,10 +153,12 @@ returns-in-Ok-at_hub-clause-weight g c =
     let passes : Passes d r x e = subst (λ (v : DefinitionView). Passes (with_rules v d.hub d.spokes) r x e) c.definition.ensures (c.in-Ok.ensures.passes d.hub d.spokes) in
     let a = g.C.Converter.turns c.args.tool.now in
     let b = g.C.Converter.turns c.at_hub.new.tool in
-    let z = g.C.Converter.turns c.let_in.new.tool in
+    let z = g.C.Converter.turns c.let_in-came.new.tool in
     let h = object_of c.in-Ok-at_hub.hub in
+    let own = option_map object_of c.in-Ok-at_hub.own in
     let least = c.versions.ensures.whole.least in
-    one_ok (λ m. (object_of m.hub ≡ h) × (m.expected ≡ e) × (m.shape ≡ None) × AreBack k b z h (count_of d) (Some m.weight)) (λ m. 0 < m.weight) c.let_in.result (λ m t. t.3.some (omega (arith, least))) c.let_in.ensures.back
+    one_ok (λ m. (object_of m.hub ≡ h) × (m.expected ≡ e) × IsKept k c.args.storage h m.shape × AreBackThen k b z own h 0 (Some 0) (count_of d) (Some m.weight)) (λ m. 0 < m.weight) c.let_in-came.result
+    (λ m t. some_in k r x h e passes a b z own c.in-Ok-at_hub.ensures.put (object_of m.hub) m.expected t.0 t.1 m.weight t.3 (omega (arith, least))) c.let_in-came.ensures.back
 
 pub returns-in-Ok-at_hub-clause-shape : goal.returns-in-Ok-at_hub-clause-shape
 returns-in-Ok-at_hub-clause-shape g c =
@@ -143,9 +170,11 @@ returns-in-Ok-at_hub-clause-shape g c =
     let passes : Passes d r x e = subst (λ (v : DefinitionView). Passes (with_rules v d.hub d.spokes) r x e) c.definition.ensures (c.in-Ok.ensures.passes d.hub d.spokes) in
     let a = g.C.Converter.turns c.args.tool.now in
     let b = g.C.Converter.turns c.at_hub.new.tool in
-    let z = g.C.Converter.turns c.let_in.new.tool in
+    let z = g.C.Converter.turns c.let_in-came.new.tool in
     let h = object_of c.in-Ok-at_hub.hub in
-    one_ok (λ m. (object_of m.hub ≡ h) × (m.expected ≡ e) × (m.shape ≡ None) × AreBack k b z h (count_of d) (Some m.weight)) (λ m. m.shape ≡ None) c.let_in.result (λ m t. t.2) c.let_in.ensures.back
+    let own = option_map object_of c.in-Ok-at_hub.own in
+    one_ok (λ m. (object_of m.hub ≡ h) × (m.expected ≡ e) × IsKept k c.args.storage h m.shape × AreBackThen k b z own h 0 (Some 0) (count_of d) (Some m.weight)) (λ m. IsKept k c.args.storage (object_of m.hub) m.shape) c.let_in-came.result
+    (λ m t. kept_in k r x h e passes a b z own c.in-Ok-at_hub.ensures.put c.args.storage m.shape (object_of m.hub) t.0 t.2) c.let_in-came.ensures.back
 
 pub returns-in-Ok-at_hub-clause-levels : goal.returns-in-Ok-at_hub-clause-levels
 returns-in-Ok-at_hub-clause-levels g c =
@@ -157,10 +186,11 @@ returns-in-Ok-at_hub-clause-levels g c =
     let passes : Passes d r x e = subst (λ (v : DefinitionView). Passes (with_rules v d.hub d.spokes) r x e) c.definition.ensures (c.in-Ok.ensures.passes d.hub d.spokes) in
     let a = g.C.Converter.turns c.args.tool.now in
     let b = g.C.Converter.turns c.at_hub.new.tool in
-    let z = g.C.Converter.turns c.let_in.new.tool in
+    let z = g.C.Converter.turns c.let_in-came.new.tool in
     let h = object_of c.in-Ok-at_hub.hub in
-    one_ok (λ m. (object_of m.hub ≡ h) × (m.expected ≡ e) × (m.shape ≡ None) × AreBack k b z h (count_of d) (Some m.weight)) (λ m. depth (document (object_of m.hub)) ≤ OBJECT_LEVELS) c.let_in.result
-    (λ m t. levels_in k r x h e passes a b z c.in-Ok-at_hub.ensures.put (object_of m.hub) m.expected t.0 t.1 m.weight t.3) c.let_in.ensures.back
+    let own = option_map object_of c.in-Ok-at_hub.own in
+    one_ok (λ m. (object_of m.hub ≡ h) × (m.expected ≡ e) × IsKept k c.args.storage h m.shape × AreBackThen k b z own h 0 (Some 0) (count_of d) (Some m.weight)) (λ m. depth (document (object_of m.hub)) ≤ OBJECT_LEVELS) c.let_in-came.result
+    (λ m t. levels_in k r x h e passes a b z own c.in-Ok-at_hub.ensures.put (object_of m.hub) m.expected t.0 t.1 m.weight t.3) c.let_in-came.ensures.back
 
 pub returns-in-Ok-at_hub-clause-refused : goal.returns-in-Ok-at_hub-clause-refused
 returns-in-Ok-at_hub-clause-refused g c =
@@ -172,10 +202,11 @@ returns-in-Ok-at_hub-clause-refused g c =
     let passes : Passes d r x e = subst (λ (v : DefinitionView). Passes (with_rules v d.hub d.spokes) r x e) c.definition.ensures (c.in-Ok.ensures.passes d.hub d.spokes) in
     let a = g.C.Converter.turns c.args.tool.now in
     let b = g.C.Converter.turns c.at_hub.new.tool in
-    let z = g.C.Converter.turns c.let_in.new.tool in
+    let z = g.C.Converter.turns c.let_in-came.new.tool in
     let h = object_of c.in-Ok-at_hub.hub in
+    let own = option_map object_of c.in-Ok-at_hub.own in
     let first = c.at_hub.ensures.rises in
-    one_err _ _ c.let_in.result (λ f m. refuses_hub k r x h e passes a b z c.in-Ok-at_hub.ensures.put (g.C.Tool.faults c.at_hub.new.tool < g.C.Tool.faults c.let_in.new.tool) (g.C.Tool.faults c.args.tool.now < g.C.Tool.faults c.let_in.new.tool) f (λ p. omega (arith, first, p)) m) c.let_in.ensures.refused
+    one_err _ _ c.let_in-came.result (λ f m. refuses_hub k r x h e passes a b z own c.in-Ok-at_hub.ensures.put (g.C.Tool.faults c.at_hub.new.tool < g.C.Tool.faults c.let_in-came.new.tool) (g.C.Tool.faults c.args.tool.now < g.C.Tool.faults c.let_in-came.new.tool) f (λ p. omega (arith, first, p)) m) c.let_in-came.ensures.refused
 
 pub returns-in-Ok-at_hub-clause-blames : goal.returns-in-Ok-at_hub-clause-blames
 returns-in-Ok-at_hub-clause-blames g c =
@@ -187,6 +218,7 @@ returns-in-Ok-at_hub-clause-blames g c =
     let passes : Passes d r x e = subst (λ (v : DefinitionView). Passes (with_rules v d.hub d.spokes) r x e) c.definition.ensures (c.in-Ok.ensures.passes d.hub d.spokes) in
     let a = g.C.Converter.turns c.args.tool.now in
     let b = g.C.Converter.turns c.at_hub.new.tool in
-    let z = g.C.Converter.turns c.let_in.new.tool in
+    let z = g.C.Converter.turns c.let_in-came.new.tool in
     let h = object_of c.in-Ok-at_hub.hub in
-    one_err _ _ c.let_in.result (λ f m. blames_hub k r x h e passes a b z c.in-Ok-at_hub.ensures.put (g.C.Tool.faults c.at_hub.new.tool < g.C.Tool.faults c.let_in.new.tool) f m) c.let_in.ensures.refused
+    let own = option_map object_of c.in-Ok-at_hub.own in
+    one_err _ _ c.let_in-came.result (λ f m. blames_hub k r x h e passes a b z own c.in-Ok-at_hub.ensures.put (g.C.Tool.faults c.at_hub.new.tool < g.C.Tool.faults c.let_in-came.new.tool) f m) c.let_in-came.ensures.refused

@@ -1,3 +1,4 @@
+use Rattle.std.specs.Prelude.{option_map}
 use Rattle.kube_meta.specs.View.{object_of}
 use Rattle.hook_versions.specs.Facts.{hooked}
 use Rattle.hook_versions.proofs.Backs.{back_at, blames_back}
@@ -12,7 +13,7 @@ comes_back-requires-clause-sent g c =
 pub returns-in-Ok-comes_back-clause-back : goal.returns-in-Ok-comes_back-clause-back
 returns-in-Ok-comes_back-clause-back g c =
     back_at (hooked c.args.set.now g.C.Converter.HONEST g.C.Converter.turned) (g.C.Converter.turns c.args.tool.now) (g.C.Converter.turns c.turned_or_fault.new.tool) (g.C.Converter.turns c.comes_back.new.tool)
-    (object_of c.args.h.now) c.args.v (object_of c.in-Ok.form) c.requires.hub c.requires.spoke c.in-Ok.ensures.turns c.in-Ok.ensures.turned c.in-Ok-comes_back.ensures.back c.in-Ok-comes_back.ensures.turned
+    (object_of c.args.h.now) c.args.v (object_of c.in-Ok.form) (option_map object_of c.args.own.now) c.requires.hub c.requires.spoke c.in-Ok.ensures.turns c.in-Ok.ensures.turned c.in-Ok-comes_back.ensures.back c.in-Ok-comes_back.ensures.turned
 
 pub returns-in-Err-comes_back-clause-blames : goal.returns-in-Err-comes_back-clause-blames
 returns-in-Err-comes_back-clause-blames g c =
