@@ -1,8 +1,9 @@
 //! Links that tell what they do.
-ghost use Rattle.std.specs.Prelude.{◌≡◌, ◌≤◌, Some, IfErr, MatchOption};
+ghost use Rattle.std.specs.Prelude.{◌≡◌, ◌≤◌, ◌⊎◌, ◌+◌, ◌-◌, ◌^◌, [], false, true, None, Some, IfErr, IfOk, IfSome, MatchOption, OnErr, min};
 ghost use Rattle.edge_io.specs.Causes.{Rose};
 ghost use Rattle.edge_io.specs.Exchanges.{after_exchange, answer_of, OnBroken};
-ghost use Rattle.progress_links.specs.Progress.{MayAdd, MayTell, erased, progress};
+ghost use Rattle.edge_io.specs.Connections.{AddsOne};
+ghost use Rattle.progress_links.specs.Progress.{MayAdd, MayTell, GivesBack, erased, progress};
 
 use crate::telling::{erase, is_due, tell};
 use edge_io::{Link, LinkFault, Sink};
@@ -32,7 +33,9 @@ impl<'a, T: Clock, One: Link, K: Sink> Link for ProgressLink<'a, T, One, K> {
         ensures exchanges { One.exchanges self.new.link ≡ after_exchange (One.exchanges self.old.link) request.now (answer_of (λ v. v.items) result) }
         ensures later { One.faults self.old.link ≤ One.faults self.new.link }
         ensures cause { IfErr result (λ fault. OnBroken fault (Rose (One.faults self.old.link) (One.faults self.new.link))) }
+        ensures made { self.new.made ≡ min (self.old.made + 1) (2 ^ 64 - 1) }
         ensures told { MayTell K.written self.old.sink self.new.sink (progress self.new.made) }
+        ensures lit { (self.new.lit ≡ true) ⊎ ((self.new.lit ≡ self.old.lit) × (self.new.sink ≡ self.old.sink)) }
     {
         let answer = self.link.exchange(alloc, request);
         self.made = self.made.saturating_add(1);
@@ -77,7 +80,16 @@ impl<'a, T: Clock + Sync, L: Links, K: Sink + Send + Drop> Links for ProgressLin
         alloc: Global,
         host: &str,
         port: u16,
-    ) -> Result<ProgressLink<'a, T, L::One, K>, NoMemory> {
+    ) -> Result<ProgressLink<'a, T, L::One, K>, NoMemory>
+        ensures unused { IfOk result (λ l. L.One.faults l.link ≡ 0) }
+        ensures none { IfOk result (λ l. IfSome (L.One.exchanges l.link) (λ es. es ≡ [])) }
+        ensures returned { L.returned self.new.links ≡ L.returned self.old.links }
+
+        // It counts from 0, told nothing, and has the sink until it is taken back.
+        ensures counts { IfOk result (λ l. (l.made ≡ 0) × (l.lit ≡ false)) }
+        ensures sink { IfOk result (λ l. (l.sink ≡ self.old.sink) × (self.new.sink ≡ None)) }
+        ensures kept { OnErr result (self.new.sink ≡ self.old.sink) }
+    {
         let link = self.links.make(alloc, host, port)?;
         Ok(ProgressLink {
             clock: self.clock,
@@ -90,7 +102,10 @@ impl<'a, T: Clock + Sync, L: Links, K: Sink + Send + Drop> Links for ProgressLin
     }
 
     /// Takes a link back, and its sink, on which the line is erased where something was told.
-    fn back(&mut self, one: ProgressLink<'a, T, L::One, K>) {
+    fn back(&mut self, one: ProgressLink<'a, T, L::One, K>)
+        ensures returned { AddsOne (L.returned self.old.links) (L.returned self.new.links) (record { exchanges = L.One.exchanges one.entry.link; faults = L.One.faults one.entry.link }) }
+        ensures sink { GivesBack K.written one.entry.lit one.entry.sink self.old.sink self.new.sink }
+    {
         let ProgressLink {
             clock: _,
             link,
