@@ -9,6 +9,7 @@
 //! |---|---|
 //! | `# fixture: ..` | the small one of `versions_fixture`, which admits an object with a name and one property, and no replace |
 //! | `# built-in: ..` | the one that is built in: `host` at `v1` is `address` at `v1beta1` |
+//! | `# renamed: ..` | the same without its rules, with a converter that renames; all lines are of one pass |
 //! | `# shared: ..` | the one that tests share, with each kind of rule |
 //! | `# core ..: ..` | the small one, over which `test_core` takes turns: the head of its `src/lib.rt` has the lines |
 //! | `# far ..: ..` | none: the head of `src/lib.rt` of `test_far` has the parts and their lines |

@@ -3,12 +3,14 @@ ghost use Rattle.std.specs.Prelude.{◌<◌, ◌+◌, ◌^◌, IfSome};
 ghost use Rattle.shared_api.specs.Passes.{IsOf};
 
 use crate::beside::beside;
-use crate::calls::{called_beside, pass_from};
+use crate::calls::{called, called_beside, pass_from};
 use crate::failing::Failing;
 use crate::texts::cut;
 use crate::tool::Chosen;
 use api_calls::{NoTool, Versions};
+use converters::RenameConverter;
 use crd_versions::load;
+use hook_versions::load_hook;
 use kube_meta::Limits;
 use migrate_core::Worker;
 use shared_api::{Pass, SharedApi};
@@ -172,15 +174,16 @@ fn by_two<V: Versions<Tool = Chosen> + Drop + Send + Sync, R: Threads + Wait + S
 }
 
 // A server that nothing has happened to, and its first pass.
-fn begun<V: Versions<Tool = Chosen> + Drop>(
+fn begun<V: Versions + Drop>(
     alloc: Global,
     versions: V,
+    tool: V::Tool,
     limits: Limits,
 ) -> Option<(SharedApi<V>, Pass<V>)>
     requires { limits.chunks + limits.window_chunks < 2 ^ 32 }
     ensures { IfSome result (λ r. IsOf V.meaning r.0 r.1) }
 {
-    match SharedApi::open(alloc, versions, Chosen::at(0), limits, 0) {
+    match SharedApi::open(alloc, versions, tool, limits, 0) {
         Ok(begun) => Some(begun),
         Err(_) => None,
     }
@@ -195,7 +198,7 @@ fn opened<V: Versions<Tool = Chosen> + Drop + Send + Sync, R: Threads + Wait + S
 ) -> Option<String> {
     let limits = room_of(case.head.as_str());
     let (_sign, input) = cut(case.input.as_str());
-    let (api, mut pass) = begun(alloc, versions, limits)?;
+    let (api, mut pass) = begun(alloc, versions, Chosen::at(0), limits)?;
     let told = by_two(rt, alloc, &api, &mut pass, case.lines.as_str(), input);
     drop(pass);
     drop(api);
@@ -223,6 +226,40 @@ fn loaded<R: Threads + Wait + Sync>(
     over(rt, alloc, versions, case)
 }
 
+// What the lines answer by one pass, whatever pass they name.
+fn by_one<V: Versions + Drop, R: Wait>(
+    rt: &R,
+    alloc: Global,
+    api: &SharedApi<V>,
+    pass: &mut Pass<V>,
+    lines: &str,
+    input: &str,
+) -> Option<String>
+    requires { IsOf V.meaning api.now pass.old }
+{
+    let mut w = Worker { claim: None };
+    let mut out = String::new(alloc);
+    for line in lines.lines() {
+        let (_sign, order) = cut(line);
+        let answer = called(rt, alloc, api, pass, &mut w, order, input);
+        add(&mut out, line, &answer)?;
+    }
+    Some(out)
+}
+
+// The same, over the built-in definition without its rules, by a converter that renames.
+fn renamed<R: Wait>(rt: &R, alloc: Global, case: &Case) -> Option<String> {
+    let limits = room_of(case.head.as_str());
+    let (_sign, input) = cut(case.input.as_str());
+    let definition = built_in::definition();
+    let versions = load_hook::<RenameConverter>(alloc, definition.as_bytes(), "v1").ok()?;
+    let (api, mut pass) = begun(alloc, versions, RenameConverter::new(alloc), limits)?;
+    let told = by_one(rt, alloc, &api, &mut pass, case.lines.as_str(), input);
+    drop(pass);
+    drop(api);
+    told
+}
+
 /// What a script answers over the definition that its first line names, or without any.
 pub(crate) fn told<R: Threads + Wait + Sync + Files>(
     rt: &R,
@@ -236,6 +273,7 @@ pub(crate) fn told<R: Threads + Wait + Sync + Files>(
     match *head.as_bytes().get(2)? {
         b'f' => over(rt, alloc, TwoNames::new(alloc).ok()?, case),
         b'b' => loaded(rt, alloc, built_in::definition(), built_in::rules(), case),
+        b'r' if head.starts_with("# renamed") => renamed(rt, alloc, case),
         b's' => loaded(
             rt,
             alloc,

@@ -12,24 +12,50 @@ pub fn told<T: Debug>(alloc: Global, end: &T) -> Option<String> {
 
 /// What came prints itself, if it came.
 pub fn told_of<T: Debug + Drop>(alloc: Global, end: Option<T>) -> Option<String> {
-    told(alloc, &end?)
+    match end {
+        Some(end) => told(alloc, &end),
+        None => None,
+    }
+}
+
+// Adds the place of a version. Answers whether there was room.
+fn add_place(alloc: Global, v: u8, text: &mut String) -> bool {
+    match format!(in alloc; " @{v}") {
+        Ok(place) => text.push_str(place.as_str()).is_ok(),
+        Err(_) => false,
+    }
+}
+
+// Adds a word, and the versions of a list by their places.
+fn add_list(alloc: Global, word: &str, stored: &StoredList, text: &mut String) -> bool {
+    if text.push_str(word).is_err() {
+        return false;
+    }
+    let len = (stored.len as usize).min(8);
+    for v in &stored.items[..len] {
+        if !add_place(alloc, *v, text) {
+            return false;
+        }
+    }
+    true
 }
 
 /// A word, and the versions of a list by their places.
 pub fn listed(alloc: Global, word: &str, stored: &StoredList) -> Option<String> {
-    let mut text = String::from_str(alloc, word).ok()?;
-    let len = (stored.len as usize).min(8);
-    for v in &stored.items[..len] {
-        text.push_str(" @").ok()?;
-        text.push_str(told(alloc, v)?.as_str()).ok()?;
+    let mut text = String::new(alloc);
+    if add_list(alloc, word, stored, &mut text) {
+        Some(text)
+    } else {
+        None
     }
-    Some(text)
 }
 
 // An end with the number of its entry.
 fn done(alloc: Global, rv: u64, stored: &StoredList) -> Option<String> {
-    let word = format!(in alloc; "Done #{rv}").ok()?;
-    listed(alloc, word.as_str(), stored)
+    match format!(in alloc; "Done #{rv}") {
+        Ok(word) => listed(alloc, word.as_str(), stored),
+        Err(_) => None,
+    }
 }
 
 /// How a change of the flags ended, if it was made.
@@ -97,14 +123,31 @@ pub fn seen_text(alloc: Global, seen: &Seen) -> Option<String> {
     format!(in alloc; "{name} @{at} #{rv} of #{born} {text}").ok()
 }
 
+// Adds an object. Answers whether there was room.
+fn add_seen(alloc: Global, seen: &Seen, text: &mut String) -> bool {
+    match seen_text(alloc, seen) {
+        Some(told) => text.push_str(" ").is_ok() && text.push_str(told.as_str()).is_ok(),
+        None => false,
+    }
+}
+
+// The text, with these objects behind it.
+fn with_items(alloc: Global, front: String, items: &[Seen]) -> Option<String> {
+    let mut text = front;
+    for seen in items {
+        if !add_seen(alloc, seen, &mut text) {
+            return None;
+        }
+    }
+    Some(text)
+}
+
 /// A page: its number, its objects, and how many are left behind them.
 pub fn page_text(alloc: Global, page: &Page) -> Option<String> {
     let rv = page.rv;
     let remaining = page.remaining;
-    let mut text = format!(in alloc; "#{rv} before {remaining}:").ok()?;
-    for seen in page.items.as_slice() {
-        text.push_str(" ").ok()?;
-        text.push_str(seen_text(alloc, seen)?.as_str()).ok()?;
+    match format!(in alloc; "#{rv} before {remaining}:") {
+        Ok(text) => with_items(alloc, text, page.items.as_slice()),
+        Err(_) => None,
     }
-    Some(text)
 }

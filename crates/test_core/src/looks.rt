@@ -5,19 +5,31 @@ use crate::turns::key_of;
 use api_calls::{Token, Versions};
 use api_core::{Core, Seen};
 use kube_meta::Key;
+use migrate_core::MigrationItem;
 use std::alloc::Global;
 
 /// The object of a key.
 pub fn seen<V: Versions>(alloc: Global, core: &Core<V>, key: &Key) -> Option<Option<Seen>> {
-    Some(core.peek(alloc, key).ok()?.found)
+    match core.peek(alloc, key) {
+        Ok(peeked) => Some(peeked.found),
+        Err(_) => None,
+    }
+}
+
+// The object of a key, told.
+fn standing<V: Versions>(alloc: Global, core: &Core<V>, key: &Key) -> Option<String> {
+    match seen(alloc, core, key) {
+        Some(Some(seen)) => seen_text(alloc, &seen),
+        Some(None) => String::from_str(alloc, "none").ok(),
+        None => None,
+    }
 }
 
 // The object of a name.
 fn object<V: Versions>(alloc: Global, core: &Core<V>, name: &str) -> Option<String> {
-    let key = key_of(alloc, name)?;
-    match seen(alloc, core, &key)? {
-        Some(seen) => seen_text(alloc, &seen),
-        None => String::from_str(alloc, "none").ok(),
+    match key_of(alloc, name) {
+        Some(key) => standing(alloc, core, &key),
+        None => None,
     }
 }
 
@@ -25,36 +37,59 @@ fn object<V: Versions>(alloc: Global, core: &Core<V>, name: &str) -> Option<Stri
 fn settings<V: Versions>(alloc: Global, core: &Core<V>) -> Option<String> {
     let (flags, stored, revision) = core.settings();
     let storage = flags.storage;
-    let text = format!(in alloc; "#{revision} @{storage} of").ok()?;
-    listed(alloc, text.as_str(), &stored)
+    match format!(in alloc; "#{revision} @{storage} of") {
+        Ok(text) => listed(alloc, text.as_str(), &stored),
+        Err(_) => None,
+    }
+}
+
+fn item_text(alloc: Global, item: Option<&MigrationItem>) -> Option<String> {
+    match item {
+        Some(item) => {
+            let name = item.name();
+            let target = item.target();
+            let condition = item.condition();
+            format!(in alloc; "{name} to @{target} {condition:?}").ok()
+        }
+        None => String::from_str(alloc, "none").ok(),
+    }
 }
 
 // The migration at a place, in the order of their starts.
 fn migration<V: Versions>(alloc: Global, core: &Core<V>, place: u64) -> Option<String> {
-    let items = core.migrations(alloc).ok()?;
-    let Some(item) = items.as_slice().get(place as usize) else {
-        return String::from_str(alloc, "none").ok();
-    };
-    let name = item.name();
-    let target = item.target();
-    let condition = item.condition();
-    format!(in alloc; "{name} to @{target} {condition:?}").ok()
+    match core.migrations(alloc) {
+        Ok(items) => item_text(alloc, items.as_slice().get(place as usize)),
+        Err(_) => None,
+    }
+}
+
+// So many objects behind a token, or with none the first ones.
+fn page_behind<V: Versions>(
+    alloc: Global,
+    core: &Core<V>,
+    behind: Option<&Token>,
+    count: u64,
+) -> Option<String> {
+    match core.page(alloc, 0, None, behind, count) {
+        Ok(page) => page_text(alloc, &page),
+        Err(fault) => told(alloc, &fault),
+    }
 }
 
 // So many objects behind that of a name, as they stood at a number, or with no name the first ones as they stand.
 fn page<V: Versions>(alloc: Global, core: &Core<V>, order: &Order<'_>) -> Option<String> {
-    let token = Token {
-        rv: order.number,
-        key: key_of(alloc, order.name)?,
-    };
-    let behind = if order.name.is_empty() {
-        None
-    } else {
-        Some(&token)
-    };
-    match core.page(alloc, 0, None, behind, order.weight) {
-        Ok(page) => page_text(alloc, &page),
-        Err(fault) => told(alloc, &fault),
+    if order.name.is_empty() {
+        return page_behind(alloc, core, None, order.weight);
+    }
+    match key_of(alloc, order.name) {
+        Some(key) => {
+            let token = Token {
+                rv: order.number,
+                key,
+            };
+            page_behind(alloc, core, Some(&token), order.weight)
+        }
+        None => None,
     }
 }
 

@@ -34,20 +34,60 @@ pub fn bare(who: u8, word: &str) -> Order<'_> {
 // The order with one word more: the place of a version behind `@`, that of the request's version behind `?`, a number
 // behind `#`, a weight behind `+`, a name, or a text.
 fn with<'a>(order: Order<'a>, word: &'a str) -> Option<Order<'a>> {
-    let mut order = order;
     let rest = word.get(1..).unwrap_or("");
-    match word.as_bytes().first()? {
-        b'@' => order.at = rest.parse::<u8>().ok()?,
-        b'?' => order.asked = rest.parse::<u8>().ok()?,
-        b'#' => order.number = rest.parse::<u64>().ok()?,
-        b'+' => order.weight = rest.parse::<u64>().ok()?,
-        _ => if order.name.is_empty() {
-            order.name = word;
-        } else {
-            order.text = word;
-        },
+    match word.as_bytes().first() {
+        Some(b'@') => with_place(order, true, rest),
+        Some(b'?') => with_place(order, false, rest),
+        Some(b'#') => with_number(order, true, rest),
+        Some(b'+') => with_number(order, false, rest),
+        Some(_) => Some(with_text(order, word)),
+        None => None,
     }
-    Some(order)
+}
+
+// The order with the place of a version, or of that of the request.
+fn with_place<'a>(order: Order<'a>, is_at: bool, word: &str) -> Option<Order<'a>> {
+    let Ok(place) = word.parse::<u8>() else {
+        return None;
+    };
+    if is_at {
+        Some(Order { at: place, ..order })
+    } else {
+        Some(Order {
+            asked: place,
+            ..order
+        })
+    }
+}
+
+// The order with a number, or with a weight.
+fn with_number<'a>(order: Order<'a>, is_number: bool, word: &str) -> Option<Order<'a>> {
+    let Ok(number) = word.parse::<u64>() else {
+        return None;
+    };
+    if is_number {
+        Some(Order { number, ..order })
+    } else {
+        Some(Order {
+            weight: number,
+            ..order
+        })
+    }
+}
+
+// The order with a name, or where it has one with a text.
+fn with_text<'a>(order: Order<'a>, word: &'a str) -> Order<'a> {
+    if order.name.is_empty() {
+        Order {
+            name: word,
+            ..order
+        }
+    } else {
+        Order {
+            text: word,
+            ..order
+        }
+    }
 }
 
 // The first byte of a line, and the line behind what says whose it is.

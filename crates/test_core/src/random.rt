@@ -1,15 +1,14 @@
 //! A long run of turns that a small generator chooses, with a look from outside after each.
 use crate::looks::seen;
 use crate::order::Order;
-use crate::script::{Team, answered};
-use crate::turns::{key_of, opened};
+use crate::script::{Team, answered, standing};
+use crate::turns::key_of;
 use api_calls::{StoredList, Versions};
 use api_core::{Core, Page, Seen};
-use kube_meta::{Condition, Limits};
+use kube_meta::{Condition, Key, Limits};
 use migrate_core::MigrationItems;
 use std::alloc::Global;
 use std::cmp::Ordering;
-use versions_fixture::TwoNames;
 
 // Less room than the run asks for.
 const TIGHT: Limits = Limits {
@@ -24,10 +23,9 @@ const LETTERS: [&str; 8] = ["a", "b", "c", "d", "e", "f", "g", "h"];
 
 /// A name of two letters, one of 64.
 pub fn name_of(alloc: Global, n: u64) -> Option<String> {
-    let mut name = String::new(alloc);
-    name.push_str(LETTERS[(n / 8 % 8) as usize]).ok()?;
-    name.push_str(LETTERS[(n % 8) as usize]).ok()?;
-    Some(name)
+    let first = LETTERS[(n / 8 % 8) as usize];
+    let second = LETTERS[(n % 8) as usize];
+    format!(in alloc; "{first}{second}").ok()
 }
 
 // ---- which turn
@@ -96,13 +94,46 @@ fn asked(turn: u64) -> u8 {
     }
 }
 
+fn number_under<V: Versions>(alloc: Global, core: &Core<V>, key: &Key) -> Option<u64> {
+    match seen(alloc, core, key) {
+        Some(Some(seen)) => Some(seen.rv),
+        Some(None) => Some(1),
+        None => None,
+    }
+}
+
 // The number at which the object of a name stands, or 1.
 fn number_of<V: Versions>(alloc: Global, core: &Core<V>, name: &str) -> Option<u64> {
-    let key = key_of(alloc, name)?;
-    match seen(alloc, core, &key)? {
-        Some(seen) => Some(seen.rv),
-        None => Some(1),
+    match key_of(alloc, name) {
+        Some(key) => number_under(alloc, core, &key),
+        None => None,
     }
+}
+
+// The same, on this object.
+fn takes_turn_on<V: Versions>(
+    alloc: Global,
+    core: &mut Core<V>,
+    team: &mut Team,
+    draw: &Draw,
+    storage: u8,
+    name: &str,
+) -> Option<String> {
+    let Some(number) = number_of(alloc, core, name) else {
+        return None;
+    };
+    let (who, word) = order_at(draw.turn);
+    let order = Order {
+        who,
+        word,
+        name,
+        text: "text",
+        at: place(draw, storage),
+        number,
+        asked: asked(draw.turn),
+        weight: if draw.coin { 1 } else { 2 },
+    };
+    answered(alloc, core, team, &order)
 }
 
 // One turn, of a client or of one of two workers.
@@ -113,20 +144,10 @@ fn takes_turn<V: Versions>(
     draw: &Draw,
     storage: u8,
 ) -> Option<String> {
-    let name = chosen_name(alloc, draw)?;
-    let number = number_of(alloc, core, name.as_str())?;
-    let (who, word) = order_at(draw.turn);
-    let order = Order {
-        who,
-        word,
-        name: name.as_str(),
-        text: "text",
-        at: place(draw, storage),
-        number,
-        asked: asked(draw.turn),
-        weight: if draw.coin { 1 } else { 2 },
-    };
-    answered(alloc, core, team, &order)
+    match chosen_name(alloc, draw) {
+        Some(name) => takes_turn_on(alloc, core, team, draw, storage, name.as_str()),
+        None => None,
+    }
 }
 
 // ---- what holds after each turn
@@ -230,17 +251,30 @@ fn numbers_fit(was: Look, now: Look) -> bool {
         && now.claims - was.claims <= 1
 }
 
+// One turn. Answers whether it marks a migration.
+fn marks<V: Versions>(
+    alloc: Global,
+    core: &mut Core<V>,
+    team: &mut Team,
+    draw: &Draw,
+    storage: u8,
+) -> Option<bool> {
+    match takes_turn(alloc, core, team, draw, storage) {
+        Some(answer) => Some(answer.as_str().starts_with("Finished")),
+        None => None,
+    }
+}
+
 // One turn. Answers whether what holds after each does.
-fn step<V: Versions>(alloc: Global, core: &mut Core<V>, team: &mut Team, n: u64) -> Option<bool> {
+fn step<V: Versions>(alloc: Global, core: &mut Core<V>, team: &mut Team, n: u64) -> bool {
     let was = looked(core);
-    let answer = takes_turn(alloc, core, team, &drawn(n), was.storage)?;
+    let Some(is_marked) = marks(alloc, core, team, &drawn(n), was.storage) else {
+        return false;
+    };
     let now = looked(core);
-    let is_marked = answer.as_str().starts_with("Finished");
-    Some(
-        numbers_fit(was, now)
-            && objects_fit(alloc, core, is_marked)
-            && migrations_fit(alloc, core, now.storage),
-    )
+    numbers_fit(was, now)
+        && objects_fit(alloc, core, is_marked)
+        && migrations_fit(alloc, core, now.storage)
 }
 
 fn two_thousand<V: Versions>(alloc: Global, core: &mut Core<V>) -> bool {
@@ -250,7 +284,7 @@ fn two_thousand<V: Versions>(alloc: Global, core: &mut Core<V>) -> bool {
         n = n
             .wrapping_mul(6_364_136_223_846_793_005)
             .wrapping_add(1_442_695_040_888_963_407);
-        if step(alloc, core, &mut team, n) != Some(true) {
+        if !step(alloc, core, &mut team, n) {
             return false;
         }
     }
@@ -269,9 +303,10 @@ fn ended_well<V: Versions>(alloc: Global, core: &Core<V>) -> bool {
 
 /// That two thousand turns held what holds after each; and that they weren't all refused, and migrations ended in both ways.
 pub fn random_turns(alloc: Global) -> Option<String> {
-    let mut core = opened(alloc, TwoNames::new(alloc).ok()?, TIGHT)?;
-    let held = two_thousand(alloc, &mut core) && ended_well(alloc, &core);
-    drop(core);
+    let held = match standing(alloc, TIGHT) {
+        Some(mut core) => two_thousand(alloc, &mut core) && ended_well(alloc, &core),
+        None => false,
+    };
     if held {
         String::from_str(alloc, "all held\n").ok()
     } else {

@@ -107,24 +107,38 @@ fn worked<V: Versions>(
     }
 }
 
+// Whether the object of that name is created at place 1, by the number 2 behind it.
+fn fill_one<V: Versions>(alloc: Global, core: &mut Core<V>, n: u64) -> bool {
+    match name_of(alloc, n) {
+        Some(name) => fill_named(alloc, core, name.as_str(), n.wrapping_add(2)),
+        None => false,
+    }
+}
+
+fn fill_named<V: Versions>(alloc: Global, core: &mut Core<V>, name: &str, rv: u64) -> bool {
+    let mut order = bare(b'c', "create");
+    order.name = name;
+    order.text = "first";
+    order.at = 1;
+    create(alloc, core, &order) == Some(CreateEnd::Done { rv })
+}
+
 // Creates so many objects at place 1, by the numbers from 2 on.
 fn fill<V: Versions>(alloc: Global, core: &mut Core<V>, count: u64) -> Option<String> {
     for n in 0..count.min(64) {
-        let name = name_of(alloc, n)?;
-        let mut order = bare(b'c', "create");
-        order.name = name.as_str();
-        order.text = "first";
-        order.at = 1;
-        let end = create(alloc, core, &order)?;
-        if end
-            != (CreateEnd::Done {
-                rv: n.wrapping_add(2),
-            })
-        {
+        if !fill_one(alloc, core, n) {
             return None;
         }
     }
     String::from_str(alloc, "Done").ok()
+}
+
+// How many turns moved an object, and the end of the one that didn't.
+fn touched_text(alloc: Global, touched: u64, end: Option<TurnEnd>) -> Option<String> {
+    match turn_text(alloc, end) {
+        Some(text) => format!(in alloc; "{touched} touched, {}", text.as_str()).ok(),
+        None => None,
+    }
 }
 
 // A worker's turns, at most so many, until one moves no object: how many did, and the end of the other.
@@ -135,19 +149,16 @@ fn touch<V: Versions>(
     count: u64,
 ) -> Option<String> {
     for touched in 0..count {
-        match work(alloc, core, w, 0)? {
-            TurnEnd::Touched { rv: _ } => {}
-            end => {
-                let text = turn_text(alloc, Some(end))?;
-                return format!(in alloc; "{touched} touched, {}", text.as_str()).ok();
-            }
+        match work(alloc, core, w, 0) {
+            Some(TurnEnd::Touched { rv: _ }) => {}
+            end => return touched_text(alloc, touched, end),
         }
     }
     format!(in alloc; "{count} touched").ok()
 }
 
 // Whether the object `a` is created, replaced and deleted at this number and the two behind it.
-fn round<V: Versions>(alloc: Global, core: &mut Core<V>, born: u64) -> Option<bool> {
+fn round<V: Versions>(alloc: Global, core: &mut Core<V>, born: u64) -> bool {
     let next = born.wrapping_add(1);
     let last = born.wrapping_add(2);
     let mut order = bare(b'c', "create");
@@ -155,27 +166,32 @@ fn round<V: Versions>(alloc: Global, core: &mut Core<V>, born: u64) -> Option<bo
     order.text = "text";
     order.at = 1;
     order.weight = 2;
-    let created = create(alloc, core, &order)?;
+    let created = create(alloc, core, &order);
     order.number = born;
-    let replaced = replace(alloc, core, &order)?;
+    let replaced = replace(alloc, core, &order);
     order.number = next;
-    let deleted = delete(alloc, core, &order)?;
-    Some(
-        created == (CreateEnd::Done { rv: born })
-            && replaced == (ReplaceEnd::Done { rv: next, born })
-            && deleted == (DeleteEnd::Done { rv: last, born }),
-    )
+    let deleted = delete(alloc, core, &order);
+    created == Some(CreateEnd::Done { rv: born })
+        && replaced == Some(ReplaceEnd::Done { rv: next, born })
+        && deleted == Some(DeleteEnd::Done { rv: last, born })
 }
 
 // A thousand times that, by the numbers from 2 on.
 fn thousand<V: Versions>(alloc: Global, core: &mut Core<V>) -> Option<String> {
     for number in 0..1_000u64 {
         let born = number.wrapping_mul(3).wrapping_add(2);
-        if !round(alloc, core, born)? {
+        if !round(alloc, core, born) {
             return None;
         }
     }
     String::from_str(alloc, "Done").ok()
+}
+
+fn line_text(alloc: Global, line: &str, answer: Option<String>) -> Option<String> {
+    match answer {
+        Some(answer) => format!(in alloc; "{line} => {}\n", answer.as_str()).ok(),
+        None => None,
+    }
 }
 
 // A line of a script, and what it answers.
@@ -185,8 +201,24 @@ fn step<V: Versions>(
     team: &mut Team,
     line: &str,
 ) -> Option<String> {
-    let answer = answered(alloc, core, team, &order_of(line)?)?;
-    format!(in alloc; "{line} => {}\n", answer.as_str()).ok()
+    match order_of(line) {
+        Some(order) => line_text(alloc, line, answered(alloc, core, team, &order)),
+        None => None,
+    }
+}
+
+// Adds a line of a script, and what it answers. Answers whether there is an answer, and room for it.
+fn add_step<V: Versions>(
+    alloc: Global,
+    core: &mut Core<V>,
+    team: &mut Team,
+    line: &str,
+    out: &mut String,
+) -> bool {
+    match step(alloc, core, team, line) {
+        Some(told) => out.push_str(told.as_str()).is_ok(),
+        None => false,
+    }
 }
 
 // What the lines answer.
@@ -198,24 +230,47 @@ fn run<V: Versions>(
 ) -> Option<String> {
     let mut out = String::new(alloc);
     for line in lines.lines() {
-        let told = step(alloc, core, team, line)?;
-        out.push_str(told.as_str()).ok()?;
+        if !add_step(alloc, core, team, line, &mut out) {
+            return None;
+        }
     }
     Some(out)
+}
+
+// The room, where the number at a place is this one.
+fn with_number(limits: Limits, place: usize, number: u64) -> Limits {
+    match place {
+        0 => Limits {
+            objects: number,
+            ..limits
+        },
+        1 => Limits {
+            chunks: number,
+            ..limits
+        },
+        2 => Limits {
+            window_records: number,
+            ..limits
+        },
+        3 => Limits {
+            window_chunks: number,
+            ..limits
+        },
+        _ => Limits {
+            migrations: number,
+            ..limits
+        },
+    }
 }
 
 // The room that is told in numbers.
 fn spelled_room(numbers: &str) -> Option<Limits> {
     let mut limits = SMALL;
     for (place, word) in numbers.split(' ').enumerate() {
-        let number = word.parse::<u64>().ok()?;
-        match place {
-            0 => limits.objects = number,
-            1 => limits.chunks = number,
-            2 => limits.window_records = number,
-            3 => limits.window_chunks = number,
-            _ => limits.migrations = number,
-        }
+        let Ok(number) = word.parse::<u64>() else {
+            return None;
+        };
+        limits = with_number(limits, place, number);
     }
     Some(limits)
 }
@@ -232,12 +287,21 @@ fn room_of(head: &str) -> Option<Limits> {
     }
 }
 
+/// A core over the small definition, that nothing has happened to.
+pub fn standing(alloc: Global, limits: Limits) -> Option<Core<TwoNames>> {
+    match TwoNames::new(alloc) {
+        Ok(versions) => opened(alloc, versions, limits),
+        Err(_) => None,
+    }
+}
+
 /// What a script answers, over a core that nothing has happened to.
 pub fn told(alloc: Global, head: &str, lines: &str) -> Option<String> {
-    let limits = room_of(head)?;
-    let mut core = opened(alloc, TwoNames::new(alloc).ok()?, limits)?;
-    let mut team = Team::new();
-    let told = run(alloc, &mut core, &mut team, lines);
-    drop(core);
-    told
+    let Some(limits) = room_of(head) else {
+        return None;
+    };
+    match standing(alloc, limits) {
+        Some(mut core) => run(alloc, &mut core, &mut Team::new(), lines),
+        None => None,
+    }
 }

@@ -19,8 +19,10 @@ pub fn opened<V: Versions + Drop>(alloc: Global, versions: V, limits: Limits) ->
     if limits.chunks >= 10_000 || limits.window_chunks >= 10_000 {
         return None;
     }
-    let versions = Arc::new(alloc, versions).ok()?;
-    Core::open(alloc, versions, limits, 7).ok()
+    match Arc::new(alloc, versions) {
+        Ok(versions) => Core::open(alloc, versions, limits, 7).ok(),
+        Err(_) => None,
+    }
 }
 
 /// The revision is far from its bound.

@@ -132,7 +132,9 @@ pub fn work<V: Versions>(
 ) -> Option<TurnEnd> {
     match ask(core, w)? {
         TurnEnd::Prepare { key, rv } => {
-            let key = key.key(alloc).ok()?;
+            let Ok(key) = key.key(alloc) else {
+                return None;
+            };
             touch(alloc, core, w, &key, rv, at)
         }
         end => Some(end),

@@ -1,22 +1,23 @@
 //! Links that answer as a case says.
-use edge_io::MemLink;
+use edge_io::{MemExchange, MemLink};
 use std::alloc::Global;
 use wire_client::PlainFar;
 
-fn bytes_of(alloc: Global, text: &str) -> Option<Vec<u8>> {
-    let mut bytes = Vec::new(alloc);
-    bytes.extend_from_slice(text.as_bytes()).ok()?;
-    Some(bytes)
+// Adds a byte, or CR LF in place of `|`. Answers whether there was room.
+fn add_byte(bytes: &mut Vec<u8>, byte: u8) -> bool {
+    if byte == b'|' {
+        bytes.extend_from_slice(b"\r\n").is_ok()
+    } else {
+        bytes.push(byte).is_ok()
+    }
 }
 
 /// The bytes, where `|` stands for CR LF.
 pub fn unfolded(alloc: Global, text: &str) -> Option<Vec<u8>> {
     let mut bytes = Vec::new(alloc);
-    for b in text.as_bytes() {
-        if *b == b'|' {
-            bytes.extend_from_slice(b"\r\n").ok()?;
-        } else {
-            bytes.push(*b).ok()?;
+    for byte in text.as_bytes() {
+        if !add_byte(&mut bytes, *byte) {
+            return None;
         }
     }
     Some(bytes)
@@ -25,10 +26,10 @@ pub fn unfolded(alloc: Global, text: &str) -> Option<Vec<u8>> {
 /// A response of that code and body.
 pub fn response(alloc: Global, code: &str, body: &str) -> Option<Vec<u8>> {
     let length = body.len();
-    let text = format!(in alloc;
-        "HTTP/1.1 {code} X\r\nContent-Length: {length}\r\n\r\n{body}"
-    ).ok()?;
-    bytes_of(alloc, text.as_str())
+    match format!(in alloc; "HTTP/1.1 {code} X\r\nContent-Length: {length}\r\n\r\n{body}") {
+        Ok(text) => text.as_str().as_bytes().to_vec(alloc).ok(),
+        Err(_) => None,
+    }
 }
 
 fn answer_bytes(alloc: Global, answer: &str) -> Option<Vec<u8>> {
@@ -39,13 +40,21 @@ fn answer_bytes(alloc: Global, answer: &str) -> Option<Vec<u8>> {
     response(alloc, first, rest)
 }
 
+fn add_answer(alloc: Global, answers: &mut Vec<Vec<u8>>, answer: &str) -> bool {
+    match answer_bytes(alloc, answer) {
+        Some(bytes) => answers.push(bytes).is_ok(),
+        None => false,
+    }
+}
+
 /// A link that gives this one answer, or that fails where it is `broken`.
 pub fn link_of(alloc: Global, answer: &str) -> Option<PlainFar<MemLink>> {
     let mut answers = Vec::new(alloc);
-    if answer != "broken" {
-        answers.push(answer_bytes(alloc, answer)?).ok()?;
+    if answer == "broken" || add_answer(alloc, &mut answers, answer) {
+        Some(link_of_all(alloc, answers))
+    } else {
+        None
     }
-    Some(link_of_all(alloc, answers))
 }
 
 /// A link that gives these answers one after the other; the exchange behind the last one fails.
@@ -71,14 +80,52 @@ fn told(alloc: Global, request: &str) -> Option<String> {
     format!(in alloc; "{line} {body}").ok()
 }
 
+// Adds a request, which is told.
+fn add_told(alloc: Global, request: &str, out: &mut String) -> bool {
+    match told(alloc, request) {
+        Some(text) => out.push_str(text.as_str()).is_ok() && out.push_str(" -> ").is_ok(),
+        None => false,
+    }
+}
+
+// Adds the requests that were made, one after the other. Answers whether there was room.
+fn add_requests(alloc: Global, made: &[MemExchange], out: &mut String) -> bool {
+    for exchange in made {
+        let Ok(request) = str::from_utf8(exchange.request()) else {
+            return false;
+        };
+        if !add_told(alloc, request, out) {
+            return false;
+        }
+    }
+    true
+}
+
 /// The requests that were made, told one after the other.
 pub fn requests_of(alloc: Global, far: PlainFar<MemLink>) -> Option<String> {
-    let link = far.into_link();
     let mut out = String::new(alloc);
-    for exchange in link.made() {
-        let request = str::from_utf8(exchange.request()).ok()?;
-        out.push_str(told(alloc, request)?.as_str()).ok()?;
-        out.push_str(" -> ").ok()?;
+    if add_requests(alloc, far.into_link().made(), &mut out) {
+        Some(out)
+    } else {
+        None
     }
-    Some(out)
+}
+
+fn joined(front: String, told: &Option<String>) -> Option<String> {
+    let mut out = front;
+    match told {
+        Some(told) => match out.push_str(told.as_str()) {
+            Ok(()) => Some(out),
+            Err(_) => None,
+        },
+        None => None,
+    }
+}
+
+/// The requests that were made, and what is told behind them.
+pub fn answered(alloc: Global, far: PlainFar<MemLink>, told: Option<String>) -> Option<String> {
+    match requests_of(alloc, far) {
+        Some(out) => joined(out, &told),
+        None => None,
+    }
 }

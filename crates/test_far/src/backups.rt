@@ -1,18 +1,21 @@
 //! Dumps and restorings over a link, an output and an input in memory.
-use crate::answers::{link_of_all, requests_of};
+use crate::answers::{answered, link_of_all};
 use crate::calls::place;
 use crate::migrations::answers_of;
-use edge_io::{MemSink, MemSource};
+use edge_io::{MemLink, MemSink, MemSource};
 use record_dump::{DumpEnd, RestoreEnd, dump, restore};
 use std::alloc::Global;
+use wire_client::PlainFar;
 
 // The call that fails, by its number, where the case names one.
 fn failing(alloc: Global, word: &str) -> Option<Vec<u64>> {
-    let mut failing = Vec::new(alloc);
-    if word != "-" {
-        failing.push(word.parse::<u64>().ok()?).ok()?;
+    if word == "-" {
+        return Some(Vec::new(alloc));
     }
-    Some(failing)
+    match word.parse::<u64>() {
+        Ok(call) => vec![in alloc; call].ok(),
+        Err(_) => None,
+    }
 }
 
 fn dump_end(alloc: Global, end: DumpEnd) -> Option<String> {
@@ -26,7 +29,8 @@ fn dump_end(alloc: Global, end: DumpEnd) -> Option<String> {
     }
 }
 
-fn restore_end(alloc: Global, end: RestoreEnd) -> Option<String> {
+/// How a restoring ended.
+pub fn restore_end(alloc: Global, end: RestoreEnd) -> Option<String> {
     match end {
         RestoreEnd::Done { created, present } => {
             format!(in alloc; "created {created}, present {present}").ok()
@@ -43,61 +47,149 @@ fn restore_end(alloc: Global, end: RestoreEnd) -> Option<String> {
     }
 }
 
-// Adds the bytes, with `|` for a line feed.
-fn add_lines(out: &mut String, bytes: &[u8]) -> Option<()> {
-    for line in str::from_utf8(bytes).ok()?.split_inclusive('\n') {
-        match line.strip_suffix('\n') {
-            Some(text) => {
-                out.push_str(text).ok()?;
-                out.push_str("|").ok()?;
-            }
-            None => out.push_str(line).ok()?,
+// Adds a line, with `|` for its line feed. Answers whether there was room.
+fn add_line(out: &mut String, line: &str) -> bool {
+    match line.strip_suffix('\n') {
+        Some(text) => out.push_str(text).is_ok() && out.push_str("|").is_ok(),
+        None => out.push_str(line).is_ok(),
+    }
+}
+
+// Adds the lines of a text, with `|` for each line feed.
+fn add_lines(out: &mut String, text: &str) -> bool {
+    for line in text.split_inclusive('\n') {
+        if !add_line(out, line) {
+            return false;
         }
     }
-    Some(())
+    true
+}
+
+// Whether the lines that were written, and a word, were added.
+fn add_wrote(out: &mut String, bytes: &[u8], end: &str) -> bool {
+    match str::from_utf8(bytes) {
+        Ok(text) => {
+            add_lines(out, text) && out.push_str(" ").is_ok() && out.push_str(end).is_ok()
+        }
+        Err(_) => false,
+    }
+}
+
+/// The lines that a dump wrote, and how it ended.
+pub fn wrote(alloc: Global, bytes: &[u8], end: DumpEnd) -> Option<String> {
+    let mut out = String::new(alloc);
+    let is_added = match dump_end(alloc, end) {
+        Some(end) => add_wrote(&mut out, bytes, end.as_str()),
+        None => false,
+    };
+    if is_added { Some(out) } else { None }
+}
+
+// An output, of which the call of a number fails, if one does.
+fn sink_of(alloc: Global, word: &str) -> Option<MemSink> {
+    match failing(alloc, word) {
+        Some(failing) => MemSink::new(alloc, 10_000, failing).ok(),
+        None => None,
+    }
+}
+
+fn dumped_over(alloc: Global, far: &mut PlainFar<MemLink>, sink: &mut MemSink) -> Option<String> {
+    match place(alloc) {
+        Some(place) => {
+            let end = dump(far, alloc, &place, sink);
+            wrote(alloc, sink.bytes(), end)
+        }
+        None => None,
+    }
+}
+
+fn dumped_to(alloc: Global, sink: &mut MemSink, answers: &str) -> Option<String> {
+    match answers_of(alloc, answers) {
+        Some(answers) => {
+            let mut far = link_of_all(alloc, answers);
+            let told = dumped_over(alloc, &mut far, sink);
+            answered(alloc, far, told)
+        }
+        None => None,
+    }
 }
 
 /// The requests of a dump, the lines that it wrote, and how it ended.
 pub fn dumped(alloc: Global, case: &str) -> Option<String> {
     let (word, answers) = case.split_once(' ')?;
-    let mut sink = MemSink::new(alloc, 10_000, failing(alloc, word)?).ok()?;
-    let mut far = link_of_all(alloc, answers_of(alloc, answers)?);
-    let end = dump(&mut far, alloc, &place(alloc)?, &mut sink);
-    let mut out = requests_of(alloc, far)?;
-    add_lines(&mut out, sink.bytes())?;
-    out.push_str(" ").ok()?;
-    out.push_str(dump_end(alloc, end)?.as_str()).ok()?;
-    Some(out)
-}
-
-fn add_spaces(bytes: &mut Vec<u8>) -> Option<()> {
-    for _ in 0..65_536 {
-        bytes.push(b' ').ok()?;
+    match sink_of(alloc, word) {
+        Some(mut sink) => dumped_to(alloc, &mut sink, answers),
+        None => None,
     }
-    Some(())
 }
 
-// The bytes, where `|` stands for a line feed and `^` for 65,536 spaces.
-fn input_of(alloc: Global, text: &str) -> Option<Vec<u8>> {
+fn add_spaces(bytes: &mut Vec<u8>) -> bool {
+    for _ in 0..65_536 {
+        if bytes.push(b' ').is_err() {
+            return false;
+        }
+    }
+    true
+}
+
+fn add_byte(bytes: &mut Vec<u8>, byte: u8) -> bool {
+    match byte {
+        b'|' => bytes.push(b'\n').is_ok(),
+        b'^' => add_spaces(bytes),
+        other => bytes.push(other).is_ok(),
+    }
+}
+
+/// The bytes, where `|` stands for a line feed and `^` for 65,536 spaces.
+pub fn input_of(alloc: Global, text: &str) -> Option<Vec<u8>> {
     let mut bytes = Vec::new(alloc);
-    for b in text.as_bytes() {
-        match *b {
-            b'|' => bytes.push(b'\n').ok()?,
-            b'^' => add_spaces(&mut bytes)?,
-            other => bytes.push(other).ok()?,
+    for byte in text.as_bytes() {
+        if !add_byte(&mut bytes, *byte) {
+            return None;
         }
     }
     Some(bytes)
+}
+
+// The input of a case, of which the call of a number fails, if one does.
+fn source_of(alloc: Global, word: &str, input: &str) -> Option<MemSource> {
+    let Some(bytes) = input_of(alloc, input) else {
+        return None;
+    };
+    match failing(alloc, word) {
+        Some(failing) => Some(MemSource::new(bytes, 100, failing)),
+        None => None,
+    }
+}
+
+fn restored_over(
+    alloc: Global,
+    far: &mut PlainFar<MemLink>,
+    source: &mut MemSource,
+) -> Option<String> {
+    match place(alloc) {
+        Some(place) => restore_end(alloc, restore(far, alloc, &place, source)),
+        None => None,
+    }
+}
+
+fn restored_from(alloc: Global, source: &mut MemSource, answers: &str) -> Option<String> {
+    match answers_of(alloc, answers) {
+        Some(answers) => {
+            let mut far = link_of_all(alloc, answers);
+            let told = restored_over(alloc, &mut far, source);
+            answered(alloc, far, told)
+        }
+        None => None,
+    }
 }
 
 /// The requests of a restoring, and how it ended.
 pub fn restored(alloc: Global, case: &str) -> Option<String> {
     let (word, rest) = case.split_once(' ')?;
     let (input, answers) = rest.split_once(" <- ")?;
-    let mut source = MemSource::new(input_of(alloc, input)?, 100, failing(alloc, word)?);
-    let mut far = link_of_all(alloc, answers_of(alloc, answers)?);
-    let end = restore(&mut far, alloc, &place(alloc)?, &mut source);
-    let mut out = requests_of(alloc, far)?;
-    out.push_str(restore_end(alloc, end)?.as_str()).ok()?;
-    Some(out)
+    match source_of(alloc, word, input) {
+        Some(mut source) => restored_from(alloc, &mut source, answers),
+        None => None,
+    }
 }

@@ -35,13 +35,12 @@ fn answer(alloc: Global, buffer: &mut ResponseBuffer, part: &str, case: &str) ->
 }
 
 // Adds the line that a case is answered with.
-fn add(all: &mut String, came: &Option<String>) -> Option<()> {
+fn add(all: &mut String, came: &Option<String>) -> bool {
     let line = match came {
         Some(text) => text.as_str(),
         None => "no such case",
     };
-    all.push_str(line).ok()?;
-    all.push_str("\n").ok()
+    all.push_str(line).is_ok() && all.push_str("\n").is_ok()
 }
 
 /// What a script answers, whose first line begins with `# far `, the name of a part and a colon: a line for each case. One buffer serves all
@@ -53,7 +52,9 @@ pub fn tell(alloc: Global, head: &str, lines: &str) -> Option<String> {
     for line in lines.lines() {
         let case = if line == "<nothing>" { "" } else { line };
         let came = answer(alloc, &mut buffer, part, case);
-        add(&mut all, &came)?;
+        if !add(&mut all, &came) {
+            return None;
+        }
     }
     Some(all)
 }

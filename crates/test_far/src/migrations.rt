@@ -1,8 +1,10 @@
 //! Migrations over a link in memory.
-use crate::answers::{cut, link_of_all, requests_of, response, unfolded};
+use crate::answers::{answered, cut, link_of_all, response, unfolded};
 use crate::calls::place;
+use edge_io::MemLink;
 use far_migrate::{FarFault, Tally, migrate};
 use std::alloc::Global;
+use wire_client::PlainFar;
 
 // An object of the version: `NAMESPACE/NAME:NUMBER`.
 fn object(alloc: Global, short: &str) -> Option<String> {
@@ -13,19 +15,22 @@ fn object(alloc: Global, short: &str) -> Option<String> {
     ).ok()
 }
 
-fn add_item(alloc: Global, items: &mut String, short: &str) -> Option<()> {
-    let item = object(alloc, short)?;
-    if !items.is_empty() {
-        items.push_str(",").ok()?;
+// Adds an object behind others. Answers whether there was room.
+fn add_item(alloc: Global, items: &mut String, short: &str) -> bool {
+    match object(alloc, short) {
+        Some(item) => {
+            (items.is_empty() || items.push_str(",").is_ok())
+                && items.push_str(item.as_str()).is_ok()
+        }
+        None => false,
     }
-    items.push_str(item.as_str()).ok()
 }
 
 fn items(alloc: Global, words: &str) -> Option<String> {
     let mut items = String::new(alloc);
     for word in words.split_whitespace() {
-        if !word.starts_with('>') {
-            add_item(alloc, &mut items, word)?;
+        if !word.starts_with('>') && !add_item(alloc, &mut items, word) {
+            return None;
         }
     }
     Some(items)
@@ -50,12 +55,20 @@ fn page(alloc: Global, words: &str) -> Option<String> {
     ).ok()
 }
 
+// A response with what is told in short, if there is any.
+fn with_body(alloc: Global, code: &str, body: Option<String>) -> Option<Vec<u8>> {
+    match body {
+        Some(body) => response(alloc, code, body.as_str()),
+        None => None,
+    }
+}
+
 fn answer_of(alloc: Global, short: &str) -> Option<Vec<u8>> {
     let (word, rest) = cut(short, " ");
     match word {
-        "page" => response(alloc, "200", page(alloc, rest)?.as_str()),
-        "object" => response(alloc, "200", object(alloc, rest)?.as_str()),
-        "created" => response(alloc, "201", object(alloc, rest)?.as_str()),
+        "page" => with_body(alloc, "200", page(alloc, rest)),
+        "object" => with_body(alloc, "200", object(alloc, rest)),
+        "created" => with_body(alloc, "201", object(alloc, rest)),
         "json" => response(alloc, "200", rest),
         "long" => unfolded(alloc, "HTTP/1.1 200 OK|Content-Length: 1048577||"),
         "missing" => response(alloc, "404", "{\"details\":{}}"),
@@ -63,11 +76,20 @@ fn answer_of(alloc: Global, short: &str) -> Option<Vec<u8>> {
     }
 }
 
+fn add_answer(alloc: Global, answers: &mut Vec<Vec<u8>>, short: &str) -> bool {
+    match answer_of(alloc, short) {
+        Some(answer) => answers.push(answer).is_ok(),
+        None => false,
+    }
+}
+
 /// The answers, one after the other; the exchange behind the last one fails.
 pub fn answers_of(alloc: Global, short: &str) -> Option<Vec<Vec<u8>>> {
     let mut answers = Vec::new(alloc);
     for answer in short.split(';') {
-        answers.push(answer_of(alloc, answer.trim())?).ok()?;
+        if !add_answer(alloc, &mut answers, answer.trim()) {
+            return None;
+        }
     }
     Some(answers)
 }
@@ -89,14 +111,29 @@ fn fault_of(alloc: Global, fault: FarFault) -> Option<String> {
     }
 }
 
+/// The tally of a migration, or why there is none.
+pub fn told(alloc: Global, came: Result<Tally, FarFault>) -> Option<String> {
+    match came {
+        Ok(tally) => tally_of(alloc, &tally),
+        Err(fault) => fault_of(alloc, fault),
+    }
+}
+
+fn migrated_over(alloc: Global, far: &mut PlainFar<MemLink>) -> Option<String> {
+    match place(alloc) {
+        Some(place) => told(alloc, migrate(far, alloc, &place)),
+        None => None,
+    }
+}
+
 /// The requests of a migration, and its tally, or why there is none.
 pub fn answer(alloc: Global, case: &str) -> Option<String> {
-    let mut far = link_of_all(alloc, answers_of(alloc, case)?);
-    let told = match migrate(&mut far, alloc, &place(alloc)?) {
-        Ok(tally) => tally_of(alloc, &tally)?,
-        Err(fault) => fault_of(alloc, fault)?,
-    };
-    let mut out = requests_of(alloc, far)?;
-    out.push_str(told.as_str()).ok()?;
-    Some(out)
+    match answers_of(alloc, case) {
+        Some(answers) => {
+            let mut far = link_of_all(alloc, answers);
+            let told = migrated_over(alloc, &mut far);
+            answered(alloc, far, told)
+        }
+        None => None,
+    }
 }

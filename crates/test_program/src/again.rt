@@ -1,6 +1,7 @@
 //! A case that is run again.
-use crate::case::Case;
+use crate::case::{Case, Outside};
 use crate::going::{Outcome, run_case};
+use crate::lines::Lines;
 use std::alloc::Global;
 use std::sync::Wait;
 use std::thread::Threads;
@@ -14,22 +15,35 @@ fn is_same(one: &Outcome, other: &Outcome) -> bool {
         && one.calls == other.calls
 }
 
-fn add_line(all: &mut String, line: &str) -> Option<()> {
-    all.push_str(line).ok()?;
-    all.push_str("\n").ok()
+// Whether a run where the outside behaves so comes to the same.
+fn runs_same<R: Threads + Wait + Clock + Sync>(
+    rt: &R,
+    alloc: Global,
+    case: &Case,
+    came: &Outcome,
+    outside: Outside,
+) -> Option<bool> {
+    match run_case(rt, alloc, case, outside) {
+        Some(other) => Some(is_same(&other, came)),
+        None => None,
+    }
 }
 
 // What a run in pieces of this size comes to, beside the run in whole.
-fn add_piece(
+fn run_piece<R: Threads + Wait + Clock + Sync>(
+    rt: &R,
     alloc: Global,
-    all: &mut String,
+    case: &Case,
     came: &Outcome,
-    other: &Outcome,
     piece: usize,
-) -> Option<()> {
-    let same = is_same(other, came);
-    let line = format!(in alloc; "in pieces of {piece}, the same: {same}").ok()?;
-    add_line(all, line.as_str())
+    all: &mut Lines,
+) {
+    match runs_same(rt, alloc, case, came, case.outside.in_pieces(piece)) {
+        Some(same) => {
+            all.add(format!(in alloc; "in pieces of {piece}, the same: {same}\n").ok());
+        }
+        None => all.lose(),
+    }
 }
 
 // In pieces of each size that the case names.
@@ -38,14 +52,42 @@ fn run_pieces<R: Threads + Wait + Clock + Sync>(
     alloc: Global,
     case: &Case,
     came: &Outcome,
-    all: &mut String,
-) -> Option<()> {
+    all: &mut Lines,
+) {
     for word in case.again.pieces.as_str().split(' ') {
-        let piece = word.parse::<usize>().ok()?;
-        let other = run_case(rt, alloc, case, case.outside.in_pieces(piece))?;
-        add_piece(alloc, all, came, &other, piece)?;
+        match word.parse::<usize>() {
+            Ok(piece) => run_piece(rt, alloc, case, came, piece, all),
+            Err(_) => all.lose(),
+        }
     }
-    Some(())
+}
+
+// How much a run wrote that ended with this status, and no more than a front of what the whole run did: nothing where it ended with another, and
+// no answer where it wrote something else.
+fn front_of(came: &Outcome, other: &Outcome, status: u8) -> Option<Option<usize>> {
+    if other.status != status {
+        return Some(None);
+    }
+    if came.output.starts_with(other.output.as_slice()) {
+        Some(Some(other.output.len()))
+    } else {
+        None
+    }
+}
+
+// The same of a run where the outside behaves so.
+fn front_where<R: Threads + Wait + Clock + Sync>(
+    rt: &R,
+    alloc: Global,
+    case: &Case,
+    came: &Outcome,
+    outside: Outside,
+    status: u8,
+) -> Option<Option<usize>> {
+    match run_case(rt, alloc, case, outside) {
+        Some(other) => front_of(came, &other, status),
+        None => None,
+    }
 }
 
 // How many of the first writes fail, each with a front of what was to be written. There is no answer where one has none.
@@ -56,71 +98,85 @@ fn failing_writes<R: Threads + Wait + Clock + Sync>(
     came: &Outcome,
 ) -> Option<u64> {
     for write in 0..10_000 {
-        let other = run_case(rt, alloc, case, case.outside.unwritten_at(write))?;
-        if other.status != 6 {
-            return Some(write);
-        }
-        if !came.output.starts_with(other.output.as_slice()) {
-            return None;
+        let outside = case.outside.unwritten_at(write);
+        match front_where(rt, alloc, case, came, outside, 6) {
+            Some(Some(_)) => {}
+            Some(None) => return Some(write),
+            None => return None,
         }
     }
     None
 }
 
-// How much was written where each of the first reads fails, until none does.
+// Adds how much was written where each of the first reads fails, until none does. Answers whether each wrote a front, and one didn't fail.
 fn failing_reads<R: Threads + Wait + Clock + Sync>(
     rt: &R,
     alloc: Global,
     case: &Case,
     came: &Outcome,
-) -> Option<Vec<usize>> {
-    let mut lengths = Vec::new(alloc);
+    lengths: &mut Vec<usize>,
+) -> bool {
     for read in 0..10_000 {
-        let other = run_case(rt, alloc, case, case.outside.unread_at(read))?;
-        if other.status != 5 {
-            return Some(lengths);
+        let outside = case.outside.unread_at(read);
+        match front_where(rt, alloc, case, came, outside, 5) {
+            Some(Some(length)) => {
+                if lengths.push(length).is_err() {
+                    return false;
+                }
+            }
+            Some(None) => return true,
+            None => return false,
         }
-        if !came.output.starts_with(other.output.as_slice()) {
-            return None;
-        }
-        lengths.push(other.output.len()).ok()?;
     }
-    None
+    false
 }
 
 // From which failing read on so much was written.
-fn add_reads(alloc: Global, all: &mut String, lengths: &[usize]) -> Option<()> {
+fn add_reads(alloc: Global, all: &mut Lines, lengths: &[usize]) {
     let mut before = usize::MAX;
     for (read, length) in lengths.iter().enumerate() {
         if *length != before {
-            let line = format!(in alloc;
-                "reads from {read} on that fail: a front of {length} bytes"
-            ).ok()?;
-            add_line(all, line.as_str())?;
+            all.add(format!(in alloc;
+                "reads from {read} on that fail: a front of {length} bytes\n"
+            ).ok());
         }
         before = *length;
     }
-    Some(())
+    let reads = lengths.len();
+    all.add(format!(in alloc; "reads that fail: {reads}\n").ok());
 }
 
-fn run_faults<R: Threads + Wait + Clock + Sync>(
+fn run_writes<R: Threads + Wait + Clock + Sync>(
     rt: &R,
     alloc: Global,
     case: &Case,
     came: &Outcome,
-    all: &mut String,
-) -> Option<()> {
-    let writes = failing_writes(rt, alloc, case, came)?;
-    let enough = writes >= 12;
-    let line = format!(in alloc;
-        "writes that fail, each with a front, twelve or more: {enough}"
-    ).ok()?;
-    add_line(all, line.as_str())?;
-    let lengths = failing_reads(rt, alloc, case, came)?;
-    add_reads(alloc, all, lengths.as_slice())?;
-    let reads = lengths.len();
-    let line = format!(in alloc; "reads that fail: {reads}").ok()?;
-    add_line(all, line.as_str())
+    all: &mut Lines,
+) {
+    match failing_writes(rt, alloc, case, came) {
+        Some(writes) => {
+            let enough = writes >= 12;
+            all.add(format!(in alloc;
+                "writes that fail, each with a front, twelve or more: {enough}\n"
+            ).ok());
+        }
+        None => all.lose(),
+    }
+}
+
+fn run_reads<R: Threads + Wait + Clock + Sync>(
+    rt: &R,
+    alloc: Global,
+    case: &Case,
+    came: &Outcome,
+    all: &mut Lines,
+) {
+    let mut lengths = Vec::new(alloc);
+    if failing_reads(rt, alloc, case, came, &mut lengths) {
+        add_reads(alloc, all, lengths.as_slice());
+    } else {
+        all.lose();
+    }
 }
 
 // Whether the input comes to the same in two pieces, parted at each place.
@@ -129,18 +185,19 @@ fn run_pairs<R: Threads + Wait + Clock + Sync>(
     alloc: Global,
     case: &Case,
     came: &Outcome,
-    all: &mut String,
-) -> Option<()> {
+    all: &mut Lines,
+) {
     let mut same = true;
-    for place in 0..case.asked.input.len() {
-        let other = run_case(rt, alloc, case, case.outside.in_two(place))?;
-        same = same && is_same(&other, came);
-    }
     let places = case.asked.input.len();
-    let line = format!(in alloc;
-        "in two pieces, parted at each of {places} places, the same: {same}"
-    ).ok()?;
-    add_line(all, line.as_str())
+    for place in 0..places {
+        match runs_same(rt, alloc, case, came, case.outside.in_two(place)) {
+            Some(is_so) => same = same && is_so,
+            None => all.lose(),
+        }
+    }
+    all.add(format!(in alloc;
+        "in two pieces, parted at each of {places} places, the same: {same}\n"
+    ).ok());
 }
 
 // What an input comes to that ends sooner. There is no answer where what is written is no front of what the whole comes to.
@@ -148,9 +205,33 @@ fn ending(alloc: Global, came: &Outcome, other: &Outcome) -> Option<String> {
     if !came.output.starts_with(other.output.as_slice()) {
         return None;
     }
-    let errors = str::from_utf8(other.errors.as_slice()).ok()?.trim_end();
+    let Ok(errors) = str::from_utf8(other.errors.as_slice()) else {
+        return None;
+    };
+    let errors = errors.trim_end();
     let (length, status) = (other.output.len(), other.status);
     format!(in alloc; "= {status}, a front of {length} bytes, \"{errors}\"").ok()
+}
+
+fn ending_at<R: Threads + Wait + Clock + Sync>(
+    rt: &R,
+    alloc: Global,
+    case: &Case,
+    came: &Outcome,
+    end: usize,
+) -> Option<String> {
+    match run_case(rt, alloc, case, case.outside.ended_at(end)) {
+        Some(other) => ending(alloc, came, &other),
+        None => None,
+    }
+}
+
+// Adds what an input comes to that ends there, where that isn't what it was before.
+fn add_end(alloc: Global, end: usize, told: String, before: &mut String, all: &mut Lines) {
+    if told != *before {
+        all.add(format!(in alloc; "ended at {end} and on: {}\n", told.as_str()).ok());
+    }
+    *before = told;
 }
 
 // From which place on an input that ends there comes to something else.
@@ -159,38 +240,34 @@ fn run_ends<R: Threads + Wait + Clock + Sync>(
     alloc: Global,
     case: &Case,
     came: &Outcome,
-    all: &mut String,
-) -> Option<()> {
+    all: &mut Lines,
+) {
     let mut before = String::new(alloc);
     for end in 0..case.asked.input.len() {
-        let other = run_case(rt, alloc, case, case.outside.ended_at(end))?;
-        let told = ending(alloc, came, &other)?;
-        if told != before {
-            let line = format!(in alloc; "ended at {end} and on: {}", told.as_str()).ok()?;
-            add_line(all, line.as_str())?;
+        match ending_at(rt, alloc, case, came, end) {
+            Some(told) => add_end(alloc, end, told, &mut before, all),
+            None => all.lose(),
         }
-        before = told;
     }
-    Some(())
 }
 
-/// Runs a case again as it says, and tells what that comes to beside the first run.
+/// Runs a case again as it says, and adds what that comes to beside the first run.
 pub(crate) fn run_again<R: Threads + Wait + Clock + Sync>(
     rt: &R,
     alloc: Global,
     case: &Case,
     came: &Outcome,
-) -> Option<String> {
-    let mut all = String::new(alloc);
+    all: &mut Lines,
+) {
     if !case.again.pieces.is_empty() {
-        run_pieces(rt, alloc, case, came, &mut all)?;
+        run_pieces(rt, alloc, case, came, all);
     }
     if case.again.faults {
-        run_faults(rt, alloc, case, came, &mut all)?;
+        run_writes(rt, alloc, case, came, all);
+        run_reads(rt, alloc, case, came, all);
     }
     if case.again.places {
-        run_pairs(rt, alloc, case, came, &mut all)?;
-        run_ends(rt, alloc, case, came, &mut all)?;
+        run_pairs(rt, alloc, case, came, all);
+        run_ends(rt, alloc, case, came, all);
     }
-    Some(all)
 }

@@ -4,6 +4,7 @@ ghost use Rattle.edge_io.specs.MemoryEars.{IsUnread, IsUnwritten};
 
 use crate::case::{Case, Connections, Outside};
 use crate::input::Input;
+use crate::reviewing::{RuleLinks, is_ruled};
 use edge_io::{
     Ears, Files, FixedClock, MemConnection, MemEars, MemFile, MemFiles, MemLink, MemSink,
     MemSource, Sink, Source,
@@ -152,16 +153,6 @@ fn links_of(alloc: Global, case: &Case, outside: Outside) -> Option<MemLinks> {
     Some(MemLinks::new(ready))
 }
 
-// What was written to the connection, or asked over the link.
-fn sent(alloc: Global, ears: &MemEars, links: &MemLinks) -> Option<Vec<u8>> {
-    let mut all = ears.last_written().unwrap_or(&[]).to_vec(alloc).ok()?;
-    for exchange in links.last_made().unwrap_or(&[]) {
-        all.extend_from_slice(exchange.request()).ok()?;
-        all.push(b'\n').ok()?;
-    }
-    Some(all)
-}
-
 /// What a run came to.
 #[derive(Drop)]
 pub(crate) struct Outcome {
@@ -173,17 +164,17 @@ pub(crate) struct Outcome {
     pub(crate) handed_out: usize,
 }
 
-// What stands in the sinks behind a run.
+// What stands in the sinks behind a run, and what was written to the connection.
 fn outcome_of(
     alloc: Global,
     output: &MemSink,
     ears: &MemEars,
-    connection: Vec<u8>,
     errors: &MemSink,
     status: u8,
     calls: u64,
 ) -> Option<Outcome> {
     let output = output.bytes().to_vec(alloc).ok()?;
+    let connection = ears.last_written().unwrap_or(&[]).to_vec(alloc).ok()?;
     let errors = errors.bytes().to_vec(alloc).ok()?;
     Some(Outcome {
         output,
@@ -235,7 +226,7 @@ where
 }
 
 // Runs the program in this outside.
-fn run_in<R: Threads + Wait + Clock + Sync>(
+fn run_in<R: Threads + Wait + Clock + Sync, L: Links>(
     rt: &R,
     alloc: Global,
     words: &Words,
@@ -244,18 +235,50 @@ fn run_in<R: Threads + Wait + Clock + Sync>(
     output: &mut MemSink,
     errors: &mut MemSink,
     ears: &mut MemEars,
-    links: &mut MemLinks,
-) -> Option<Outcome> {
+    links: &mut L,
+) -> Option<Outcome>
+where
+    L::One: Sync,
+{
     let status = status_of(rt, alloc, words, files, source, output, errors, ears, links);
-    let connection = sent(alloc, ears, links)?;
-    outcome_of(
+    outcome_of(alloc, output, ears, errors, status, files.calls())
+}
+
+// Adds what was asked over the link.
+fn add_asked(came: &mut Outcome, links: &MemLinks) -> Option<()> {
+    for exchange in links.last_made().unwrap_or(&[]) {
+        came.connection.extend_from_slice(exchange.request()).ok()?;
+        came.connection.push(b'\n').ok()?;
+    }
+    Some(())
+}
+
+// Runs the program over a case with these links.
+fn run_over<R: Threads + Wait + Clock + Sync, L: Links>(
+    rt: &R,
+    alloc: Global,
+    case: &Case,
+    outside: Outside,
+    links: &mut L,
+) -> Option<Outcome>
+where
+    L::One: Sync,
+{
+    let words = words_of(alloc, case.asked.words.as_str())?;
+    let mut files = files_of(alloc, case)?;
+    let mut source = input_of(alloc, case, outside)?;
+    let (mut output, mut errors) = sinks_of(alloc, outside)?;
+    let mut ears = ears_of(alloc, case, outside)?;
+    run_in(
+        rt,
         alloc,
-        output,
-        ears,
-        connection,
-        errors,
-        status,
-        files.calls(),
+        &words,
+        &mut files,
+        &mut source,
+        &mut output,
+        &mut errors,
+        &mut ears,
+        links,
     )
 }
 
@@ -266,21 +289,12 @@ pub(crate) fn run_case<R: Threads + Wait + Clock + Sync>(
     case: &Case,
     outside: Outside,
 ) -> Option<Outcome> {
-    let words = words_of(alloc, case.asked.words.as_str())?;
-    let mut files = files_of(alloc, case)?;
-    let mut source = input_of(alloc, case, outside)?;
-    let (mut output, mut errors) = sinks_of(alloc, outside)?;
-    let mut ears = ears_of(alloc, case, outside)?;
+    if is_ruled(case.asked.words.as_str()) {
+        let mut links = RuleLinks::new(&case.documents);
+        return run_over(rt, alloc, case, outside, &mut links);
+    }
     let mut links = links_of(alloc, case, outside)?;
-    run_in(
-        rt,
-        alloc,
-        &words,
-        &mut files,
-        &mut source,
-        &mut output,
-        &mut errors,
-        &mut ears,
-        &mut links,
-    )
+    let mut came = run_over(rt, alloc, case, outside, &mut links)?;
+    add_asked(&mut came, &links)?;
+    Some(came)
 }

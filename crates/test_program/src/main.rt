@@ -29,6 +29,7 @@
 //!
 //! The ears have one connection, which holds the input too, or as many as the case says. The answers of the one link are the parts of the input
 //! between two `~`; of a line of `load` and of one with a converter those behind the first `~`, before which the input stands. What was written to the connection that was given back last, or asked over the link, is printed behind the output.
+//! A converter at `http://rules:8081/convert` has no such answers: it answers by the two files, as a line of `review` does.
 //!
 //! Nothing here has a contract.
 #![tactic(auto)]
@@ -37,6 +38,8 @@ mod again;
 mod case;
 mod going;
 mod input;
+mod lines;
+mod reviewing;
 mod steps;
 mod telling;
 

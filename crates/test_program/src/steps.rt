@@ -1,5 +1,6 @@
 //! What each line of a case says.
-use crate::case::{Again, Asked, Block, Case, Documents, Outside};
+use crate::case::{Again, Asked, Block, Case, Connections, Documents, Outside};
+use crate::lines::Lines;
 use crate::telling::go;
 use std::alloc::Global;
 use std::mem;
@@ -17,91 +18,148 @@ fn behind(line: &str) -> &str {
 
 // So many times the text.
 fn repeated(alloc: Global, text: &str, times: usize) -> Option<String> {
-    let mut all = String::new(alloc);
+    let mut all = Lines::new(alloc);
     for _ in 0..times {
-        all.push_str(text).ok()?;
+        all.push(text);
     }
-    Some(all)
+    all.told()
 }
 
-fn of_documents(alloc: Global, documents: &mut Documents, word: u8, text: &str) -> Option<()> {
+// Puts a text in place of another. Answers whether there was memory.
+fn put(alloc: Global, place: &mut String, text: &str) -> bool {
+    match String::from_str(alloc, text) {
+        Ok(text) => {
+            *place = text;
+            true
+        }
+        Err(_) => false,
+    }
+}
+
+fn edit(alloc: Global, documents: &mut Documents, text: &str) -> bool {
+    let old = documents.old.as_str();
+    match documents.crd.as_str().replacen(alloc, old, text, 1) {
+        Ok(crd) => {
+            documents.crd = crd;
+            true
+        }
+        Err(_) => false,
+    }
+}
+
+fn of_documents(alloc: Global, documents: &mut Documents, word: u8, text: &str) -> bool {
     match word {
-        b'd' => {
-            documents.base = String::from_str(alloc, text).ok()?;
-            documents.crd = String::from_str(alloc, text).ok()?;
-        }
-        b'r' => documents.rules = String::from_str(alloc, text).ok()?,
-        b'-' => documents.old = String::from_str(alloc, text).ok()?,
-        _ => {
-            let old = documents.old.as_str();
-            documents.crd = documents.crd.as_str().replacen(alloc, old, text, 1).ok()?;
-        }
+        b'd' => { put(alloc, &mut documents.base, text) && put(alloc, &mut documents.crd, text) }
+        b'r' => put(alloc, &mut documents.rules, text),
+        b'-' => put(alloc, &mut documents.old, text),
+        _ => edit(alloc, documents, text),
     }
-    Some(())
 }
 
-fn add_get(alloc: Global, asked: &mut Asked, target: &str) -> Option<()> {
-    let head = format!(in alloc; "GET {target} HTTP/1.1\r\n\r\n").ok()?;
-    asked.input.push_str(head.as_str()).ok()
+fn add_get(alloc: Global, asked: &mut Asked, target: &str) -> bool {
+    match format!(in alloc; "GET {target} HTTP/1.1\r\n\r\n") {
+        Ok(head) => asked.input.push_str(head.as_str()).is_ok(),
+        Err(_) => false,
+    }
 }
 
-fn add_body(alloc: Global, asked: &mut Asked, text: &str) -> Option<()> {
-    asked.body.push_str(text).ok()?;
+// The request that isn't whole yet, with its body.
+fn request(alloc: Global, asked: &Asked) -> Option<String> {
     let target = asked.target.as_str();
     let body = asked.body.as_str();
     let len = body.len();
-    let request = format!(in alloc;
-        "{target} HTTP/1.1\r\nContent-Length: {len}\r\n\r\n{body}"
-    ).ok()?;
-    asked.input.push_str(request.as_str()).ok()?;
-    asked.body.clear();
-    Some(())
+    format!(in alloc; "{target} HTTP/1.1\r\nContent-Length: {len}\r\n\r\n{body}").ok()
 }
 
-fn of_requests(alloc: Global, asked: &mut Asked, word: u8, text: &str) -> Option<()> {
-    match word {
-        b'p' => asked.body.push_str(text).ok()?,
-        b'b' => add_body(alloc, asked, text)?,
-        b'i' => asked.input.push_str(text).ok()?,
-        b'L' => {
-            asked.input.push_str(text).ok()?;
-            asked.input.push_str("\n").ok()?;
+fn add_body(alloc: Global, asked: &mut Asked, text: &str) -> bool {
+    if asked.body.push_str(text).is_err() {
+        return false;
+    }
+    match request(alloc, asked) {
+        Some(request) => {
+            asked.body.clear();
+            asked.input.push_str(request.as_str()).is_ok()
         }
-        _ => {
-            asked.input.push_str(text).ok()?;
-            asked.input.push_str("\r\n").ok()?;
+        None => false,
+    }
+}
+
+fn add_line(input: &mut String, text: &str, end: &str) -> bool {
+    input.push_str(text).is_ok() && input.push_str(end).is_ok()
+}
+
+fn of_requests(alloc: Global, asked: &mut Asked, word: u8, text: &str) -> bool {
+    match word {
+        b'p' => asked.body.push_str(text).is_ok(),
+        b'b' => add_body(alloc, asked, text),
+        b'i' => asked.input.push_str(text).is_ok(),
+        b'L' => add_line(&mut asked.input, text, "\n"),
+        _ => add_line(&mut asked.input, text, "\r\n"),
+    }
+}
+
+// Whether it is a number, which is put there.
+fn put_size(place: &mut usize, text: &str) -> bool {
+    match text.parse::<usize>() {
+        Ok(n) => {
+            *place = n;
+            true
         }
+        Err(_) => false,
     }
-    Some(())
 }
 
-fn of_outside(outside: &mut Outside, word: u8, text: &str) -> Option<()> {
+fn put_number(place: &mut u64, text: &str) -> bool {
+    match text.parse::<u64>() {
+        Ok(n) => {
+            *place = n;
+            true
+        }
+        Err(_) => false,
+    }
+}
+
+fn of_connections(connections: &mut Connections, word: u8, text: &str) -> bool {
     match word {
-        b's' => outside.piece = text.parse::<usize>().ok()?,
-        b'f' => outside.failing_read = text.parse::<u64>().ok()?,
-        b'u' => outside.failing_write = text.parse::<u64>().ok()?,
-        b'c' => outside.failing_ears = text.parse::<u64>().ok()?,
-        b'm' => outside.connections.count = text.parse::<usize>().ok()?,
-        b'F' => outside.connections.failing_read = text.parse::<u64>().ok()?,
-        b'U' => outside.connections.failing_write = text.parse::<u64>().ok()?,
-        b'l' => outside.last = text.parse::<usize>().ok()?,
-        b'D' => outside.spoils_crd = true,
-        b'R' => outside.spoils_rules = true,
-        _ => return None,
+        b'm' => put_size(&mut connections.count, text),
+        b'F' => put_number(&mut connections.failing_read, text),
+        _ => put_number(&mut connections.failing_write, text),
     }
-    Some(())
 }
 
-fn of_again(alloc: Global, again: &mut Again, word: u8, text: &str) -> Option<()> {
+fn of_outside(outside: &mut Outside, word: u8, text: &str) -> bool {
     match word {
-        b'a' => again.pieces = String::from_str(alloc, text).ok()?,
-        _ if text == "place" => again.places = true,
-        _ => again.faults = true,
+        b's' => put_size(&mut outside.piece, text),
+        b'f' => put_number(&mut outside.failing_read, text),
+        b'u' => put_number(&mut outside.failing_write, text),
+        b'c' => put_number(&mut outside.failing_ears, text),
+        b'm' | b'F' | b'U' => of_connections(&mut outside.connections, word, text),
+        b'l' => put_size(&mut outside.last, text),
+        b'D' => {
+            outside.spoils_crd = true;
+            true
+        }
+        b'R' => {
+            outside.spoils_rules = true;
+            true
+        }
+        _ => false,
     }
-    Some(())
 }
 
-fn of_case(alloc: Global, case: &mut Case, word: u8, text: &str) -> Option<()> {
+fn of_again(alloc: Global, again: &mut Again, word: u8, text: &str) -> bool {
+    if word == b'a' {
+        return put(alloc, &mut again.pieces, text);
+    }
+    if text == "place" {
+        again.places = true;
+    } else {
+        again.faults = true;
+    }
+    true
+}
+
+fn of_case(alloc: Global, case: &mut Case, word: u8, text: &str) -> bool {
     match word {
         b'd' | b'r' | b'-' | b'+' => of_documents(alloc, &mut case.documents, word, text),
         b'p' | b'b' | b'i' | b'h' | b'L' => of_requests(alloc, &mut case.asked, word, text),
@@ -110,25 +168,35 @@ fn of_case(alloc: Global, case: &mut Case, word: u8, text: &str) -> Option<()> {
     }
 }
 
+fn add_gets(alloc: Global, asked: &mut Asked, target: &str, times: usize) -> bool {
+    for _ in 0..times {
+        if !add_get(alloc, asked, target) {
+            return false;
+        }
+    }
+    true
+}
+
 // The next line, which stands so many times.
-fn of_times(alloc: Global, case: &mut Case, word: u8, text: &str) -> Option<()> {
+fn of_times(alloc: Global, case: &mut Case, word: u8, text: &str) -> bool {
     let times = case.times;
     case.times = 1;
     match word {
-        b't' => {
-            case.times = text.parse::<usize>().ok()?;
-            Some(())
-        }
-        b'G' => {
-            for _ in 0..times {
-                add_get(alloc, &mut case.asked, text)?;
-            }
-            Some(())
-        }
-        _ => {
-            let all = repeated(alloc, text, times)?;
-            of_case(alloc, case, word, all.as_str())
-        }
+        b't' => put_size(&mut case.times, text),
+        b'G' => add_gets(alloc, &mut case.asked, text, times),
+        _ => match repeated(alloc, text, times) {
+            Some(all) => of_case(alloc, case, word, all.as_str()),
+            None => false,
+        },
+    }
+}
+
+// Nothing is printed where a line was taken, and there is no answer where it wasn't.
+fn silent(alloc: Global, is_taken: bool) -> Option<String> {
+    if is_taken {
+        Some(String::new(alloc))
+    } else {
+        None
     }
 }
 
@@ -140,20 +208,28 @@ fn take_line<R: Threads + Wait + Clock + Sync>(
     line: &str,
 ) -> Option<String> {
     match line.as_bytes().first() {
-        None => Some(String::new(alloc)),
+        None => silent(alloc, true),
         Some(b'#') => format!(in alloc; "{line}\n").ok(),
         Some(b'.') => go(rt, alloc, case),
-        Some(b'w') => {
-            case.asked.words = String::from_str(alloc, line).ok()?;
-            Some(String::new(alloc))
-        }
-        Some(b'P') => {
-            case.asked.target = String::from_str(alloc, line).ok()?;
-            Some(String::new(alloc))
-        }
-        Some(word) => {
-            of_times(alloc, case, *word, behind(line))?;
-            Some(String::new(alloc))
+        Some(b'w') => silent(alloc, put(alloc, &mut case.asked.words, line)),
+        Some(b'P') => silent(alloc, put(alloc, &mut case.asked.target, line)),
+        Some(word) => silent(alloc, of_times(alloc, case, *word, behind(line))),
+    }
+}
+
+// Takes lines, with this text in place of each `@`.
+fn take_lines<R: Threads + Wait + Clock + Sync>(
+    rt: &R,
+    alloc: Global,
+    case: &mut Case,
+    lines: &[String],
+    number: &str,
+    all: &mut Lines,
+) {
+    for line in lines {
+        match line.as_str().replace(alloc, "@", number) {
+            Ok(line) => all.add(take_line(rt, alloc, case, line.as_str())),
+            Err(_) => all.lose(),
         }
     }
 }
@@ -165,16 +241,30 @@ fn take_block<R: Threads + Wait + Clock + Sync>(
     case: &mut Case,
     block: Block,
 ) -> Option<String> {
-    let mut all = String::new(alloc);
+    let mut all = Lines::new(alloc);
     for number in block.first..block.end {
-        let number = format!(in alloc; "{number}").ok()?;
-        for line in &block.lines {
-            let line = line.as_str().replace(alloc, "@", number.as_str()).ok()?;
-            let text = take_line(rt, alloc, case, line.as_str())?;
-            all.push_str(text.as_str()).ok()?;
+        match format!(in alloc; "{number}") {
+            Ok(number) => take_lines(rt, alloc, case, &block.lines, number.as_str(), &mut all),
+            Err(_) => all.lose(),
         }
     }
-    Some(all)
+    all.told()
+}
+
+// Puts a line behind the others of a block.
+fn gather(alloc: Global, lines: &mut Vec<String>, line: &str) -> bool {
+    match String::from_str(alloc, line) {
+        Ok(line) => lines.push(line).is_ok(),
+        Err(_) => false,
+    }
+}
+
+// Begins a block of the numbers from the one on and below the other.
+fn begin(block: &mut Block, numbers: &str) -> bool {
+    match numbers.split_once(' ') {
+        Some((first, end)) => put_size(&mut block.first, first) && put_size(&mut block.end, end),
+        None => false,
+    }
 }
 
 /// Takes a line, and answers what is to be printed; there is no answer where it is no line, or memory is wanted.
@@ -189,15 +279,10 @@ pub(crate) fn take<R: Threads + Wait + Clock + Sync>(
         return take_block(rt, alloc, case, block);
     }
     if line.starts_with("@ ") {
-        let (first, end) = behind(line).split_once(' ')?;
-        case.block.first = first.parse::<usize>().ok()?;
-        case.block.end = end.parse::<usize>().ok()?;
-        return Some(String::new(alloc));
+        return silent(alloc, begin(&mut case.block, behind(line)));
     }
     if case.block.first < case.block.end {
-        let line = String::from_str(alloc, line).ok()?;
-        case.block.lines.push(line).ok()?;
-        return Some(String::new(alloc));
+        return silent(alloc, gather(alloc, &mut case.block.lines, line));
     }
     take_line(rt, alloc, case, line)
 }

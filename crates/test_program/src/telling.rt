@@ -2,69 +2,92 @@
 use crate::again::run_again;
 use crate::case::{Again, Case, Outside};
 use crate::going::{Outcome, run_case};
+use crate::lines::Lines;
 use sha2::{Digest, Sha256};
 use std::alloc::Global;
 use std::sync::Wait;
 use std::thread::Threads;
 use std::time::Clock;
 
-// The digest of bytes, in hexadecimal digits.
-fn digest_of(alloc: Global, bytes: &[u8]) -> Option<String> {
+// Adds the digest of bytes, in hexadecimal digits.
+fn add_digest(alloc: Global, all: &mut Lines, bytes: &[u8]) {
     let mut hasher = Sha256::new();
     hasher.update(bytes);
-    let mut text = String::new(alloc);
     for byte in hasher.finalize() {
-        let digits = format!(in alloc; "{byte:02x}").ok()?;
-        text.push_str(digits.as_str()).ok()?;
+        all.add(format!(in alloc; "{byte:02x}").ok());
     }
-    Some(text)
+}
+
+fn add_text(all: &mut Lines, bytes: &[u8]) {
+    match str::from_utf8(bytes) {
+        Ok(text) => {
+            if !text.is_empty() {
+                all.push(text);
+                all.push("\n");
+            }
+        }
+        Err(_) => all.lose(),
+    }
 }
 
 // The end of the output, behind how much comes before it.
-fn add_output(alloc: Global, all: &mut String, output: &[u8], last: usize) -> Option<()> {
+fn add_output(alloc: Global, all: &mut Lines, output: &[u8], last: usize) {
     let before = output.len().saturating_sub(last);
+    let (front, end) = output.split_at(before.min(output.len()));
     if before > 0 {
-        let digest = digest_of(alloc, output.get(..before)?)?;
-        let line = format!(in alloc; "({before} bytes, SHA-256 {digest})\n").ok()?;
-        all.push_str(line.as_str()).ok()?;
+        all.add(format!(in alloc; "({before} bytes, SHA-256 ").ok());
+        add_digest(alloc, all, front);
+        all.push(")\n");
     }
-    let text = str::from_utf8(output.get(before..)?).ok()?;
-    if !text.is_empty() {
-        all.push_str(text).ok()?;
-        all.push_str("\n").ok()?;
-    }
-    Some(())
+    add_text(all, end);
 }
 
-/// What a run came to, of whose output only the last bytes are shown.
-pub(crate) fn told(alloc: Global, came: &Outcome, last: usize) -> Option<String> {
-    let mut all = String::new(alloc);
-    add_output(alloc, &mut all, came.output.as_slice(), last)?;
-    add_output(alloc, &mut all, came.connection.as_slice(), last)?;
-    all.push_str(str::from_utf8(came.errors.as_slice()).ok()?)
-        .ok()?;
-    let line = format!(in alloc; "= {}, {} files read\n", came.status, came.calls).ok()?;
-    all.push_str(line.as_str()).ok()?;
-    Some(all)
+fn add_errors(all: &mut Lines, bytes: &[u8]) {
+    match str::from_utf8(bytes) {
+        Ok(text) => all.push(text),
+        Err(_) => all.lose(),
+    }
+}
+
+// What a run came to, of whose output only the last bytes are shown.
+fn add_told(alloc: Global, all: &mut Lines, came: &Outcome, last: usize) {
+    add_output(alloc, all, came.output.as_slice(), last);
+    add_output(alloc, all, came.connection.as_slice(), last);
+    add_errors(all, came.errors.as_slice());
+    let (status, calls) = (came.status, came.calls);
+    all.add(format!(in alloc; "= {status}, {calls} files read\n").ok());
 }
 
 // How many connections were handed out, where there are many.
-fn add_connections(alloc: Global, all: &mut String, case: &Case, came: &Outcome) -> Option<()> {
+fn add_connections(alloc: Global, all: &mut Lines, case: &Case, came: &Outcome) {
     if case.outside.connections.count > 1 {
-        let line = format!(in alloc; "connections handed out: {}\n", came.handed_out).ok()?;
-        all.push_str(line.as_str()).ok()?;
+        let count = came.handed_out;
+        all.add(format!(in alloc; "connections handed out: {count}\n").ok());
     }
-    Some(())
 }
 
 // What a case said of itself alone is forgotten.
-fn clear(alloc: Global, case: &mut Case) -> Option<()> {
-    case.documents.crd = String::from_str(alloc, case.documents.base.as_str()).ok()?;
+fn clear(alloc: Global, case: &mut Case, all: &mut Lines) {
+    match String::from_str(alloc, case.documents.base.as_str()) {
+        Ok(text) => case.documents.crd = text,
+        Err(_) => all.lose(),
+    }
     case.asked.body.clear();
     case.asked.input.clear();
     case.outside = Outside::new();
     case.again = Again::new(alloc);
-    Some(())
+}
+
+fn add_all<R: Threads + Wait + Clock + Sync>(
+    rt: &R,
+    alloc: Global,
+    case: &Case,
+    came: &Outcome,
+    all: &mut Lines,
+) {
+    add_told(alloc, all, came, case.outside.last);
+    add_connections(alloc, all, case, came);
+    run_again(rt, alloc, case, came, all);
 }
 
 /// Runs the program over a case, once and as often as it says, and answers what it came to.
@@ -73,11 +96,11 @@ pub(crate) fn go<R: Threads + Wait + Clock + Sync>(
     alloc: Global,
     case: &mut Case,
 ) -> Option<String> {
-    let came = run_case(rt, alloc, case, case.outside)?;
-    let mut all = told(alloc, &came, case.outside.last)?;
-    add_connections(alloc, &mut all, case, &came)?;
-    let again = run_again(rt, alloc, case, &came)?;
-    all.push_str(again.as_str()).ok()?;
-    clear(alloc, case)?;
-    Some(all)
+    let mut all = Lines::new(alloc);
+    match run_case(rt, alloc, case, case.outside) {
+        Some(came) => add_all(rt, alloc, case, &came, &mut all),
+        None => return None,
+    }
+    clear(alloc, case, &mut all);
+    all.told()
 }

@@ -1,33 +1,55 @@
 //! Responses in chunks.
 use crate::spelling::{add_spelled, bytes_of, spelled};
-use crate::told::add;
+use crate::told::Told;
 use chunked_bodies::{laws, with_length};
 use std::alloc::Global;
 
 /// The answer to a case: what is handed on of a response, or laws, which do nothing.
-pub(crate) fn answer(alloc: Global, word: u8, text: &str, out: &mut String) -> Option<()> {
+pub(crate) fn answer(alloc: Global, word: u8, text: &str, out: &mut Told) {
     match word {
         b'c' => handed_on(alloc, text, out),
         _ => {
             laws::one_response();
             laws::one_answer();
             laws::number();
-            add(out, "laws")
+            out.add("laws");
         }
     }
 }
 
-fn handed_on(alloc: Global, text: &str, out: &mut String) -> Option<()> {
-    let text = spelled(alloc, text)?;
-    let response = bytes_of(alloc, text.as_str())?;
-    let handed = with_length(alloc, bytes_of(alloc, text.as_str())?).ok()?;
-    if is_same(&handed, &response) {
-        add(out, "as it is")
-    } else {
-        add_spelled(alloc, out, &handed)
+fn handed_on(alloc: Global, text: &str, out: &mut Told) {
+    match spelled(alloc, text) {
+        Some(text) => handed_on_of(alloc, text.as_str(), out),
+        None => out.lose(),
     }
 }
 
-fn is_same(a: &[u8], b: &[u8]) -> bool {
-    a == b
+fn handed_on_of(alloc: Global, text: &str, out: &mut Told) {
+    match bytes_of(alloc, text) {
+        Some(response) => beside(alloc, text, &response, out),
+        None => out.lose(),
+    }
+}
+
+// What is handed on of a text's bytes, beside these.
+fn beside(alloc: Global, text: &str, response: &[u8], out: &mut Told) {
+    match handed(alloc, text) {
+        Some(handed) => add_handed(alloc, &handed, response, out),
+        None => out.lose(),
+    }
+}
+
+fn handed(alloc: Global, text: &str) -> Option<Vec<u8>> {
+    match bytes_of(alloc, text) {
+        Some(response) => with_length(alloc, response).ok(),
+        None => None,
+    }
+}
+
+fn add_handed(alloc: Global, handed: &[u8], response: &[u8], out: &mut Told) {
+    if handed == response {
+        out.add("as it is");
+    } else {
+        add_spelled(alloc, out, handed);
+    }
 }

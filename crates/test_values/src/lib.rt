@@ -1,5 +1,6 @@
 //! Cases of what no request shows: values and their containers, the outside in memory and of `std`, messages of HTTP, responses in chunks,
-//! links, keys and tokens, the cache of forms, objects that are measured, responses to reviews, and objects that converters turn.
+//! links, keys and tokens, the cache of forms, objects that are measured, responses to reviews, objects that converters turn, and requests
+//! that a definition with a converter admits.
 //!
 //! They are told by scripts, which are cases of `test_calls`. The first line of a script says of which part it is, and its name. Each other
 //! line is a case: its first byte tells what is done with the text behind the second, and the answer is a line. Where a case is bytes, `~`
@@ -29,6 +30,8 @@
 //! | `# reviews` | `r TEXT`, `e TEXT`, `f` | what is taken of a response; the same of an exchange with this answer, or one that fails, and its request |
 //! | `# turns` | `r TO OBJECT` | what the converter that renames a field turns an object to |
 //! | | `l TO~OBJECT~ANSWER~ANSWER` | what turns come to over a link in memory with these answers, one turn for each and one more; how often the converter failed; and its requests |
+//! | `# hooks` | `l HUB` | whether the definition of `src/hooks.rt` is loaded with that hub |
+//! | | `a VERSION~BODY~ANSWER~ANSWER` | what a create at the version is admitted with, by a converter with these answers, or why it is refused; then the turns, and a `!` for each fault. An answer is a document, `-` for a refusal or `!` for a fault. A document of more than 1,000 bytes is told by how many these are |
 //!
 //! Nothing here has a contract that says what is answered.
 #![tactic(auto)]
@@ -36,6 +39,7 @@
 mod chunks;
 mod containers;
 mod forms;
+mod hooks;
 mod keys;
 mod links;
 mod messages;
@@ -50,6 +54,7 @@ mod values;
 
 use std::alloc::Global;
 use std::rt;
+use told::Told;
 
 fn answer<R: rt::Files>(
     system: &R,
@@ -58,8 +63,8 @@ fn answer<R: rt::Files>(
     given: &str,
     word: u8,
     text: &str,
-    out: &mut String,
-) -> Option<()> {
+    out: &mut Told,
+) {
     match part {
         b'v' => values::answer(alloc, given, word, text, out),
         b'o' => outside::answer(alloc, system, word, text, out),
@@ -67,33 +72,34 @@ fn answer<R: rt::Files>(
         b'k' => keys::answer(alloc, word, text, out),
         b'd' => objects::answer(alloc, word, text, out),
         b't' => turns::answer(alloc, word, text, out),
+        b'h' => hooks::answer(alloc, word, text, out),
         _ => reviews::answer(alloc, given, word, text, out),
     }
 }
 
-// The line that a case is answered with.
-fn answered<R: rt::Files>(
+// Adds a line. Answers whether there was room.
+fn add(all: &mut String, line: &str) -> bool {
+    all.push_str(line).is_ok() && all.push_str("\n").is_ok()
+}
+
+// Adds the line that a case is answered with.
+fn add_answer<R: rt::Files>(
     system: &R,
     alloc: Global,
     part: u8,
     given: &str,
     line: &str,
-) -> Option<String> {
-    let word = *line.as_bytes().first()?;
-    let text = line.get(2..).unwrap_or("");
-    let mut out = String::new(alloc);
-    answer(system, alloc, part, given, word, text, &mut out)?;
-    Some(out)
-}
-
-// Adds the line that a case is answered with.
-fn add(all: &mut String, came: &Option<String>) -> Option<()> {
-    let line = match came {
-        Some(out) => out.as_str().get(1..).unwrap_or(""),
-        None => "no such case",
-    };
-    all.push_str(line).ok()?;
-    all.push_str("\n").ok()
+    all: &mut String,
+) -> bool {
+    let mut out = Told::new(alloc);
+    match line.as_bytes().first() {
+        Some(word) => {
+            let text = line.get(2..).unwrap_or("");
+            answer(system, alloc, part, given, *word, text, &mut out);
+        }
+        None => out.lose(),
+    }
+    add(all, out.line().unwrap_or("no such case"))
 }
 
 /// What a script answers, whose first line begins with `# ` and the name of a part, which is known by its first byte: a line for each case.
@@ -104,9 +110,8 @@ pub fn tell<R: rt::Files>(system: &R, alloc: Global, head: &str, lines: &str) ->
     for line in lines.lines() {
         if line.starts_with(": ") {
             given = line.get(2..)?;
-        } else {
-            let came = answered(system, alloc, part, given, line);
-            add(&mut all, &came)?;
+        } else if !add_answer(system, alloc, part, given, line, &mut all) {
+            return None;
         }
     }
     Some(all)

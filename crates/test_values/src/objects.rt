@@ -4,7 +4,7 @@ ghost use Rattle.kube_meta.specs.View.{object_of, stamp_bytes};
 ghost use Rattle.object_reading.specs.Written.{IsMoment, IsWritable};
 
 use crate::spelling::cut;
-use crate::told::{add, add_number};
+use crate::told::Told;
 use crd_admission::measure_within;
 use kept_entries::{Entry, Kept, write_kept};
 use kj_value::{
@@ -15,38 +15,67 @@ use object_reading::{read_object, read_written};
 use std::alloc::Global;
 
 /// The answer to a case, of the object that a document submits, or of kept entries.
-pub(crate) fn answer(alloc: Global, word: u8, text: &str, out: &mut String) -> Option<()> {
+pub(crate) fn answer(alloc: Global, word: u8, text: &str, out: &mut Told) {
     match word {
-        b'n' => {
-            let (number, document) = cut(text, ' ')?;
-            let mut o = submitted(alloc, document)?;
-            let told = with_number(alloc, &mut o, number, out);
-            drop(o);
-            told
-        }
+        b'n' => numbered(alloc, text, out),
         b'e' => entries(alloc, out),
-        _ => {
-            let mut o = submitted(alloc, text)?;
-            let told = measured(alloc, word, &mut o, out);
-            drop(o);
-            told
-        }
+        _ => of_document(alloc, word, "", text, out),
+    }
+}
+
+fn numbered(alloc: Global, text: &str, out: &mut Told) {
+    match cut(text, ' ') {
+        Some((number, document)) => of_document(alloc, b'n', number, document, out),
+        None => out.lose(),
+    }
+}
+
+fn of_document(alloc: Global, word: u8, number: &str, document: &str, out: &mut Told) {
+    match submitted(alloc, document) {
+        Some(mut o) => of_object(alloc, word, number, &mut o, out),
+        None => out.lose(),
+    }
+}
+
+fn of_object(alloc: Global, word: u8, number: &str, o: &mut Object, out: &mut Told)
+    requires { IsWritable (object_of o.old) }
+{
+    match word {
+        b'n' => with_number(alloc, o, number, out),
+        b'u' => unnamed(alloc, o, out),
+        _ => measured(alloc, o, out),
     }
 }
 
 fn submitted(alloc: Global, text: &str) -> Option<Object>
     ensures { IfSome result (λ o. IsWritable (object_of o)) }
 {
-    let document = read(alloc, text.as_bytes(), MAX_JSON_LEVELS).ok()?;
-    read_object(alloc, document, "CronTab").ok()
+    match read(alloc, text.as_bytes(), MAX_JSON_LEVELS) {
+        Ok(document) => read_object(alloc, document, "CronTab").ok(),
+        Err(_) => None,
+    }
+}
+
+/// The document of an object.
+pub(crate) fn document(alloc: Global, o: &Object) -> Option<JVal> {
+    match copy_object(alloc, o) {
+        Ok(o) => write_object(alloc, o).ok(),
+        Err(_) => None,
+    }
 }
 
 fn text(alloc: Global, o: &Object) -> Option<Txt> {
-    let document = write_object(alloc, copy_object(alloc, o).ok()?).ok()?;
-    if depth(&document) > MAX_JSON_LEVELS {
+    match document(alloc, o) {
+        Some(document) => written(alloc, &document),
+        None => None,
+    }
+}
+
+fn written(alloc: Global, document: &JVal) -> Option<Txt> {
+    if depth(document) > MAX_JSON_LEVELS {
         return None;
     }
-    write(alloc, &document).ok()
+    write(alloc, document).ok()
 }
 
 // ---- what is set
@@ -77,19 +106,28 @@ fn set_number(o: &mut Object, number: Txt, uid: Txt)
     o.meta.uid = Some(uid);
 }
 
-fn number_and_uid(alloc: Global, o: &mut Object, number: &str) -> Option<()>
+fn number_and_uid(alloc: Global, o: &mut Object, number: &str) -> bool
     requires { IsWritable (object_of o.old) }
     ensures { IsWritable (object_of o.new) }
 {
-    let number = Txt::of(alloc, number).ok()?;
-    set_number(o, number, Txt::of(alloc, "u").ok()?);
-    Some(())
+    let Ok(number) = Txt::of(alloc, number) else {
+        return false;
+    };
+    match Txt::of(alloc, "u") {
+        Ok(uid) => {
+            set_number(o, number, uid);
+            true
+        }
+        Err(_) => false,
+    }
 }
 
 // The body gets a name that the object's own value takes.
-fn set_kind(alloc: Global, o: &mut Object) -> Option<()> {
-    let name = Txt::of(alloc, "kind").ok()?;
-    o.body.set(name, JVal::Bool(true)).ok()
+fn set_kind(alloc: Global, o: &mut Object) -> bool {
+    match Txt::of(alloc, "kind") {
+        Ok(name) => o.body.set(name, JVal::Bool(true)).is_ok(),
+        Err(_) => false,
+    }
 }
 
 // ---- written and read back
@@ -106,86 +144,155 @@ fn text_again(alloc: Global, o: &Object) -> Option<Txt>
     requires { IsWritable (object_of o.now) }
 {
     match again(alloc, o) {
-        Ok(p) => {
-            let told = text(alloc, &p);
-            drop(p);
-            told
-        }
+        Ok(p) => text(alloc, &p),
         Err(_) => None,
     }
 }
 
 // The text of an object with stamps, this number and a uid, where it is also that of what is read back from it.
-fn with_number(alloc: Global, o: &mut Object, number: &str, out: &mut String) -> Option<()>
+fn with_number(alloc: Global, o: &mut Object, number: &str, out: &mut Told)
     requires { IsWritable (object_of o.old) }
 {
     set_stamps(o, 2);
-    number_and_uid(alloc, o, number)?;
-    let first = text(alloc, o)?;
-    add(out, same_as(first, text_again(alloc, o))?.as_str())
+    if !number_and_uid(alloc, o, number) {
+        out.lose();
+    }
+    add_both(alloc, o, out);
 }
 
-// The first of two texts, where they are the same.
-fn same_as(first: Txt, second: Option<Txt>) -> Option<Txt> {
-    let second = second?;
-    if first.as_str() == second.as_str() {
-        Some(first)
-    } else {
-        None
+fn add_both(alloc: Global, o: &Object, out: &mut Told)
+    requires { IsWritable (object_of o.now) }
+{
+    match text(alloc, o) {
+        Some(first) => add_same(first.as_str(), &text_again(alloc, o), out),
+        None => out.lose(),
+    }
+}
+
+// Adds the first of two texts, where they are the same.
+fn add_same(first: &str, second: &Option<Txt>, out: &mut Told) {
+    match second {
+        Some(second) => {
+            if first == second.as_str() {
+                out.add(first);
+            } else {
+                out.lose();
+            }
+        }
+        None => out.lose(),
     }
 }
 
 // ---- measured
 
 // Adds how many bytes an object measures; there is an answer for each limit from there on, and for none below.
-fn add_measure(alloc: Global, o: &Object, out: &mut String) -> Option<()> {
-    let bytes = measure_within(o, u64::MAX)?;
-    if measure_within(o, bytes) != Some(bytes) {
-        return None;
+fn add_measure(alloc: Global, o: &Object, out: &mut Told) {
+    match measure_within(o, u64::MAX) {
+        Some(bytes) => {
+            if is_measure(o, bytes) {
+                out.add_number(alloc, bytes);
+            } else {
+                out.lose();
+            }
+        }
+        None => out.lose(),
     }
-    if measure_within(o, 0).is_some() || measure_within(o, bytes.saturating_sub(1)).is_some() {
-        return None;
-    }
-    add_number(alloc, out, bytes)
 }
 
-// `u`: the measure and the text of an object whose name is emptied, and whose body gets a kind. Else what it measures as it is, and with stamps,
-// and how long its text is at most; and what it measures where it gets a number, a uid and a kind too.
-fn measured(alloc: Global, word: u8, o: &mut Object, out: &mut String) -> Option<()>
+fn is_measure(o: &Object, bytes: u64) -> bool {
+    measure_within(o, bytes) == Some(bytes)
+        && measure_within(o, 0).is_none()
+        && measure_within(o, bytes.saturating_sub(1)).is_none()
+}
+
+// What an object measures as it is, and with stamps, and how long its text is at most; and what it measures where it gets a number, a uid and
+// a kind too.
+fn measured(alloc: Global, o: &mut Object, out: &mut Told)
     requires { IsWritable (object_of o.old) }
 {
-    if word == b'u' {
-        return unnamed(alloc, o, out);
-    }
-    add_measure(alloc, o, out)?;
+    add_measure(alloc, o, out);
     set_stamps(o, i64::MAX);
-    add_measure(alloc, o, out)?;
-    add_number(alloc, out, text(alloc, o)?.len() as u64)?;
-    number_and_uid(alloc, o, "7")?;
-    set_kind(alloc, o)?;
-    add_measure(alloc, o, out)
+    add_measure(alloc, o, out);
+    add_length(alloc, o, out);
+    if !number_and_uid(alloc, o, "7") {
+        out.lose();
+    }
+    if !set_kind(alloc, o) {
+        out.lose();
+    }
+    add_measure(alloc, o, out);
 }
 
-fn unnamed(alloc: Global, o: &mut Object, out: &mut String) -> Option<()> {
-    o.meta.name = Txt::of(alloc, "").ok()?;
-    set_kind(alloc, o)?;
-    add_measure(alloc, o, out)?;
-    add(out, text(alloc, o)?.as_str())
+fn add_length(alloc: Global, o: &Object, out: &mut Told) {
+    match text(alloc, o) {
+        Some(text) => out.add_number(alloc, text.len() as u64),
+        None => out.lose(),
+    }
+}
+
+fn empty_name(alloc: Global, o: &mut Object) -> bool {
+    match Txt::of(alloc, "") {
+        Ok(name) => {
+            o.meta.name = name;
+            true
+        }
+        Err(_) => false,
+    }
+}
+
+// The measure and the text of an object whose name is emptied, and whose body gets a kind.
+fn unnamed(alloc: Global, o: &mut Object, out: &mut Told) {
+    if !empty_name(alloc, o) {
+        out.lose();
+    }
+    if !set_kind(alloc, o) {
+        out.lose();
+    }
+    add_measure(alloc, o, out);
+    add_object(alloc, o, out);
+}
+
+fn add_object(alloc: Global, o: &Object, out: &mut Told) {
+    match text(alloc, o) {
+        Some(text) => out.add(text.as_str()),
+        None => out.lose(),
+    }
 }
 
 // ---- kept entries
 
-fn one_entry(alloc: Global) -> Option<Kept> {
+fn one_entry(alloc: Global) -> Option<Entry> {
+    let Ok(name) = Txt::of(alloc, "a") else {
+        return None;
+    };
     let mut was = JFields::new(alloc);
-    was.set(Txt::of(alloc, "a").ok()?, JVal::Int(1)).ok()?;
+    if was.set(name, JVal::Int(1)).is_err() {
+        return None;
+    }
     let at = TextList::new(alloc);
-    let mut kept = Kept::new(alloc);
-    kept.push(Entry { at, was }).ok()?;
-    Some(kept)
+    Some(Entry { at, was })
+}
+
+fn add_entry(alloc: Global, kept: &mut Kept) -> bool {
+    match one_entry(alloc) {
+        Some(entry) => kept.push(entry).is_ok(),
+        None => false,
+    }
 }
 
 // The text of no entries, and how many there are after one more.
-fn entries(alloc: Global, out: &mut String) -> Option<()> {
-    add(out, write_kept(alloc, &Kept::new(alloc)).ok()?.as_str())?;
-    add_number(alloc, out, one_entry(alloc)?.len() as u64)
+fn entries(alloc: Global, out: &mut Told) {
+    add_no_entries(alloc, out);
+    let mut kept = Kept::new(alloc);
+    if !add_entry(alloc, &mut kept) {
+        out.lose();
+    }
+    out.add_number(alloc, kept.len() as u64);
+}
+
+fn add_no_entries(alloc: Global, out: &mut Told) {
+    match write_kept(alloc, &Kept::new(alloc)) {
+        Ok(text) => out.add(text.as_str()),
+        Err(_) => out.lose(),
+    }
 }

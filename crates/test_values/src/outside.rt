@@ -1,12 +1,12 @@
 //! Clocks, files, connections and links: each once where it works and once where it fails.
 ghost use Rattle.std.specs.Prelude.{◌≡◌};
 
-use crate::links;
+use crate::links::{self, add_answer, add_made, one_exchange};
 use crate::streams::{self, one_read, one_write};
-use crate::told::{add, add_bytes, add_is, add_number};
+use crate::told::Told;
 use edge_io::{
-    Clock, DiskFiles, Ears, Files, FixedClock, Link, MOST_FILE_BYTES, MemConnection, MemEars,
-    MemFile, MemFiles, MemLink, MemSink, MemSource, RealClock, Sink, Source, SureFiles, stamp_of,
+    Clock, DiskFiles, Ears, Files, FixedClock, MOST_FILE_BYTES, MemConnection, MemEars, MemFile,
+    MemFiles, MemLink, MemSink, MemSource, RealClock, Sink, Source, SureFiles, stamp_of,
 };
 use kj_value::Txt;
 use std::alloc::Global;
@@ -21,8 +21,8 @@ pub(crate) fn answer<R: rt::Files>(
     system: &R,
     word: u8,
     text: &str,
-    out: &mut String,
-) -> Option<()> {
+    out: &mut Told,
+) {
     match word {
         b'D' => disk(alloc, system, text, out),
         b'S' => stamp(text, out),
@@ -37,13 +37,19 @@ pub(crate) fn answer<R: rt::Files>(
 }
 
 // The moment at a number of seconds, by a clock that stands there.
-fn stamp(text: &str, out: &mut String) -> Option<()> {
-    let seconds = text.parse::<u64>().ok()?;
+fn stamp(text: &str, out: &mut Told) {
+    match text.parse::<u64>() {
+        Ok(seconds) => stamp_at(seconds, out),
+        Err(_) => out.lose(),
+    }
+}
+
+fn stamp_at(seconds: u64, out: &mut Told) {
     if seconds >= 137_438_953_472 {
-        return None;
+        return out.lose();
     }
     let fixed = FixedClock::new(stamp_of(seconds));
-    add(out, fixed.stamp().as_str())
+    out.add(fixed.stamp().as_str());
 }
 
 // A clock that reads this many seconds, or fails.
@@ -63,91 +69,103 @@ impl time::Clock for Reads {
 }
 
 // What a clock says over one of the system that reads so many seconds, or that fails.
-fn real(text: &str, out: &mut String) -> Option<()> {
+fn real(text: &str, out: &mut Told) {
     let reads = Reads(text.parse::<u64>().ok());
     let clock = RealClock::new(&reads);
     let stamp = clock.stamp();
     let Reads(_) = reads;
-    add(out, stamp.as_str())
+    out.add(stamp.as_str());
 }
 
 // ---- files
 
-fn add_file(alloc: Global, files: &mut Vec<MemFile>, path: &str, bytes: Vec<u8>) -> Option<()> {
-    files
-        .push(MemFile::new(Txt::of(alloc, path).ok()?, bytes))
-        .ok()
+// Whether a file was added.
+fn add_file(alloc: Global, files: &mut Vec<MemFile>, path: &str, bytes: Vec<u8>) -> bool {
+    match Txt::of(alloc, path) {
+        Ok(path) => files.push(MemFile::new(path, bytes)).is_ok(),
+        Err(_) => false,
+    }
+}
+
+fn add_text(alloc: Global, files: &mut Vec<MemFile>) -> bool {
+    match b"text".to_vec(alloc) {
+        Ok(bytes) => add_file(alloc, files, "a", bytes),
+        Err(_) => false,
+    }
+}
+
+// A file of so many bytes.
+fn add_full(alloc: Global, files: &mut Vec<MemFile>, path: &str, byte: u8, count: usize) -> bool {
+    match vec![in alloc; byte; count] {
+        Ok(bytes) => add_file(alloc, files, path, bytes),
+        Err(_) => false,
+    }
 }
 
 // One look at a path: how many bytes it is read as, or the fault.
-fn one_look<F: Files>(alloc: Global, files: &mut F, path: &str, out: &mut String) -> Option<()> {
+fn one_look<F: Files>(alloc: Global, files: &mut F, path: &str, out: &mut Told) {
     match files.read_file(alloc, path) {
-        Ok(text) => add_number(alloc, out, text.as_str().len() as u64),
-        Err(fault) => add(out, format!(in alloc; "{fault:?}").ok()?.as_str()),
+        Ok(text) => out.add_number(alloc, text.as_str().len() as u64),
+        Err(fault) => out.add_shown(alloc, &fault),
     }
 }
 
-fn look_at_all<F: Files>(alloc: Global, files: &mut F, text: &str, out: &mut String) -> Option<()> {
+fn look_at_all<F: Files>(alloc: Global, files: &mut F, text: &str, out: &mut Told) {
     for path in text.split(' ') {
-        one_look(alloc, files, path, out)?;
+        one_look(alloc, files, path, out);
     }
-    Some(())
 }
 
 // A text, one as long as a file may be, one that is longer, and one that is no text.
-fn add_files(alloc: Global, list: &mut Vec<MemFile>) -> Option<()> {
-    add_file(alloc, list, "a", b"text".to_vec(alloc).ok()?)?;
-    add_file(
-        alloc,
-        list,
-        "full",
-        vec![in alloc; b'x'; MOST_FILE_BYTES].ok()?,
-    )?;
-    add_file(
-        alloc,
-        list,
-        "long",
-        vec![in alloc; 255u8; MOST_FILE_BYTES + 1].ok()?,
-    )?;
-    add_file(alloc, list, "bytes", vec![in alloc; 255u8].ok()?)
+fn add_files(alloc: Global, list: &mut Vec<MemFile>) -> bool {
+    add_text(alloc, list)
+        && add_full(alloc, list, "full", b'x', MOST_FILE_BYTES)
+        && add_full(alloc, list, "long", 255, MOST_FILE_BYTES + 1)
+        && add_full(alloc, list, "bytes", 255, 1)
 }
 
 // Files in memory, of which the second look fails.
 fn opened(alloc: Global) -> Option<MemFiles> {
-    let failing = vec![in alloc; 1u64].ok()?;
     let mut list = Vec::new(alloc);
-    add_files(alloc, &mut list)?;
-    Some(MemFiles::new(list, failing))
+    if !add_files(alloc, &mut list) {
+        return None;
+    }
+    match vec![in alloc; 1u64] {
+        Ok(failing) => Some(MemFiles::new(list, failing)),
+        Err(_) => None,
+    }
 }
 
 // A look at each path of files in memory.
-fn files(alloc: Global, text: &str, out: &mut String) -> Option<()> {
-    let mut files = opened(alloc)?;
-    let told = looked_at(alloc, &mut files, text, out);
-    drop(files);
-    told
+fn files(alloc: Global, text: &str, out: &mut Told) {
+    match opened(alloc) {
+        Some(mut files) => look_and_count(alloc, &mut files, text, out),
+        None => out.lose(),
+    }
 }
 
-fn looked_at(alloc: Global, files: &mut MemFiles, text: &str, out: &mut String) -> Option<()> {
-    look_at_all(alloc, files, text, out)?;
-    add_is(out, files.bytes("a").is_some())?;
-    add_number(alloc, out, files.calls())?;
-    add_number(alloc, out, files.faults())
+fn look_and_count(alloc: Global, files: &mut MemFiles, text: &str, out: &mut Told) {
+    look_at_all(alloc, files, text, out);
+    out.add_is(files.bytes("a").is_some());
+    out.add_number(alloc, files.calls());
+    out.add_number(alloc, files.faults());
 }
 
 // A look at each path of files that never fail.
-fn sure_files(alloc: Global, text: &str, out: &mut String) -> Option<()> {
+fn sure_files(alloc: Global, text: &str, out: &mut Told) {
     let mut list = Vec::new(alloc);
-    add_file(alloc, &mut list, "a", b"text".to_vec(alloc).ok()?)?;
-    look_at_all(alloc, &mut SureFiles::new(list), text, out)
+    if !add_text(alloc, &mut list) {
+        out.lose();
+    }
+    look_at_all(alloc, &mut SureFiles::new(list), text, out);
 }
 
 // A file of the system that is read whole, or the fault.
-fn disk<R: rt::Files>(alloc: Global, system: &R, path: &str, out: &mut String) -> Option<()> {
+fn disk<R: rt::Files>(alloc: Global, system: &R, path: &str, out: &mut Told) {
     let mut files = DiskFiles::new(system);
     match files.read_file(alloc, path) {
-        Ok(text) => add(out, text.as_str()),
-        Err(fault) => add(out, format!(in alloc; "{fault:?}").ok()?.as_str()),
+        Ok(text) => out.add(text.as_str()),
+        Err(fault) => out.add_shown(alloc, &fault),
     }
 }
 
@@ -155,113 +173,114 @@ fn disk<R: rt::Files>(alloc: Global, system: &R, path: &str, out: &mut String) -
 
 // A connection with this input.
 fn connection(alloc: Global, text: &str) -> Option<MemConnection> {
-    let bytes = text.as_bytes().to_vec(alloc).ok()?;
-    let sink = MemSink::new(alloc, 8, Vec::new(alloc)).ok()?;
+    let Ok(bytes) = text.as_bytes().to_vec(alloc) else {
+        return None;
+    };
     let source = MemSource::new(bytes, 8, Vec::new(alloc));
-    MemConnection::new(alloc, source, sink).ok()
+    match MemSink::new(alloc, 8, Vec::new(alloc)) {
+        Ok(sink) => MemConnection::new(alloc, source, sink).ok(),
+        Err(_) => None,
+    }
+}
+
+fn add_connection(alloc: Global, connections: &mut Vec<MemConnection>, text: &str) -> bool {
+    match connection(alloc, text) {
+        Some(connection) => connections.push(connection).is_ok(),
+        None => false,
+    }
 }
 
 fn ears_of(alloc: Global, text: &str) -> Option<MemEars> {
     let mut connections = Vec::new(alloc);
-    connections.push(connection(alloc, text)?).ok()?;
-    let failing = vec![in alloc; 1u64].ok()?;
-    MemEars::new(alloc, connections, failing).ok()
+    if !add_connection(alloc, &mut connections, text) {
+        return None;
+    }
+    match vec![in alloc; 1u64] {
+        Ok(failing) => MemEars::new(alloc, connections, failing).ok(),
+        Err(_) => None,
+    }
 }
 
 // The one connection.
-fn one_connection(alloc: Global, ears: &mut MemEars, out: &mut String) -> Option<()> {
-    let Ok((mut input, mut output)) = ears.next() else {
-        return None;
-    };
-    let is_told = one_exchange_of(alloc, &mut input, &mut output, out).is_some();
-    let ended = MemEars::shut(input, output);
-    let is_added = add_bytes(out, ended.written()).is_some();
-    ears.back(ended);
-    if is_told && is_added { Some(()) } else { None }
+fn one_connection(alloc: Global, ears: &mut MemEars, out: &mut Told) {
+    match ears.next() {
+        Ok((mut input, mut output)) => {
+            one_exchange_of(alloc, &mut input, &mut output, out);
+            let ended = MemEars::shut(input, output);
+            out.add_bytes(ended.written());
+            ears.back(ended);
+        }
+        Err(_) => out.lose(),
+    }
 }
 
-fn one_exchange_of<S: Source, K: Sink>(
-    alloc: Global,
-    source: &mut S,
-    sink: &mut K,
-    out: &mut String,
-) -> Option<()>
+fn one_exchange_of<S: Source, K: Sink>(alloc: Global, source: &mut S, sink: &mut K, out: &mut Told)
     ensures origin { S.origin source.new ≡ S.origin source.old }
     ensures number { K.number sink.new ≡ K.number sink.old }
 {
-    one_read(source, out)?;
-    one_write(alloc, sink, b"xyz", out)
+    one_read(source, out);
+    one_write(alloc, sink, b"xyz", out);
 }
 
-fn one_failure(ears: &mut MemEars, out: &mut String) -> Option<()> {
-    add_is(out, ears.next().is_ok())
+fn one_failure(ears: &mut MemEars, out: &mut Told) {
+    out.add_is(ears.next().is_ok());
 }
 
-fn hear(alloc: Global, ears: &mut MemEars, out: &mut String) -> Option<()> {
-    add_is(out, ears.listen("here").is_ok())?;
-    one_failure(ears, out)?;
-    one_connection(alloc, ears, out)?;
-    add_bytes(out, ears.last_written()?)?;
-    one_failure(ears, out)
+fn add_last(ears: &MemEars, out: &mut Told) {
+    match ears.last_written() {
+        Some(bytes) => out.add_bytes(bytes),
+        None => out.lose(),
+    }
+}
+
+fn hear(alloc: Global, ears: &mut MemEars, out: &mut Told) {
+    out.add_is(ears.listen("here").is_ok());
+    one_failure(ears, out);
+    one_connection(alloc, ears, out);
+    add_last(ears, out);
+    one_failure(ears, out);
 }
 
 // A connection with this input, where the second call fails.
-fn ears(alloc: Global, text: &str, out: &mut String) -> Option<()> {
-    let mut ears = ears_of(alloc, text)?;
-    let told = heard(alloc, &mut ears, out);
-    drop(ears);
-    told
+fn ears(alloc: Global, text: &str, out: &mut Told) {
+    match ears_of(alloc, text) {
+        Some(mut ears) => hear_and_count(alloc, &mut ears, out),
+        None => out.lose(),
+    }
 }
 
-fn heard(alloc: Global, ears: &mut MemEars, out: &mut String) -> Option<()> {
-    hear(alloc, ears, out)?;
-    add_number(alloc, out, ears.handed_out() as u64)?;
-    add_number(alloc, out, ears.calls())?;
-    add_number(alloc, out, ears.faults())
+fn hear_and_count(alloc: Global, ears: &mut MemEars, out: &mut Told) {
+    hear(alloc, ears, out);
+    out.add_number(alloc, ears.handed_out() as u64);
+    out.add_number(alloc, ears.calls());
+    out.add_number(alloc, ears.faults());
 }
 
 // Two answers, and the second exchange fails.
 fn link_of(alloc: Global) -> Option<MemLink> {
     let mut answers = Vec::new(alloc);
-    answers.push(b"one".to_vec(alloc).ok()?).ok()?;
-    answers.push(b"two".to_vec(alloc).ok()?).ok()?;
-    let failing = vec![in alloc; 1u64].ok()?;
-    Some(MemLink::new(alloc, answers, failing))
-}
-
-// One exchange: what it is answered, or that it fails.
-fn one_exchange<L: Link>(alloc: Global, link: &mut L, out: &mut String) -> Option<()> {
-    match link.exchange(alloc, b"ask") {
-        Ok(answer) => add_bytes(out, answer.as_slice()),
-        Err(fault) => add(out, format!(in alloc; "{fault:?}").ok()?.as_str()),
+    if !(add_answer(alloc, &mut answers, "one") && add_answer(alloc, &mut answers, "two")) {
+        return None;
     }
-}
-
-// The request of each exchange, and the answer where there is one.
-fn add_exchanges(link: &MemLink, out: &mut String) -> Option<()> {
-    for made in link.made() {
-        add_bytes(out, made.request())?;
-        match made.answer() {
-            Some(answer) => add_bytes(out, answer)?,
-            None => add(out, "-")?,
-        }
+    match vec![in alloc; 1u64] {
+        Ok(failing) => Some(MemLink::new(alloc, answers, failing)),
+        Err(_) => None,
     }
-    Some(())
 }
 
 // Four exchanges, and what they were.
-fn link(alloc: Global, out: &mut String) -> Option<()> {
-    let mut link = link_of(alloc)?;
-    let told = exchanged(alloc, &mut link, out);
-    drop(link);
-    told
+fn link(alloc: Global, out: &mut Told) {
+    match link_of(alloc) {
+        Some(mut link) => exchange_and_count(alloc, &mut link, out),
+        None => out.lose(),
+    }
 }
 
-fn exchanged(alloc: Global, link: &mut MemLink, out: &mut String) -> Option<()> {
+fn exchange_and_count(alloc: Global, link: &mut MemLink, out: &mut Told) {
     for _ in 0..4 {
-        one_exchange(alloc, link, out)?;
+        one_exchange(alloc, link, b"ask", out);
     }
-    add_exchanges(link, out)?;
-    add_number(alloc, out, link.calls())?;
-    add_number(alloc, out, link.faults())
+    add_made(link.made(), out);
+    out.add_number(alloc, link.calls());
+    out.add_number(alloc, link.faults());
 }

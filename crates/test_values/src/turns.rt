@@ -1,41 +1,34 @@
 //! Objects that converters turn.
 use crate::spelling::{add_spelled, bytes_of, cut, spelled};
+use crate::told::Told;
 use api_calls::{OBJECT_LEVELS, Tool};
 use converters::{Converter, RenameConverter, TurnFault};
 use edge_io::{MemExchange, MemLink};
-use kj_value::{JVal, MAX_JSON_LEVELS, Txt, depth, read, write};
+use kj_value::{JVal, Txt, read};
 use link_converter::LinkConverter;
 use std::alloc::Global;
 
 /// The answer to a case.
-pub(crate) fn answer(alloc: Global, word: u8, text: &str, out: &mut String) -> Option<()> {
-    out.push_str(" ").ok()?;
+pub(crate) fn answer(alloc: Global, word: u8, text: &str, out: &mut Told) {
+    out.push(" ");
     match word {
         b'r' => renamed(alloc, text, out),
         _ => linked(alloc, text, out),
     }
 }
 
-// Adds the text of a value, which isn't too deep to be written.
-fn add_value(alloc: Global, y: &JVal, out: &mut String) -> Option<()> {
-    if depth(y) > MAX_JSON_LEVELS {
-        return None;
-    }
-    out.push_str(write(alloc, y).ok()?.as_str()).ok()
-}
-
 // Adds what came of a turn.
-fn add_turned(alloc: Global, turned: Result<JVal, TurnFault>, out: &mut String) -> Option<()> {
+fn add_turned(alloc: Global, turned: Result<JVal, TurnFault>, out: &mut Told) {
     match turned {
-        Ok(y) => add_value(alloc, &y, out)?,
+        Ok(y) => out.push_value(alloc, &y),
         Err(TurnFault::Refused { message }) => {
-            out.push_str("refused: ").ok()?;
-            out.push_str(message.as_str()).ok()?;
+            out.push("refused: ");
+            out.push(message.as_str());
         }
-        Err(TurnFault::Failed) => out.push_str("failed").ok()?,
-        Err(TurnFault::NoMemory) => return None,
+        Err(TurnFault::Failed) => out.push("failed"),
+        Err(TurnFault::NoMemory) => out.lose(),
     }
-    out.push_str(" / ").ok()
+    out.push(" / ");
 }
 
 // Adds what comes of a turn of the object.
@@ -44,29 +37,64 @@ fn add_turn<C: Converter>(
     converter: &mut C,
     object: &str,
     to: &str,
-    out: &mut String,
-) -> Option<()> {
-    let object = read(alloc, object.as_bytes(), OBJECT_LEVELS).ok()?;
-    let _fields = object.as_object()?;
-    let turned = converter.turn(alloc, &object, to);
-    add_turned(alloc, turned, out)
+    out: &mut Told,
+) {
+    let Ok(object) = read(alloc, object.as_bytes(), OBJECT_LEVELS) else {
+        return out.lose();
+    };
+    let Some(_fields) = object.as_object() else {
+        return out.lose();
+    };
+    add_turned(alloc, converter.turn(alloc, &object, to), out);
 }
 
 // A turn by the converter that renames a field.
-fn renamed(alloc: Global, text: &str, out: &mut String) -> Option<()> {
-    let (to, object) = cut(text, ' ')?;
-    add_turn(alloc, &mut RenameConverter::new(alloc), object, to, out)
+fn renamed(alloc: Global, text: &str, out: &mut Told) {
+    match cut(text, ' ') {
+        Some((to, object)) => {
+            add_turn(alloc, &mut RenameConverter::new(alloc), object, to, out);
+        }
+        None => out.lose(),
+    }
+}
+
+fn add_answer(alloc: Global, answers: &mut Vec<Vec<u8>>, answer: &str) -> bool {
+    match spelled(alloc, answer) {
+        Some(text) => add_bytes(alloc, answers, text.as_str()),
+        None => false,
+    }
+}
+
+fn add_bytes(alloc: Global, answers: &mut Vec<Vec<u8>>, text: &str) -> bool {
+    match bytes_of(alloc, text) {
+        Some(bytes) => answers.push(bytes).is_ok(),
+        None => false,
+    }
+}
+
+// Whether each of the answers was added.
+fn add_answers(alloc: Global, answers: &mut Vec<Vec<u8>>, given: &str) -> bool {
+    for answer in given.split('~') {
+        if !add_answer(alloc, answers, answer) {
+            return false;
+        }
+    }
+    true
 }
 
 // A converter over a link in memory that gives these answers.
 fn opened(alloc: Global, given: &str) -> Option<LinkConverter<MemLink>> {
     let mut answers = Vec::new(alloc);
-    for answer in given.split('~') {
-        let text = spelled(alloc, answer)?;
-        answers.push(bytes_of(alloc, text.as_str())?).ok()?;
+    if !add_answers(alloc, &mut answers, given) {
+        return None;
     }
-    let target = Txt::of(alloc, "/convert").ok()?;
-    Some(LinkConverter::open(MemLink::new(alloc, answers, Vec::new(alloc)), target))
+    match Txt::of(alloc, "/convert") {
+        Ok(target) => Some(LinkConverter::open(
+            MemLink::new(alloc, answers, Vec::new(alloc)),
+            target,
+        )),
+        Err(_) => None,
+    }
 }
 
 // Adds a turn for each answer and one more, and a `!` for each fault.
@@ -76,25 +104,23 @@ fn add_turns(
     to: &str,
     object: &str,
     given: &str,
-    out: &mut String,
-) -> Option<()> {
+    out: &mut Told,
+) {
     for _ in given.split('~') {
-        add_turn(alloc, converter, object, to, out)?;
+        add_turn(alloc, converter, object, to, out);
     }
-    add_turn(alloc, converter, object, to, out)?;
+    add_turn(alloc, converter, object, to, out);
     for _ in 0..converter.count() {
-        out.push_str("!").ok()?;
+        out.push("!");
     }
-    Some(())
 }
 
 // Adds the requests that were made.
-fn add_requests(alloc: Global, made: &[MemExchange], out: &mut String) -> Option<()> {
+fn add_requests(alloc: Global, made: &[MemExchange], out: &mut Told) {
     for exchange in made {
-        out.push_str(" /").ok()?;
-        add_spelled(alloc, out, exchange.request())?;
+        out.push(" /");
+        add_spelled(alloc, out, exchange.request());
     }
-    Some(())
 }
 
 // Adds the turns, and the requests that were made for them.
@@ -104,20 +130,30 @@ fn add_all(
     to: &str,
     object: &str,
     given: &str,
-    out: &mut String,
-) -> Option<()> {
-    let told = add_turns(alloc, &mut converter, to, object, given, out);
-    let link = converter.into_link();
-    let asked = add_requests(alloc, link.made(), out);
-    drop(link);
-    told?;
-    asked
+    out: &mut Told,
+) {
+    add_turns(alloc, &mut converter, to, object, given, out);
+    add_requests(alloc, converter.into_link().made(), out);
 }
 
 // Turns over a link in memory.
-fn linked(alloc: Global, text: &str, out: &mut String) -> Option<()> {
-    let (to, behind) = cut(text, '~')?;
-    let (object, given) = cut(behind, '~')?;
-    let converter = opened(alloc, given)?;
-    add_all(alloc, converter, to, object, given, out)
+fn linked(alloc: Global, text: &str, out: &mut Told) {
+    match cut(text, '~') {
+        Some((to, behind)) => linked_to(alloc, to, behind, out),
+        None => out.lose(),
+    }
+}
+
+fn linked_to(alloc: Global, to: &str, behind: &str, out: &mut Told) {
+    match cut(behind, '~') {
+        Some((object, given)) => over(alloc, to, object, given, out),
+        None => out.lose(),
+    }
+}
+
+fn over(alloc: Global, to: &str, object: &str, given: &str, out: &mut Told) {
+    match opened(alloc, given) {
+        Some(converter) => add_all(alloc, converter, to, object, given, out),
+        None => out.lose(),
+    }
 }
