@@ -14,11 +14,10 @@ status is 1 where 16 connections make less than 12 times the creates of one, or 
 
 import subprocess
 import sys
-import threading
 import time
 
 from programs import TOP, built, parser_of
-from serving import Connection, Server, request
+from serving import Connection, Server, at_once, request
 
 DEFINITION = TOP / "examples/converter/certificates.json"
 PATH = "/apis/example.com/v1beta1/namespaces/default/certificates"
@@ -45,11 +44,7 @@ def rate(address, count, seconds):
     connections, codes = [Connection(address) for _ in range(count)], []
     begin = time.monotonic()
     words = [(it, f"c{count}-{number}", begin + seconds, codes) for number, it in enumerate(connections)]
-    threads = [threading.Thread(target=creates, args=it) for it in words]
-    for thread in threads:
-        thread.start()
-    for thread in threads:
-        thread.join()
+    at_once(creates, words)
     took = time.monotonic() - begin
     for it in connections:
         it.close()

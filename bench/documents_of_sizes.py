@@ -11,7 +11,7 @@ a few small ones, which can't be told from it. Each answer is read and compared 
 import json
 
 from documents import list_of, names_of, pair_of, responds, review_of, spelled
-from programs import SHARED_FILES, built, each_of, parser_of, run_of
+from programs import SHARED_FILES, built, each_of, parser_with_runs, run_of
 
 KIB, MIB = 2**10, 2**20
 # What stands in `extra`, and of which sizes.
@@ -53,7 +53,7 @@ def works_of(program):
 
 def main():
     """Reads the words, runs and prints."""
-    options = parser_of(__doc__).parse_args()
+    options = parser_with_runs(__doc__).parse_args()
     works, first = works_of(built(options.program)), {}
     print(f"{'kind':<26}{'bytes each':>11}{'objects':>9}{'ns a byte':>11}{'us an object':>14}{'byte to first':>15}")
     for (kind, each, count), seconds in each_of(options.runs, works).items():

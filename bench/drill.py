@@ -8,7 +8,7 @@ there at most."""
 
 import sys
 
-from programs import TOP, built, each_of, parser_of, run_of
+from programs import TOP, built, each_of, parser_with_runs, run_of
 
 sys.path.append(str(TOP / "checks"))
 import drill_model  # noqa: E402
@@ -37,7 +37,7 @@ def drill_of(program, steps):
 
 def main():
     """Reads the words, runs and prints."""
-    options = parser_of(__doc__).parse_args()
+    options = parser_with_runs(__doc__).parse_args()
     program = built(options.program)
     none = drill_of(program, 0)
     each = each_of(options.runs, {steps: (drill_of(program, steps), none) for steps in STEPS})

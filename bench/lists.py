@@ -13,7 +13,7 @@ import tempfile
 
 from documents import definition_of, files_of, object_of, responds, review_of, text_of
 from pipe import answered
-from programs import built, each_of, is_empty, parser_of, run_of
+from programs import built, each_of, is_empty, parser_with_runs, run_of
 from serving import path_of, request
 
 # A definition has at most 1,024 nodes at a version.
@@ -51,7 +51,7 @@ def creates_of(length):
 
 def main():
     """Reads the words, runs and prints."""
-    parser = parser_of(__doc__)
+    parser = parser_with_runs(__doc__)
     told = "the shorter length of an enum and a table that are asked; those that are only loaded are three times as long (default: 10000)"
     parser.add_argument("--length", type=int, default=10000, help=told)
     options = parser.parse_args()

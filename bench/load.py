@@ -15,7 +15,7 @@ import tempfile
 
 from documents import definition_of, files_of, list_of, names_of, object_of, responds, review_of, spelled, text_of
 from pipe import answered
-from programs import SHARED_FILES, built, each_of, is_empty, parser_of, run_of
+from programs import SHARED_FILES, built, each_of, is_empty, parser_with_runs, run_of
 from serving import path_of, request
 
 VERSIONS = 2, 4, 8
@@ -105,7 +105,7 @@ def body_of(name, extra):
 
 def main():
     """Reads the words, runs and prints."""
-    parser = parser_of(__doc__)
+    parser = parser_with_runs(__doc__)
     parser.add_argument("--creates", type=int, default=5000, help="small objects of a run (default: 5000)")
     parser.add_argument("--large-creates", type=int, default=50, help="objects of each other kind in a run (default: 50)")
     options = parser.parse_args()

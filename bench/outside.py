@@ -20,12 +20,14 @@ processor time of the server and the client together.
 `load`: so many lines against a server in Go that keeps nothing. Prints the seconds, what a line takes in microseconds, also of the processor
 time of `load`, and how many times as long a line takes as of the fewest lines.
 
-`memory`: `dump` and `migrate` against that server, which makes up so many objects. Prints the seconds, and the most memory that each held
-of the machine's, in MB. It is wrong where that is 1 MB more than for the fewest objects.
+`memory`: `dump` and `migrate` against that server, which makes up so many objects, and `load` of so many lines. Prints the most memory that
+each held of the machine's, in MB, and the seconds that 10,000 objects take, by the clock and of its processor time. It is wrong where the memory
+is 1 MB more than for the fewest objects. A million is asked for by --sizes 1000 1000000, and takes minutes.
 
 Each tally and each code is looked at, how many lines there are, and what is put. The status is 1 where something is wrong."""
 
 import json
+import os
 import pathlib
 import re
 import resource
@@ -37,11 +39,11 @@ import threading
 import time
 import urllib.request
 
-from programs import built, parser_of
+from programs import built, parser_with_runs
 from serving import DEFINITION, GROUP, Filled, address_of, ask, moved
 
 # What is timed, by so many objects or lines.
-WORKS = {"migrate": (1_000, 4_000, 16_000), "dump": (1_000, 16_000), "load": (10_000, 100_000), "memory": (1_000, 20_000)}
+WORKS = {"migrate": (1_000, 4_000, 16_000), "dump": (1_000, 16_000), "load": (10_000, 100_000), "memory": (1_000, 20_000, 100_000)}
 FEW = 20
 # An object of the server in Go has so many bytes more than its metadata.
 BYTES = 100
@@ -254,52 +256,65 @@ def loads(program, options):
 
 
 def held(process):
-    """The most memory that a program held of the machine's until it ended, in MB (10^6 bytes)."""
-    most = 0
-    while process.poll() is None:
-        try:
-            told = re.search(r"VmHWM:\s*(\d+) kB", pathlib.Path(f"/proc/{process.pid}/status").read_text())
-        except OSError:
-            told = None
+    """The most memory that a program held of the machine's until it ended, in MB (10^6 bytes), and the seconds of its processor time."""
+    most, ended = 0, 0
+    while not ended:
+        told = re.search(r"VmHWM:\s*(\d+) kB", pathlib.Path(f"/proc/{process.pid}/status").read_text())
         most = max(most, int(told[1]) if told else 0)
         time.sleep(0.005)
-    return most * 1024 / 1e6
+        ended, status, used = os.wait4(process.pid, os.WNOHANG)
+    process.returncode = os.waitstatus_to_exitcode(status)
+    return most * 1024 / 1e6, used.ru_utime + used.ru_stime
+
+
+def wanted_of(line, size):
+    """What a line writes over so many objects, or how many lines that are, and how many puts and posts it makes."""
+    if line == "dump":
+        return f"{size}\n", 0, 0
+    if line == "load":
+        return f"created {size}\npresent 0\n", 0, size
+    return f"listed {size}\nwritten {size}\nunchanged 0\ngone 0\ncontested 0\n", size, 0
 
 
 def made_up(program, line, server, size):
-    """The seconds of a line over made up objects, and the most memory that it held."""
-    far, begin = Far(server, size), time.perf_counter()
-    with tempfile.TemporaryFile() as told:
-        ours = subprocess.Popen([program, line, url_of(far.address)], stdin=subprocess.DEVNULL, stdout=subprocess.PIPE, stderr=told)
+    """The most memory that a line held over so many made up objects, in MB, and its seconds: by the clock, and of its processor time."""
+    far = Far(server, 0 if line == "load" else size)
+    with tempfile.TemporaryFile() as lines, tempfile.TemporaryFile() as told:
+        lines.writelines(line_of(number) for number in range(size if line == "load" else 0))
+        lines.seek(0)
+        begin = time.perf_counter()
+        ours = subprocess.Popen([program, line, url_of(far.address)], stdin=lines, stdout=subprocess.PIPE, stderr=told)
         output = subprocess.Popen(["wc", "-l"] if line == "dump" else ["cat"], stdin=ours.stdout, stdout=subprocess.PIPE, text=True)
         ours.stdout.close()
-        memory = held(ours)
+        memory, used = held(ours)
         seconds, written, errors = time.perf_counter() - begin, output.communicate()[0], told.seek(0) or told.read()
     came = far.told()
     far.stop()
-    tally = f"listed {size}\nwritten {size}\nunchanged 0\ngone 0\ncontested 0\n"
-    puts, wanted = (0, f"{size}\n") if line == "dump" else (size, tally)
-    seen = (ours.returncode, written, errors, came["puts"], came["wrong"])
-    is_so(seen == (0, wanted, b"", puts, 0), f"{line} of {size} made up objects: {seen}")
-    return seconds, memory
+    seen = ours.returncode, errors, came["wrong"], (written, came["puts"], came["posts"])
+    is_so(seen == (0, b"", 0, wanted_of(line, size)), f"{line} of {size} made up objects: {seen}")
+    return memory, seconds, used
 
 
 def memories(program, options):
-    print(f"{'objects':>8}{'dump, s':>10}{'MB':>8}{'migrate, s':>12}{'MB':>8}", flush=True)
-    first = None
+    names = "dump", "migrate", "load"
+    print(f"{'objects':>8}" + "".join(f"{f'{name}, MB':>13}{'s a 10,000':>12}{'of it':>7}" for name in names), flush=True)
+    first = {}
     for size in options.sizes:
-        (dump, of_dump), (migrate, of_migrate) = (made_up(program, line, options.far, size) for line in ("dump", "migrate"))
-        print(f"{size:>8}{dump:>10.2f}{of_dump:>8.2f}{migrate:>12.2f}{of_migrate:>8.2f}", flush=True)
-        first = first or (of_dump, of_migrate)
-        is_so(of_dump < first[0] + SLACK and of_migrate < first[1] + SLACK, "the memory grows with the objects")
+        print(f"{size:>8}", end="", flush=True)
+        for name in names:
+            memory, *seconds = made_up(program, name, options.far, size)
+            by_clock, used = (it / size * 10_000 for it in seconds)
+            print(f"{memory:>13.2f}{by_clock:>12.2f}{used:>7.2f}", end="", flush=True)
+            is_so(memory < first.setdefault(name, memory) + SLACK, f"the memory of {name} grows with the objects")
+        print(flush=True)
 
 
 def main():
     """Reads the words, runs and prints."""
-    parser = parser_of(__doc__)
+    parser = parser_with_runs(__doc__)
     parser.add_argument("work", nargs="?", choices=WORKS, default="migrate", help="what is timed (default: migrate)")
     parser.add_argument("--plain", help="the plain client, built by go; for migrate")
-    parser.add_argument("--far", help="the server in Go; for load and memory")
+    parser.add_argument("--far", help="the server in Go, built by go; for load and memory")
     parser.add_argument("--sizes", type=int, nargs="+", help="so many objects, or lines")
     options = parser.parse_args()
     options.sizes = options.sizes or WORKS[options.work]

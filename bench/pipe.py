@@ -18,7 +18,7 @@ creates to be told from them. `store.py` times the same chores over 1,000 to 16,
 import sys
 
 from documents import name_of
-from programs import SHARED_FILES, built, each_of, parser_of, run_of
+from programs import SHARED_FILES, built, each_of, parser_with_runs, run_of
 
 # So many objects stand while a chore is timed, and so many requests of it are made; at most 10,000 requests are read in a run.
 SIZES = 1000, 2000, 5000
@@ -110,7 +110,7 @@ def answered(wanted):
 
 def main():
     """Reads the words, runs and prints."""
-    parser = parser_of(__doc__)
+    parser = parser_with_runs(__doc__)
     parser.add_argument("--shared", action="store_true", help="by the definition in examples/, and not by the one that is built in")
     parser.add_argument("--beside", metavar="OTHER", help="another program that answers `OTHER pipe`, timed in the same rounds")
     parser.add_argument("--chores", type=int, default=len(CHORES), help="so many of the kinds of requests, from the first on, where an earlier build answers no others (default: all)")

@@ -15,9 +15,15 @@ SHARED_FILES = ["--crd", TOP / "examples/crontabs.json", "--rules", TOP / "examp
 
 
 def parser_of(description):
-    """The options that every script has."""
+    """The option that nearly every script has."""
     parser = argparse.ArgumentParser(description=description, formatter_class=argparse.RawDescriptionHelpFormatter)
     parser.add_argument("--program", help="the built program (default: crates/kubeconv/out/kubeconv)")
+    return parser
+
+
+def parser_with_runs(description):
+    """The same, and how many runs there are."""
+    parser = parser_of(description)
     parser.add_argument("--runs", type=int, default=3, help="runs of each kind; the best one counts (default: 3)")
     return parser
 

@@ -13,14 +13,12 @@
 What a request takes while more and more objects stand is timed by store.py, by one connection.
 Every answer is checked for its code. The program is the one in the folder of its crate, or that of --program."""
 
-import argparse
 import multiprocessing
 import os
 import sys
-import threading
 
 from documents import name_of
-from programs import built
+from programs import built, parser_with_runs
 from serving import (
     CREATED,
     GROUP,
@@ -30,6 +28,7 @@ from serving import (
     Server,
     answers_of,
     ask,
+    at_once,
     body_of,
     creation,
     drawn_state,
@@ -82,11 +81,7 @@ def work(address, number, requests, gate, done):
 
 def beside(address, numbers, requests, gate, done):
     """Connections of one process, each in a thread."""
-    threads = [threading.Thread(target=work, args=(address, number, requests, gate, done)) for number in numbers]
-    for thread in threads:
-        thread.start()
-    for thread in threads:
-        thread.join()
+    at_once(work, [(address, number, requests, gate, done) for number in numbers])
 
 
 def rate(server, connections, requests):
@@ -268,10 +263,8 @@ TABLES = {"rates": print_rates, "callers": print_callers, "memory": print_memory
 
 def main():
     """Reads the words, runs and prints."""
-    parser = argparse.ArgumentParser(description=__doc__, formatter_class=argparse.RawDescriptionHelpFormatter)
-    parser.add_argument("--program", help="the built program (default: crates/kubeconv/out/kubeconv)")
+    parser = parser_with_runs(__doc__)
     parser.add_argument("--requests", type=int, default=9_600, help="requests of each rate, 9,900 at most (default: 9,600)")
-    parser.add_argument("--runs", type=int, default=3, help="runs of each kind; the best one counts (default: 3)")
     parser.add_argument("--workers", type=int, default=2, help="workers beside the rates and the memory (default: 2)")
     parser.add_argument("--sizes", type=int, nargs="+", default=SIZES, help="so many objects stand while callers ask (default: 1000 16000)")
     parser.add_argument("tables", nargs="*", metavar="TABLE", help="rates, callers, memory (default: all)")

@@ -8,6 +8,7 @@ import random
 import socket
 import subprocess
 import sys
+import threading
 import time
 
 from documents import name_of, spelled
@@ -212,6 +213,15 @@ def generator(*seeds):
 
 def seconds_now():
     return time.monotonic()
+
+
+def at_once(call, each):
+    """Makes a call for each of these words, all beside each other, and waits until all have ended."""
+    threads = [threading.Thread(target=call, args=words) for words in each]
+    for thread in threads:
+        thread.start()
+    for thread in threads:
+        thread.join()
 
 
 def ask(connection, wanted, method, path, body=None):

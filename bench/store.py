@@ -12,7 +12,7 @@ import sys
 import time
 
 from documents import name_of
-from programs import best_of, built, parser_of
+from programs import best_of, built, parser_with_runs
 from serving import (
     DEFINITION,
     MIGRATIONS,
@@ -117,7 +117,7 @@ CHORES = {
 
 def main():
     """Reads the words, runs and prints."""
-    parser = parser_of(__doc__)
+    parser = parser_with_runs(__doc__)
     parser.add_argument("--sizes", type=int, nargs="+", default=SIZES, help="so many objects stand (default: 1000 4000 16000)")
     options = parser.parse_args()
     program = built(options.program)

@@ -13,10 +13,11 @@ import subprocess
 import tempfile
 import time
 
-from beside import SECONDS, Beside, asked_of, check, going, moment, move, proxied, served, told_of
+from beside import SECONDS, Beside, asked_of, going, moment, move, proxied, served
 from documents import name_of, object_of
 from serving import GROUP, VERSIONS, Connection, Server, ask, body_of, drawn_state, generator, path_of, state_of
 from soak import SHARED
+from told import check, told_of
 
 # Set anew by a server.
 ANEW = "creationTimestamp", "deletionTimestamp", "generation", "resourceVersion", "uid"
@@ -270,7 +271,7 @@ def faults_of_streams(program, address):
         dump.stdout.close()
         status = dump.wait(SECONDS)
     check(status == 6, f"dump whose reader ends behind a line: status {status}")
-    for line in "dump", "load":
+    for line in "migrate", "dump", "load":
         run = Run(program, line, ("127.0.0.1", 1), given=lines_for("x", 1)[0])
         check(run.ended(11, "link failed", b""), f"{line} where nobody listens: {run.said()}")
 

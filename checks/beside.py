@@ -1,4 +1,4 @@
-"""What the steps of outside.py share: how what holds is told, servers, and clients of `kubeconv serve` that write beside."""
+"""What the steps of outside.py share: servers, and clients of `kubeconv serve` that write beside."""
 
 import contextlib
 import json
@@ -11,22 +11,12 @@ import urllib.request
 import parts  # noqa: F401  finds the next ones
 from serving import DEFINITION, Connection, Server, address_of, ask, creation, moved, state_of
 from soak import SHARED, Client, faults_at_end, faults_of_numbers, faults_of_shared, open_shared
+from told import check, told_of
 
-FAULTS = []
 CLIENTS = 8
 # A connection is asked so much.
 REQUESTS = 10_000
 SECONDS = 300
-
-
-def check(holds, what):
-    print(f"{'ok' if holds else 'WRONG':<6} {what}", flush=True)
-    if not holds:
-        FAULTS.append(what)
-
-
-def told_of(wrong):
-    return f": {len(wrong)} wrong, as {wrong[:3]}" if wrong else ""
 
 
 # ---- servers

@@ -14,16 +14,14 @@ chance. Prints what each came to, and ends with status 1 where something was sto
 waits; with --short some seconds. The program is the one in the folder of its
 crate, or --address names a server that runs already."""
 
-import argparse
 import pathlib
 import socket
 import struct
-import sys
 import threading
 import time
 
 import parts  # noqa: F401  finds the next ones
-from programs import built
+from programs import built, parser_of
 from serving import (
     DEFINITION,
     MIGRATIONS,
@@ -39,6 +37,7 @@ from serving import (
     request,
     seconds_now,
 )
+from told import check, end
 
 IDLE = 200
 IDLE_SECONDS = 60
@@ -51,13 +50,6 @@ SLOW_SECONDS = 5
 HEAD_BYTES = 16_384
 LISTED = 500
 PAIRS = 100
-FAULTS = []
-
-
-def check(holds, what):
-    print(f"{'ok' if holds else 'WRONG':<6} {what}", flush=True)
-    if not holds:
-        FAULTS.append(what)
 
 
 class Early:
@@ -262,8 +254,7 @@ def crowd(address):
 
 def main():
     """Reads the words, runs and prints."""
-    parser = argparse.ArgumentParser(description=__doc__, formatter_class=argparse.RawDescriptionHelpFormatter)
-    parser.add_argument("--program", help="the built program (default: crates/kubeconv/out/kubeconv)")
+    parser = parser_of(__doc__)
     parser.add_argument("--address", help="HOST:PORT of a server that runs already, and is left running")
     parser.add_argument("--workers", type=int, default=2)
     parser.add_argument("--short", action="store_true", help="without what takes a minute and more")
@@ -303,7 +294,7 @@ def main():
         check(server.process.poll() is None, "the server still runs")
         print(f"memory: {server.memory():.1f} MB, at most {server.memory('VmHWM'):.1f} MB; {server.threads()} threads")
         server.stop()
-    sys.exit(1 if FAULTS else 0)
+    end()
 
 
 if __name__ == "__main__":

@@ -6,19 +6,17 @@ program ends with 0; an address that is taken, or is none, is status 8 with its 
 too, where the machine has them. Prints what each came to, and ends with status 1 where one differs. The program is the one
 in the folder of its crate, or that of --program."""
 
-import argparse
 import json
 import re
 import shutil
 import socket
 import subprocess
-import sys
 
 import parts  # noqa: F401  finds the next ones
-from programs import SHARED_FILES, TOP, built
+from programs import SHARED_FILES, TOP, built, parser_of
 from serving import LISTENING, address_of
+from told import check, end
 
-FAULTS = []
 FIRST = (TOP / "examples/first.http").read_bytes()
 SHARED = (TOP / "examples/crontabs.http").read_bytes() + (
     b"GET /apis/example.com/v1/crontabs HTTP/1.1\r\nConnection: close\r\n\r\n"
@@ -27,12 +25,6 @@ SHARED = (TOP / "examples/crontabs.http").read_bytes() + (
 FIRST_FILES = ["--crd", TOP / "examples/rules/same.json", "--rules", TOP / "examples/rules/same.rules.json"]
 OBJECT = '{"apiVersion":"example.com/v1beta1","kind":"CronTab","metadata":{"name":"a"},"hostPort":"localhost:1234"}'
 SECONDS = 300
-
-
-def check(holds, what):
-    print(f"{'ok' if holds else 'WRONG':<6} {what}", flush=True)
-    if not holds:
-        FAULTS.append(what)
 
 
 def masked(output):
@@ -115,9 +107,7 @@ def by_clients(program):
 
 def main():
     """Reads the words, runs and prints."""
-    parser = argparse.ArgumentParser(description=__doc__, formatter_class=argparse.RawDescriptionHelpFormatter)
-    parser.add_argument("--program", help="the built program (default: crates/kubeconv/out/kubeconv)")
-    program = built(parser.parse_args().program)
+    program = built(parser_of(__doc__).parse_args().program)
     first = masked(subprocess.run([program, "pipe"], input=FIRST, stdout=subprocess.PIPE).stdout)
     shared = masked(subprocess.run([program, "pipe", *SHARED_FILES], input=SHARED, stdout=subprocess.PIPE).stdout)
     places = [("IPv4", "127.0.0.1:0"), ("a host's name", "localhost:0")]
@@ -135,7 +125,7 @@ def main():
         came = refused(program, place)
         check(came == wanted, f"{place}: {came}")
     by_clients(program)
-    sys.exit(1 if FAULTS else 0)
+    end()
 
 
 if __name__ == "__main__":

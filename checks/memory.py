@@ -14,7 +14,7 @@ import tempfile
 
 import parts  # noqa: F401  finds the next ones
 from pipe import codes_of
-from programs import built, parser_of
+from programs import built, parser_with_runs
 
 BODY_BYTES = 1_048_576
 DEFAULTS = 20
@@ -69,7 +69,7 @@ def peak_of(words, given):
 
 def main():
     """Reads the words, runs and prints."""
-    options = parser_of(__doc__).parse_args()
+    options = parser_with_runs(__doc__).parse_args()
     program = built(options.program)
     with tempfile.TemporaryDirectory() as folder:
         crd, rules = pathlib.Path(folder, "crd.json"), pathlib.Path(folder, "rules.json")

@@ -10,7 +10,8 @@
 - `dump` and `load` beside such clients, and over lines, inputs and servers that fail: backups.py beside this file says what is looked at.
 - Against a server of Go's `net/http` (outside.go beside this file, which says what it does): it answers in chunks, its objects have
   managedFields, and its continue tokens are of its own form. Each count of the tally is the one that follows of what that server does,
-  and what is put back is what was given. Pages of more than 1 MiB, and of more than 2, are asked for by halves. Without `go` this is skipped.
+  and what is put back is what was given. Pages of more than 1 MiB, and of more than 2, are asked for by halves. Where the server
+  ends meanwhile there is no tally. Without `go` this is skipped.
 - Through `kubectl proxy`, with `--accept-hosts` and without. Without `kubectl` this is skipped.
 
 Each step says what it saw, and the status is 1 where something is wrong."""
@@ -26,11 +27,12 @@ import time
 
 import parts  # noqa: F401  finds the next ones
 from backups import backups_against_go, backups_beside, backups_through_kubectl, faults, lines_back
-from beside import CLIENTS, FAULTS, SECONDS, Beside, asked_of, check, going, move, proxied, served, told_of
+from beside import CLIENTS, SECONDS, Beside, asked_of, going, move, proxied, served
 from documents import name_of
 from programs import built
 from serving import DEFINITION, GROUP, Connection, ask
 from soak import SHARED, SHARED_NAMES
+from told import check, end, told_of
 
 HERE = pathlib.Path(__file__).resolve().parent
 # How many objects stand beside those of the clients, how long a client waits behind each request, and how often storage is moved.
@@ -38,8 +40,8 @@ BESIDE = (600, 0.05, 2), (100, 0, 2)
 # `migrate` is run so often where its list is forgotten, and then the clients wait so many times as long.
 RUNS, LONGER = 5, 2
 COUNTS = ["listed", "written", "unchanged", "gone", "contested"]
-# Objects of the server in Go, and the number of the one that is contested.
-OBJECTS, CONTESTED = 800, 721
+# Objects of the server in Go, the number of the one that is contested, and how many are put when it ends.
+OBJECTS, CONTESTED, BEGUN = 800, 721, 50
 
 
 # ---- a run
@@ -177,6 +179,19 @@ def against_limits(program, server):
             check((run.status, run.told, run.is_silent) == (12, "kubeconv: answer 0", True), f"{what}: {run.said()}")
 
 
+def against_an_end(program, server):
+    """The server ends when some objects are put. Its last answer may have been begun, which is an answer of another form."""
+    with going(server, "plain", OBJECTS, 100) as address:
+        line = [program, "migrate", "http://{}:{}{}/v1/crontabs".format(*address, GROUP)]
+        migrate = subprocess.Popen(line, stdin=subprocess.DEVNULL, stdout=subprocess.PIPE, stderr=subprocess.PIPE)
+        while asked_of(address, "/told")[1]["Puts"] < BEGUN:
+            time.sleep(0.001)
+    output, told = migrate.communicate(timeout=SECONDS)
+    ends = (11, b"kubeconv: link failed\n"), (12, b"kubeconv: answer 0\n")
+    is_so = output == b"" and (migrate.returncode, told) in ends
+    check(is_so, f"a server that ends meanwhile: no tally, status {migrate.returncode}, {told.decode().strip()!r}")
+
+
 # ---- through kubectl proxy
 
 
@@ -208,6 +223,7 @@ def main():
             against_go(program, server, 100, [500])
             against_go(program, server, 5_000, [500, 250, 125])
             against_limits(program, server)
+            against_an_end(program, server)
             backups_against_go(program, server)
     else:
         print("skipped: the machine has no go, so nothing was looked at against its net/http", flush=True)
@@ -216,7 +232,7 @@ def main():
         backups_through_kubectl(program)
     else:
         print("skipped: the machine has no kubectl, so nothing was looked at through its proxy", flush=True)
-    sys.exit(1 if FAULTS else 0)
+    end()
 
 
 if __name__ == "__main__":

@@ -21,17 +21,15 @@ requests that were made till then. Prints requests a second, the processor time 
 many answers were wrong. Ends with status 1 where one was. The program is the one in the folder of its crate, or --address names a
 server that runs already, of the definition in `examples/`."""
 
-import argparse
 import bisect
 import json
 import multiprocessing
 import os
 import sys
-import threading
 import traceback
 
 import parts  # noqa: F401  finds the next ones
-from programs import built
+from programs import built, parser_of
 from serving import (
     CRONTABS,
     MIGRATIONS,
@@ -40,6 +38,7 @@ from serving import (
     Gone,
     Server,
     address_of,
+    at_once,
     drawn_state,
     generator,
     looked_at,
@@ -277,11 +276,7 @@ class Client:
 def side_by_side(address, mark, numbers, requests, until, moves, between, results):
     """The connections of one process, each in a thread of its own."""
     clients = [Client(address, mark, number, requests, until) for number in numbers]
-    threads = [threading.Thread(target=it.run, args=(moves if it.number == OPERATOR else 0, between)) for it in clients]
-    for thread in threads:
-        thread.start()
-    for thread in threads:
-        thread.join()
+    at_once(Client.run, [(it, moves if it.number == OPERATOR else 0, between) for it in clients])
     results.put([it.known() for it in clients])
 
 
@@ -455,8 +450,7 @@ def round_of(address, mark, options, moves):
 
 def main():
     """Reads the words, runs and prints."""
-    parser = argparse.ArgumentParser(description=__doc__, formatter_class=argparse.RawDescriptionHelpFormatter)
-    parser.add_argument("--program", help="the built program (default: crates/kubeconv/out/kubeconv)")
+    parser = parser_of(__doc__)
     parser.add_argument("--address", help="HOST:PORT of a server that runs already, which is left running; it tells no memory")
     parser.add_argument("--connections", type=int, default=64)
     parser.add_argument("--requests", type=int, default=10_000, help="requests of a connection, 10,000 at most")

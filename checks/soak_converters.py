@@ -21,10 +21,10 @@ import threading
 import time
 
 import parts  # noqa: F401  finds the next ones
-from beside import FAULTS, check, told_of
 from programs import SHARED_FILES, TOP, built
 from serving import MIGRATIONS, Connection, Resource, Server
 from soak import OPERATOR, PATIENCE, Client, faults_at_end, faults_of_numbers, faults_of_shared, open_shared
+from told import check, end, told_of
 
 EXAMPLE, WEBHOOK = TOP / "examples/converter", TOP / "examples/webhook/serve.py"
 # So long a converter runs and is away, and so long a request waits that had none.
@@ -74,7 +74,9 @@ class Converter:
         self.line, self.port, self.starts = line, 0, 0
         self.start()
 
-    def start(self):
+    def start(self, *line):
+        """Starts it, by another line where one is given."""
+        self.line = line or self.line
         line = [sys.executable, *(str(self.port) if it is None else it for it in self.line)]
         self.process = subprocess.Popen(line, stdin=subprocess.DEVNULL, stdout=subprocess.PIPE, text=True)
         told = self.process.stdout.readline()
@@ -195,7 +197,7 @@ def main():
         step(what, program, Converter(example, *words, None), Holder, EXAMPLE / "certificates.json", options)
     review = Converter(WEBHOOK, None, program, "review", *SHARED_FILES)
     step("kubeconv review behind the webhook", program, review, Patient, SHARED_FILES[1], options)
-    sys.exit(1 if FAULTS else 0)
+    end()
 
 
 if __name__ == "__main__":

@@ -39,7 +39,7 @@ def listed():
 
 def main():
     there, said = defined(), listed()
-    extra = {"NotReview", "no version"}
+    extra = {"NotReview", "answer", "line", "no version"}
     for word in sorted(there - said):
         print(f"docs/API.md has no row for the word {word}", file=sys.stderr)
     for word in sorted(said - there - extra):

@@ -283,7 +283,6 @@ def encrypted(cases):
     """Clients that don't speak TLS to a front that does, or say nothing."""
     made = certificate(cases.running.path)
     if made is None:
-        print("skipped: TLS, since there is no openssl to make a certificate with")
         return
     cert, key = made
     plain = Client(cases.running.front("--cert", cert, "--key", key))

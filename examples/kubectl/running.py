@@ -20,9 +20,10 @@ COLUMNS = [
 
 
 def certificate(folder):
-    """A certificate of this machine's address and its key, or None where there is no openssl to make them."""
+    """A certificate of this machine's address and its key. Where there is no openssl to make them, it says that TLS is skipped."""
     openssl, cert, key = shutil.which("openssl"), folder / "cert.pem", folder / "key.pem"
     if openssl is None:
+        print("skipped: TLS, since there is no openssl to make a certificate with")
         return None
     of = ["-subj", "/CN=front", "-addext", "subjectAltName=IP:127.0.0.1", "-keyout", key, "-out", cert]
     subprocess.run([openssl, "req", "-x509", "-newkey", "rsa:2048", "-nodes", "-days", "1", *of], check=True, capture_output=True)

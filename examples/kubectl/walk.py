@@ -282,7 +282,6 @@ def encrypted(walk):
     """A front with a certificate."""
     made = certificate(walk.running.path)
     if made is None:
-        print("skipped: TLS, since there is no openssl to make a certificate with")
         return
     cert, key = made
     walk.use(walk.running.front("--cert", cert, "--key", key), "https", **{"certificate-authority": str(cert)})
