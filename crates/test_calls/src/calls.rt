@@ -1,7 +1,8 @@
 //! One call, by what a line gives.
-ghost use Rattle.std.specs.Prelude.{IfSome};
+ghost use Rattle.std.specs.Prelude.{IfSome, IsSome};
 ghost use Rattle.shared_api.specs.Passes.{IsOf};
 
+use crate::far::outside;
 use crate::gate::hired;
 use crate::links::asked;
 use crate::texts::cut;
@@ -97,6 +98,7 @@ pub(crate) fn pass_from<V: Versions<Tool = Chosen> + Drop, R: Wait>(
     requires { IsOf V.meaning api.now from.old }
     ensures from { IsOf V.meaning api.now from.new }
     ensures made { IfSome result (λ p. IsOf V.meaning api.now p) }
+    ensures numbered { IfSome result (λ p. IsSome p.view.number) }
 {
     match api.new_pass(rt, from, tool) {
         Ok(pass) => Some(pass),
@@ -163,6 +165,7 @@ pub(crate) fn called_beside<V: Versions<Tool = Chosen> + Drop, R: Wait>(
     match *order.as_bytes().first()? {
         b'n' => anew(rt, alloc, api, pass, other, order),
         b'u' => unite(rt, alloc, api, pass, other),
+        b'o' => outside(rt, alloc, api, pass, order),
         _ => called(rt, alloc, api, pass, w, order, input),
     }
 }

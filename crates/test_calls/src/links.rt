@@ -55,8 +55,8 @@ fn link_of(
     })
 }
 
-// A connection with one request.
-fn request(alloc: Global, order: &str) -> Option<Link> {
+/// The bytes of one request.
+pub(crate) fn request_bytes(alloc: Global, order: &str) -> Option<Vec<u8>> {
     let (method, rest) = cut(order);
     let (target, body) = cut(rest);
     let body = body.replace(alloc, "~", CHUNK).ok()?;
@@ -65,7 +65,12 @@ fn request(alloc: Global, order: &str) -> Option<Link> {
     let text = format!(in alloc;
         "{method} {target} HTTP/1.1\r\nContent-Length: {len}\r\n\r\n{body}"
     ).ok()?;
-    let bytes = text.as_str().as_bytes().to_vec(alloc).ok()?;
+    text.as_str().as_bytes().to_vec(alloc).ok()
+}
+
+// A connection with one request.
+fn request(alloc: Global, order: &str) -> Option<Link> {
+    let bytes = request_bytes(alloc, order)?;
     link_of(alloc, bytes, 4_096, u64::MAX, u64::MAX, true)
 }
 
@@ -114,6 +119,13 @@ fn told(alloc: Global, link: &Link, end: End) -> Option<String> {
     format!(in alloc; "{end:?}, {left} left: {}", written.as_str()).ok()
 }
 
+/// The clock of all scripts.
+pub(crate) fn clock() -> FixedClock {
+    FixedClock::new(Stamp {
+        text: *b"2024-01-02T03:04:05Z",
+    })
+}
+
 fn serve<V: Versions + Drop, S: Source, K: Sink, R: Wait>(
     rt: &R,
     alloc: Global,
@@ -125,9 +137,7 @@ fn serve<V: Versions + Drop, S: Source, K: Sink, R: Wait>(
     requires of { IsOf V.meaning api.now pass.old }
     ensures of { IsOf V.meaning api.now pass.new }
 {
-    let clock = FixedClock::new(Stamp {
-        text: *b"2024-01-02T03:04:05Z",
-    });
+    let clock = clock();
     serve_link(rt, alloc, api, pass, source, sink, &clock)
 }
 

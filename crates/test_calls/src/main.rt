@@ -28,6 +28,7 @@
 //! | `new NUMBER` | the pass is made anew from the other; its tool fails at the conversion of this number, 0 for none |
 //! | `show SET KEPT` | no call: the text that shows the definition with the flags that the one body sets and the stored versions that the other keeps |
 //! | `unite` | the other pass is met into this one, and is made anew from it |
+//! | `over migrate PATH`, `over dump PATH`, `over restore PATH LINES` | what a client from outside does over the server at `/apis/PATH`, on a pass of its own: its tally, the lines that it wrote, how it ended, as `test_far` tells them. Behind ` \|\| ` stand requests of others, on another pass: before the first exchange, the second and on; `-` is none |
 //!
 //! A line `> INPUT` is the input of each `link` of its script, with `|` for the end of a line. A line `& CALL ORDER | ORDER` gives two
 //! orders on passes of their own in two threads, `METHOD ..` or `hire ..`: a call of the definition, `admit`, `form` or `hub_of`, that the
@@ -37,6 +38,7 @@
 mod beside;
 mod calls;
 mod failing;
+mod far;
 mod gate;
 mod links;
 mod script;

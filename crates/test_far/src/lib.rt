@@ -20,6 +20,8 @@ mod calls;
 mod migrations;
 mod places;
 
+pub use backups::{input_of, restore_end, wrote};
+pub use migrations::told;
 use std::alloc::Global;
 use wire_client::ResponseBuffer;
 
