@@ -42,12 +42,12 @@ pub record Laws (d : Definition) : Type 0 where
   pub stays_at_hub : (all : Spokes) → IsDefinition all → (h : ObjectView) → IsWholeHub all h → SettlesAtHub all h h
 
 -- an object without number and uid
-plain_meta : (x : ObjectView) → x.meta.resource_version ≡ None → x.meta.uid ≡ None → bare x ≡ unstamped x
+pub plain_meta : (x : ObjectView) → x.meta.resource_version ≡ None → x.meta.uid ≡ None → bare x ≡ unstamped x
 plain_meta x no_number no_uid =
     ap₂ (λ (number uid : Option (List ℕ)). record x { meta = record x.meta { created = None; deleted = None; generation = pos 0; resource_version = number; uid = uid } })
     (sym no_number) (sym no_uid)
 
-abbrev at_ns : List ℕ → ObjectView → ObjectView
+abbrev pub at_ns : List ℕ → ObjectView → ObjectView
 at_ns ns x = record x { meta = record x.meta { namespace = ns } }
 
 fields_one : (x y : Pairs) → object (members_of x) ≡ object (members_of y) → x ≡ y
@@ -56,11 +56,11 @@ fields_one x y same = sym (pairs_members x) ∙ ap (λ (j : Json). object_at (So
 module _ (d : Definition) (loaded : IsLoaded d) (given : Given) (laws : Laws d) where
   -- ---- the body of a form is filled
 
-  record IsOwnFilling (s : Shape) (x : Pairs) : Type 0 where
-    filled : Filled s (object (members_of x)) (object (members_of x))
-    sound : AreRising (members_of x)
+  pub record IsOwnFilling (s : Shape) (x : Pairs) : Type 0 where
+    pub filled : Filled s (object (members_of x)) (object (members_of x))
+    pub sound : AreRising (members_of x)
 
-  filled_at : (v : ℕ) (h x : ObjectView) → v < count_of d → IsWholeValue d h → (z : Seat) → seat d v ≡ z → IsSeated (version_at d v) z → PairsAt d.spokes z h x
+  pub filled_at : (v : ℕ) (h x : ObjectView) → v < count_of d → IsWholeValue d h → (z : Seat) → seat d v ≡ z → IsSeated (version_at d v) z → PairsAt d.spokes z h x
       → IsOwnFilling (version_at d v).schema x.body
   filled_at v h x known w at_hub e q p =
       let f = first_spoke d.spokes.items (subst (λ (n : ℕ). 2 ≤ n) (sym loaded.spokes) loaded.few.0) in
@@ -89,10 +89,10 @@ module _ (d : Definition) (loaded : IsLoaded d) (given : Given) (laws : Laws d) 
       laws.stays d.spokes place.at s loaded.definition place.found x (given.settled d.spokes place.at s loaded.definition place.found x h p.0 w.hub p.1)
   settles_at v h x w nowhere e p = absurd p
 
-  no_stamps : AreStamps None None (pos 0)
+  pub no_stamps : AreStamps None None (pos 0)
   no_stamps = record { created = tt; deleted = tt; generation = omega arith }
 
-  hub_of_form : (v : ℕ) (h x : ObjectView) → IsWholeValue d h → IsFormAt d v h x → IsHubOf d v (unstamped x) (unstamped h)
+  pub hub_of_form : (v : ℕ) (h x : ObjectView) → IsWholeValue d h → IsFormAt d v h x → IsHubOf d v (unstamped x) (unstamped h)
   hub_of_form v h x w p =
       let whole = laws.unstamped.whole h None None (pos 0) no_stamps w in
       let pairs = laws.unstamped.pair v h x None None (pos 0) p in
