@@ -92,7 +92,7 @@ def main():
     parser.add_argument("--program", action="append", help="a built program (default: crates/kubeconv/out/kubeconv)")
     parser.add_argument("--client", required=True, help="the client, built by go")
     parser.add_argument("--plain", help="the plain server, built by go")
-    parser.add_argument("--requests", type=int, default=12_000, help="requests of each row (default: 12,000)")
+    parser.add_argument("--requests", type=int, default=8_000, help="requests of each row, at most 10,000 a connection (default: 8,000)")
     parser.add_argument("--runs", type=int, default=5, help="rounds, of which the middle counts (default: 5)")
     parser.add_argument("--workers", type=int, default=2, help="workers beside the connections (default: 2)")
     parser.add_argument("--connections", type=int, nargs="+", default=CONNECTIONS)

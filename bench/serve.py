@@ -1,5 +1,5 @@
 #!/usr/bin/env python3
-"""Times `kubeconv serve`, by three tables, of which each is a comparison within one run:
+"""Times `kubeconv serve`, by four tables, of which each is a comparison within one run:
 
 - rates: requests a second by 1, 4, 16 and 64 connections over loopback, and the processor time that a request takes of the
   server, each also as a ratio to one connection. A connection asks for one object after the other, and waits for each answer:
@@ -9,6 +9,7 @@
   requests at a time, while 1,000 and 16,000 objects stand; how many times as many that is as by one; and the processor time that
   a request takes of the server. The clients take processors too, so that more connections than half of the processors show less.
 - memory: what the process holds with as many objects as a server may hold.
+- idle: the part of a processor that the server takes with 2 and 15 workers while nobody asks.
 
 What a request takes while more and more objects stand is timed by store.py, by one connection.
 Every answer is checked for its code. The program is the one in the folder of its crate, or that of --program."""
@@ -16,6 +17,7 @@ Every answer is checked for its code. The program is the one in the folder of it
 import multiprocessing
 import os
 import sys
+import time
 
 from documents import name_of
 from programs import built, parser_with_runs
@@ -53,6 +55,10 @@ LISTS = 48
 # What the limits reserve of a server: 80 MiB of chunks; and of a connection: an inbox, and as much again for what is written.
 CHUNKS_MB = 80 * 2**20 / 1e6
 LINK_MB = 2 * 2**20 / 1e6
+
+# So many workers rest beside nobody's requests, for so many seconds behind those in which their rests grow.
+IDLE_WORKERS = 2, 15
+IDLE_SECONDS, GROWING_SECONDS = 20, 2
 
 
 # ---- rates
@@ -258,7 +264,22 @@ def print_memory(program, options):
     server.stop()
 
 
-TABLES = {"rates": print_rates, "callers": print_callers, "memory": print_memory}
+# ---- idle
+
+
+def print_idle(program, _options):
+    """What the workers take while there is nothing to do."""
+    for workers in IDLE_WORKERS:
+        server = Server(program, workers)
+        time.sleep(GROWING_SECONDS)
+        used, start = server.thread_seconds(), seconds_now()
+        time.sleep(IDLE_SECONDS)
+        used, seconds = server.thread_seconds() - used, seconds_now() - start
+        print(f"idle: {used / seconds:.2%} of a processor with {workers} workers", flush=True)
+        server.stop()
+
+
+TABLES = {"rates": print_rates, "callers": print_callers, "memory": print_memory, "idle": print_idle}
 
 
 def main():
@@ -267,7 +288,7 @@ def main():
     parser.add_argument("--requests", type=int, default=9_600, help="requests of each rate, 9,900 at most (default: 9,600)")
     parser.add_argument("--workers", type=int, default=2, help="workers beside the rates and the memory (default: 2)")
     parser.add_argument("--sizes", type=int, nargs="+", default=SIZES, help="so many objects stand while callers ask (default: 1000 16000)")
-    parser.add_argument("tables", nargs="*", metavar="TABLE", help="rates, callers, memory (default: all)")
+    parser.add_argument("tables", nargs="*", metavar="TABLE", help="rates, callers, memory, idle (default: all)")
     options = parser.parse_args()
     program = built(options.program)
     for name in options.tables or TABLES:

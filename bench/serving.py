@@ -1,6 +1,7 @@
 """What the scripts about `kubeconv serve` share: the program that runs, one connection of a client, and what is measured of the
 program from outside."""
 
+import contextlib
 import json
 import os
 import pathlib
@@ -48,9 +49,12 @@ class Server:
         return (int(fields[11]) + int(fields[12])) / os.sysconf("SC_CLK_TCK")
 
     def thread_seconds(self):
-        """The processor time that its threads of now took so far, as finely as the system tells it."""
-        tasks = pathlib.Path(f"/proc/{self.process.pid}/task").iterdir()
-        return sum(int((it / "schedstat").read_text().split()[0]) for it in tasks) / 1e9
+        """The processor time that its threads of now took so far, as finely as the system tells it. One that ends meanwhile has none."""
+        nanoseconds = 0
+        for task in pathlib.Path(f"/proc/{self.process.pid}/task").iterdir():
+            with contextlib.suppress(FileNotFoundError, ProcessLookupError):
+                nanoseconds += int((task / "schedstat").read_text().split()[0])
+        return nanoseconds / 1e9
 
     def memory(self, line="VmRSS"):
         """What the program holds of the machine's memory, in MB (10^6 bytes): now, or with `VmHWM` at most so far."""
