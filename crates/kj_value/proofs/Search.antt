@@ -1,11 +1,11 @@
 -- What a binary search finds among names that rise.
-use Rattle.std.proofs.Common.{◌≡◌, ℕ, zero, suc, ◌<◌, ◌≤◌, List, [], ◌∷◌, length, get_or, map, Result, Ok, Err, Ordering, Less, Equal, Greater, nat_cmp, add-one, ap, sym, refl, ◌∙◌, arith}
-use Rattle.std.specs.Ordering.{ordering_index, ordering_reverse}
+use Rattle.std.proofs.Common.{◌≡◌, ◌≢◌, ℕ, zero, suc, ◌<◌, ◌≤◌, List, [], ◌∷◌, length, get_or, map, Some, None, Result, Ok, Err, Ordering, Less, Equal, Greater, nat_cmp, add-one, ap, sym, refl, ◌∙◌, arith}
+use Rattle.std.specs.Ordering.{ordering_index, ordering_reverse, ordering_then, match_ordering}
 use Rattle.std.specs.Cmp.Lexicographic.{slice_cmp}
 use Rattle.std.specs.List.Sorted.{IsBinarySearchResult, IsSearchInRange, IsNonDecreasingBy}
-use Rattle.std.proofs.lemmas.Cmp.{nat_list_cmp_total}
+use Rattle.std.proofs.lemmas.Cmp.{nat_list_cmp_total, tied_itself, ranked}
 use Rattle.std.proofs.lemmas.List.Sorted.{IsNonDecreasingBy-from_all_adjacent}
-use Rattle.kj_value.specs.Fields.{IsBelowFirst, NamesRise, next, seek}
+use Rattle.kj_value.specs.Fields.{IsBelowFirst, NamesRise, next, place, seek}
 
 reversed : (k l : List ℕ) (o : Ordering) → slice_cmp nat_cmp k l ≡ o → slice_cmp nat_cmp l k ≡ ordering_reverse o
 reversed k l o e = nat_list_cmp_total.antisymm l k ∙ ap ordering_reverse e
@@ -22,6 +22,23 @@ no_further m n k p = by_order (slice_cmp nat_cmp m k) refl
     by_order Greater q =
         let above : slice_cmp nat_cmp n k ≡ Greater = reversed k n Less (nat_list_cmp_total.trans k m n (reversed m k Greater q) p) in
         rw above (omega arith)
+
+-- ---- the place alone
+
+place_next : (r : Result ℕ ℕ) → None ≡ place r → None ≡ place (next r)
+place_next (Ok j) e = cc
+place_next (Err j) e = refl
+
+tied_same : (k l : List ℕ) → slice_cmp nat_cmp k l ≡ Equal → k ≡ l
+tied_same [] [] e = refl
+tied_same [] (y ∷ l) e = cc
+tied_same (x ∷ k) [] e = cc
+tied_same (x ∷ k) (y ∷ l) e = by_head (tied_same k l) (nat_cmp x y) refl e
+  where
+    by_head : (slice_cmp nat_cmp k l ≡ Equal → k ≡ l) → (o : Ordering) → nat_cmp x y ≡ o → ordering_then o (slice_cmp nat_cmp k l) ≡ Equal → x ∷ k ≡ y ∷ l
+    by_head rest Less q r = cc
+    by_head rest Equal q r = let heads : x ≡ y = ranked x y Equal (sym q) in let tails : k ≡ l = rest r in cc
+    by_head rest Greater q r = cc
 
 module _ {F : Type 0} (name : F → List ℕ) where
   adjacent : (fs : List F) (i : ℕ) (d : F) → NamesRise (map name fs) → suc i < length fs → slice_cmp nat_cmp (name (get_or fs i d)) (name (get_or fs (suc i) d)) ≡ Less
@@ -92,3 +109,23 @@ module _ {F : Type 0} (name : F → List ℕ) where
   pub last_hit : (k : List ℕ) (fs : List F) (i : ℕ) (d : F) → NamesRise (map name fs) → i < length fs → slice_cmp nat_cmp (name (get_or fs i d)) k ≡ Equal → Ok i ≡ seek k (map name fs)
   last_hit k fs i d h p e =
       at_hit k fs i h p (λ x. ap (λ (f : F). slice_cmp nat_cmp (name f) k) (same_at fs i x d p) ∙ e)
+
+  -- ---- each one looked at
+
+  pub name_at : (fs : List F) (i : ℕ) (d : F) → i < length fs → get_or (map name fs) i [] ≡ name (get_or fs i d)
+  name_at [] i d p = absurd (omega arith)
+  name_at (f ∷ fs) zero d p = refl
+  name_at (f ∷ fs) (suc i) d p = name_at fs i d (omega arith)
+
+  pub found_at : (k : List ℕ) (fs : List F) (i : ℕ) (d : F) → NamesRise (map name fs) → i < length fs → name (get_or fs i d) ≡ k → Some i ≡ place (seek k (map name fs))
+  found_at k fs i d h p e =
+      ap place (last_hit k fs i d h p (ap (λ (n : List ℕ). slice_cmp nat_cmp n k) e ∙ tied_itself nat_list_cmp_total k))
+
+pub found_none : (k : List ℕ) (ns : List (List ℕ)) → ((j : ℕ) → j < length ns → get_or ns j [] ≢ k) → None ≡ place (seek k ns)
+found_none k [] other = refl
+found_none k (n ∷ ns) other = by_order (found_none k ns (λ j p. other (suc j) (omega (arith, p)))) (slice_cmp nat_cmp k n) refl
+  where
+    by_order : None ≡ place (seek k ns) → (o : Ordering) → slice_cmp nat_cmp k n ≡ o → None ≡ place (match_ordering o (Err 0) (Ok 0) (next (seek k ns)))
+    by_order rest Less q = refl
+    by_order rest Equal q = absurd (other 0 (omega arith) (sym (tied_same k n q)))
+    by_order rest Greater q = place_next (seek k ns) rest

@@ -24,7 +24,7 @@ mod writing;
 
 pub use error::NoMemory;
 pub use laws::{one_reading, one_text, reading_depth, sound, text_reads};
-pub use names::{Named, seek};
+pub use names::{Named, find, seek};
 pub use reading::{JsonFault, MAX_JSON_LEVELS, read};
 pub use rule::Rule;
 pub use stamp::Stamp;

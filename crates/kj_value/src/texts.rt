@@ -4,7 +4,7 @@ ghost use Rattle.kj_value.specs.Fields.{AreInOrder};
 ghost use Rattle.kj_value.specs.Texts.{bytes_of, text_pair};
 
 use crate::error::NoMemory;
-use crate::names::{Named, seek, seek_last};
+use crate::names::{Named, find, seek_last};
 use crate::txt::Txt;
 use std::alloc::Global;
 use std::marker::Model;
@@ -198,9 +198,9 @@ impl TextMap {
     pub fn get(&self, name: &str) -> Option<&Txt>
         ensures { option_map (λ t. t.now.bytes) result ≡ field name.now self.now }
     {
-        match seek(self.fields.as_slice(), name) {
-            Ok(i) => Some(&self.fields[i].value),
-            Err(_) => None,
+        match find(self.fields.as_slice(), name) {
+            Some(i) => Some(&self.fields[i].value),
+            None => None,
         }
     }
 

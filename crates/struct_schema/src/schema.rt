@@ -9,7 +9,7 @@ ghost use Rattle.struct_schema.specs.Names.{property, shape_for};
 use crate::choices::Choices;
 use crate::kind::{IntFormat, NodeKind};
 use crate::required::Required;
-use kj_value::{JVal, Named, NoMemory, Txt, seek};
+use kj_value::{JVal, Named, NoMemory, Txt, find};
 use std::alloc::Global;
 use std::marker::Model;
 
@@ -238,9 +238,9 @@ impl SchemaMap {
     pub fn get(&self, name: &str) -> Option<&Schema>
         ensures { option_map (λ s. shape_of s.now) result ≡ field name.now self.now }
     {
-        match seek(self.fields.as_slice(), name) {
-            Ok(i) => Some(&self.fields[i].schema),
-            Err(_) => None,
+        match find(self.fields.as_slice(), name) {
+            Some(i) => Some(&self.fields[i].schema),
+            None => None,
         }
     }
 

@@ -1,4 +1,4 @@
-use Rattle.std.proofs.Common.{◌≡◌, ◌<◌, suc, ℕ, List, length, get_or, nat_cmp, Less, Equal, ap, sym, ◌∙◌, arith}
+use Rattle.std.proofs.Common.{◌≡◌, ℕ, List, length, get_or, nat_cmp, Less, Equal, ap, sym, ◌∙◌, arith}
 use Rattle.std.specs.Prelude.{◌-◌}
 use Rattle.std.specs.Cmp.Lexicographic.{slice_cmp}
 use Rattle.kj_value.proofs.Search.{last_miss, last_hit}
