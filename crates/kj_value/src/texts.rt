@@ -226,12 +226,12 @@ impl TextMap {
         ensures value { option_map (λ t. t.bytes) result ≡ field name.now self.old }
         ensures fields { self.new ≡ without_field name.now self.old }
     {
-        match seek_last(self.fields.as_slice(), name) {
-            Ok(i) => {
+        match find(self.fields.as_slice(), name) {
+            Some(i) => {
                 let TextField { name: _, value } = self.fields.remove(i);
                 Some(value)
             }
-            Err(_) => None,
+            None => None,
         }
     }
 }
