@@ -13,6 +13,7 @@ mod error;
 mod kinds;
 mod laws;
 mod names;
+mod quick;
 mod reading;
 mod rule;
 mod stamp;

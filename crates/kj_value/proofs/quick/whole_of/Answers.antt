@@ -1,0 +1,23 @@
+use Rattle.std.proofs.Common.{◌≡◌, ℕ, List, Option, Some, IfSome, drop, get_or, true, false, ◌==◌, sym, ap, ◌∙◌, subst, arith, take_all, length-drop}
+use Rattle.fast_float.specs.Text.{scan}
+use Rattle.serde_json.specs.Data.{Num}
+use Rattle.serde_json.specs.Find.{of_integer}
+use Rattle.serde_json.specs.Read.{number_of, number_from}
+use Rattle.kj_value.proofs.quick.whole_of.Goals as goal
+
+pub returns-then-has_minus : goal.returns-then-has_minus
+unfolding number_of
+returns-then-has_minus c =
+    let s = c.as_bytes-bytes.result.now in
+    let signed : (get_or s 0 0 == 45) ≡ true = sym c.if-has_minus.ensures.value in
+    let read : number_from true (scan (drop 1 s)) ≡ number_of s = rw signed in
+    let all = ap (λ (ds : List ℕ). number_from true (scan ds)) (take_all _ (drop 1 s) (omega (arith, length-drop 1 s))) in
+    subst (λ (n : Option Num). IfSome c.negative.result (λ z. n ≡ Some (of_integer z))) (all ∙ read ∙ ap number_of c.as_bytes-bytes.ensures.value) c.negative.ensures
+
+pub returns-else-has_minus : goal.returns-else-has_minus
+unfolding number_of
+returns-else-has_minus c =
+    let s = c.as_bytes-bytes.result.now in
+    let unsigned : (get_or s 0 0 == 45) ≡ false = sym c.if-has_minus.ensures.value in
+    let read : number_from false (scan s) ≡ number_of s = rw unsigned in
+    subst (λ (n : Option Num). IfSome c.positive.result (λ z. n ≡ Some (of_integer z))) (read ∙ ap number_of c.as_bytes-bytes.ensures.value) c.positive.ensures
