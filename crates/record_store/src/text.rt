@@ -14,8 +14,6 @@ pub(crate) fn copy_text(alloc: Global, region: &Region, piece: &Piece) -> Result
 {
     let mut out = Vec::with_capacity(alloc, region.length_of(piece))?;
     region.get(piece, &mut out);
-    match Txt::of_bytes(out) {
-        Some(text) => Ok(text),
-        None => unreachable!(),
-    }
+    let text = unsafe { String::from_utf8_unchecked(out) };
+    Ok(Txt::of_string(text))
 }
