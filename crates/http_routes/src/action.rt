@@ -1,8 +1,9 @@
 //! What each method asks of a resource, and the call that it is.
-ghost use Rattle.std.specs.Prelude.{◌≡◌, IfOk};
-ghost use Rattle.api_calls.specs.Calls.{list};
+ghost use Rattle.std.specs.Prelude.{◌≡◌, IfOk, None};
+ghost use Rattle.api_calls.specs.Calls.{create, list};
 ghost use Rattle.http_routes.specs.Actions.{row_of, cell as cell_of, call_of};
-ghost use Rattle.http_routes.specs.Views.{resource_of, action_of, action_in, row_view, paging_of, call_view, bytes_in, lent, FitsResource, FitsAction, FitsAny, FitsRow};
+ghost use Rattle.http_routes.specs.Paths.{object};
+ghost use Rattle.http_routes.specs.Views.{key_view, resource_of, action_of, action_in, row_view, paging_of, call_view, bytes_in, lent, FitsResource, FitsAction, FitsAny, FitsKey, FitsRow};
 
 use crate::calls::Call;
 use crate::query::Paging;
@@ -61,6 +62,49 @@ pub struct Row<'b> {
     pub delete: Option<Action<'b>>,
 }
 
+// By GET, POST, PUT and DELETE.
+fn row_with<'b>(
+    get: Option<Action<'b>>,
+    post: Option<Action<'b>>,
+    put: Option<Action<'b>>,
+    delete: Option<Action<'b>>,
+) -> Row<'b>
+    ensures { result ≡ record { get = get.entry; post = post.entry; put = put.entry; delete = delete.entry } }
+{
+    Row {
+        get,
+        post,
+        put,
+        delete,
+    }
+}
+
+// What the methods ask of an object.
+fn object_row<'b>(version: &'b [u8], namespace: &'b str, name: &'b str) -> Row<'b>
+    requires { FitsKey namespace.now name.now }
+    ensures row { row_view result ≡ row_of (object version.now (key_view namespace.now name.now)) }
+    ensures fits { FitsRow result }
+{
+    Row {
+        get: Some(Action::Get {
+            version,
+            namespace,
+            name,
+        }),
+        post: None,
+        put: Some(Action::Replace {
+            version,
+            namespace,
+            name,
+        }),
+        delete: Some(Action::Delete {
+            version,
+            namespace,
+            name,
+        }),
+    }
+}
+
 /// What the methods ask of this resource.
 pub fn methods_of(resource: Resource<'_>) -> Row<'_>
     requires { FitsResource resource }
@@ -68,82 +112,39 @@ pub fn methods_of(resource: Resource<'_>) -> Row<'_>
     ensures fits { FitsRow result }
 {
     match resource {
-        Resource::Group => Row {
-            get: Some(Action::Group),
-            post: None,
-            put: None,
-            delete: None,
-        },
-        Resource::Everywhere { version } => Row {
-            get: Some(Action::List {
+        Resource::Group => row_with(Some(Action::Group), None, None, None),
+        Resource::Everywhere { version } => {
+            let list = Action::List {
                 version,
                 namespace: None,
-            }),
-            post: None,
-            put: None,
-            delete: None,
-        },
-        Resource::Collection { version, namespace } => Row {
-            get: Some(Action::List {
+            };
+            row_with(Some(list), None, None, None)
+        }
+        Resource::Collection { version, namespace } => {
+            let list = Action::List {
                 version,
                 namespace: Some(namespace),
-            }),
-            post: Some(Action::Create { version, namespace }),
-            put: None,
-            delete: None,
-        },
+            };
+            let create = Action::Create { version, namespace };
+            row_with(Some(list), Some(create), None, None)
+        }
         Resource::Object {
             version,
             namespace,
             name,
-        } => Row {
-            get: Some(Action::Get {
-                version,
-                namespace,
-                name,
-            }),
-            post: None,
-            put: Some(Action::Replace {
-                version,
-                namespace,
-                name,
-            }),
-            delete: Some(Action::Delete {
-                version,
-                namespace,
-                name,
-            }),
-        },
-        Resource::Crd => Row {
-            get: Some(Action::Crd),
-            post: None,
-            put: Some(Action::SetVersions),
-            delete: None,
-        },
-        Resource::CrdStatus => Row {
-            get: None,
-            post: None,
-            put: Some(Action::Trim),
-            delete: None,
-        },
-        Resource::Migrations => Row {
-            get: Some(Action::Migrations),
-            post: Some(Action::Start),
-            put: None,
-            delete: None,
-        },
-        Resource::Migration { name } => Row {
-            get: Some(Action::Migration { name }),
-            post: None,
-            put: None,
-            delete: None,
-        },
-        Resource::Raw { namespace, name } => Row {
-            get: Some(Action::Raw { namespace, name }),
-            post: None,
-            put: None,
-            delete: None,
-        },
+        } => object_row(version, namespace, name),
+        Resource::Crd => row_with(Some(Action::Crd), None, Some(Action::SetVersions), None),
+        Resource::CrdStatus => row_with(None, None, Some(Action::Trim), None),
+        Resource::Migrations => row_with(Some(Action::Migrations), Some(Action::Start), None, None),
+        Resource::Migration { name } => row_with(
+            Some(Action::Migration { name }),
+            None,
+            None,
+            None,
+        ),
+        Resource::Raw { namespace, name } => {
+            row_with(Some(Action::Raw { namespace, name }), None, None, None)
+        }
     }
 }
 
@@ -195,6 +196,22 @@ fn listed<'a>(
     })
 }
 
+fn created<'a>(
+    alloc: Global,
+    version: u8,
+    namespace: &str,
+    body: &'a [u8],
+) -> Result<Call<'a>, NoMemory>
+    ensures { IfOk result (λ c. call_view c ≡ create (record { version = version; ns = namespace.now; name = None; bytes = body.now })) }
+{
+    let namespace = Txt::of(alloc, namespace)?;
+    Ok(Call::Create {
+        version,
+        namespace,
+        body,
+    })
+}
+
 /// The call that is asked for, at the version of this place where it is asked at one.
 pub fn make_call<'a>(
     alloc: Global,
@@ -208,40 +225,27 @@ pub fn make_call<'a>(
 {
     match action {
         Action::Get {
-            version: _,
             namespace,
             name,
+            ..
         } => {
             let key = Key::of(alloc, namespace, name)?;
             Ok(Call::Get { version, key })
         }
-        Action::List {
-            version: _,
-            namespace,
-        } => listed(alloc, version, namespace, paging),
-        Action::Create {
-            version: _,
-            namespace,
-        } => {
-            let namespace = Txt::of(alloc, namespace)?;
-            Ok(Call::Create {
-                version,
-                namespace,
-                body,
-            })
-        }
+        Action::List { namespace, .. } => listed(alloc, version, namespace, paging),
+        Action::Create { namespace, .. } => created(alloc, version, namespace, body),
         Action::Replace {
-            version: _,
             namespace,
             name,
+            ..
         } => {
             let key = Key::of(alloc, namespace, name)?;
             Ok(Call::Replace { version, key, body })
         }
         Action::Delete {
-            version: _,
             namespace,
             name,
+            ..
         } => {
             let key = Key::of(alloc, namespace, name)?;
             Ok(Call::Delete { version, key, body })
