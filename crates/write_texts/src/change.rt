@@ -78,6 +78,38 @@ fn updated<V: Versions>(
     Ok(update)
 }
 
+// What was seen of the object that a request replaces, and what the replace makes of an admitted value over it.
+fn seen_and_updated<V: Versions>(
+    lent: &Context<'_, V>,
+    tool: &mut V::Tool,
+    key: &Key,
+    found: Option<Seen>,
+    over: u64,
+    new: Object,
+) -> Result<(Seen, Update), Refused>
+    requires stored { IfSome found (λ s. (h : ObjectView) × IsStored (V.meaning lent.now.versions.now) s.at h s.bytes.bytes) }
+    requires whole { (V.meaning lent.now.versions.now).whole (object_of new) }
+    ensures seen { IfOk result (λ p. (found ≡ Some p.0) × (p.0.rv ≡ over)) }
+    ensures updates { IfOk result (λ p. Updates (V.meaning lent.now.versions.now) p.0.at p.0.bytes.bytes (object_of new) p.1) }
+    ensures refuses { IfErr result (λ e. RefusesReplace (V.meaning lent.now.versions.now) (V.Tool.faults tool.old < V.Tool.faults tool.new) key.now over found (object_of new) (refusal_of e.refusal)) }
+    ensures rises { V.Tool.faults tool.old ≤ V.Tool.faults tool.new }
+{
+    let seen = match seen_at(lent.alloc, key, found, over) {
+        Ok(seen) => seen,
+        Err(refused) => {
+            drop(new);
+            return Err(refused);
+        }
+    };
+    match updated(lent, tool, &seen, new) {
+        Ok(update) => Ok((seen, update)),
+        Err(fault) => {
+            drop(seen);
+            Err(Refused::from(fault))
+        }
+    }
+}
+
 /// What a replace of the object at the admitted number changes; or why it changes nothing.
 pub fn changing<V: Versions>(
     lent: &Context<'_, V>,
@@ -104,20 +136,7 @@ pub fn changing<V: Versions>(
     } = admitted;
     drop(shape);
     let Some(over) = expected else { unreachable!() };
-    let seen = match seen_at(lent.alloc, key, found, over) {
-        Ok(seen) => seen,
-        Err(refused) => {
-            drop(new);
-            return Err(refused);
-        }
-    };
-    let update = match updated(lent, tool, &seen, new) {
-        Ok(update) => update,
-        Err(fault) => {
-            drop(seen);
-            return Err(Refused::from(fault));
-        }
-    };
+    let (seen, update) = seen_and_updated(lent, tool, key, found, over, new)?;
     let born = seen.born;
     let at = seen.at;
     drop(seen);
