@@ -18,6 +18,3 @@ pub use chunks::{CHUNK_BYTES, chunks_of};
 pub use laws::{apart, every_list, numbers};
 pub use piece::{Piece, RegionFull};
 pub use region::Region;
-
-#[cfg(test)]
-mod tests;

@@ -1,7 +1,7 @@
 use Rattle.std.proofs.Common.{◌≡◌, ◌≢◌, ◌<◌, ℕ, List, Option, Some, None, length, set, subst, sym, refl, ◌∙◌}
 use Rattle.record_region.specs.Places.{Places, IsLive, piece_at}
 use Rattle.record_region.specs.laws.Laws.{unused_apart, live-put, live-set_other}
-use Rattle.record_region.proofs.tests.taken_again.Goals as goal
+use Rattle.test_serving.proofs.regions.taken_again.Goals as goal
 
 put_live : (before now : Places) (chunk : ℕ) (bytes : List ℕ) → now ≡ set before chunk (Some bytes) → chunk < length before → IsLive now chunk
 put_live before now chunk bytes e within = subst (λ (p : Places). IsLive p chunk) (sym e) (live-put before chunk bytes within)

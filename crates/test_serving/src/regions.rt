@@ -2,7 +2,7 @@
 ghost use Rattle.std.specs.Prelude.{◌≡◌, ◌+◌, ◌<◌, ◌≤◌, ◌^◌, Some, None, length, replicate, slice_set, vec_len};
 ghost use Rattle.record_region.specs.Places.{IsLive, piece_at};
 
-use crate::{Piece, Region, RegionFull};
+use record_region::{Piece, Region, RegionFull};
 use std::alloc::Global;
 use std::process::Abort;
 

@@ -1,5 +1,5 @@
 use Rattle.std.proofs.Common.{◌≡◌, vec_len}
-use Rattle.record_region.proofs.tests.numbered.Given as goal
+use Rattle.test_serving.proofs.regions.numbered.Given as goal
 
 abbrev pub invariant-loop-place : goal.invariant-loop-place
 invariant-loop-place g l = vec_len l.bytes ≡ l.place
