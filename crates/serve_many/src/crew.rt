@@ -9,7 +9,8 @@ ghost use Rattle.serve_spans.specs.inner.Keeping.{Going, Job};
 ghost use Rattle.serve_many.specs.Answered.{IsAnswered, front_of};
 ghost use Rattle.serve_many.specs.Jobs.{Retires, Worked};
 
-use crate::gates::{OpenGate, PAUSE_MILLIS, PatientGate, RestingGate};
+use crate::bell::Bell;
+use crate::gates::{OpenGate, PatientGate, RestingGate, resting_gate};
 use crate::passes::make_pass;
 use api_calls::{Tools, Versions};
 use migrate_workers::{WorkEnd, work};
@@ -18,7 +19,7 @@ use std::alloc::Global;
 use std::sync::Wait;
 use std::thread::{Scope, Threads};
 use std::time;
-use thread_jobs::{Flag, Runner, Running, begin, two_flags};
+use thread_jobs::{Flag, Runner, Running, begin};
 
 /// So many turns a worker without a thread has after each connection.
 pub const TURNS_BETWEEN: u64 = 64;
@@ -127,7 +128,7 @@ where
     }
 }
 
-// Makes a pass and begins a worker with it, if both can be. Answers whether a thread works.
+// Makes a pass and begins a worker with it, if both can be. The first one watches. Answers whether a thread works.
 fn hire_one<
     's,
     E,
@@ -141,6 +142,7 @@ fn hire_one<
     api: &'s SharedApi<V>,
     pass: &mut Pass<V>,
     tools: &mut M,
+    bell: &Bell,
     crew: &mut Vec<HiredHere<'s, V, R>>,
 ) -> bool
 where
@@ -155,20 +157,13 @@ where
         → Going (IsAnswered V.Tool.faults (front_of V.meaning api.now.base told)) n asked v0 h0 g0 (map (λ h. h.running.handle.promise.job.value.pass.view) crew.old.items) jobs pass.old.view count handed given
         → Going (IsAnswered V.Tool.faults (front_of V.meaning api.now.base told)) n (asked + 1) v0 h0 g0 (map (λ h. h.running.handle.promise.job.value.pass.view) crew.new.items) jobs pass.new.view count handed given }
 {
-    let Ok((shut, theirs)) = two_flags(alloc) else {
+    let Ok((shut, gate)) = resting_gate(alloc, rt, bell, crew.is_empty()) else {
         return false;
     };
     let Some(own) = make_pass(rt, alloc, api, pass, tools) else {
         return false;
     };
-    let shift = Shift {
-        pass: own,
-        gate: RestingGate {
-            system: rt,
-            shut: theirs,
-            pause: PAUSE_MILLIS,
-        },
-    };
+    let shift = Shift { pass: own, gate };
     match start_work(rt, alloc, scope, api, shift, shut) {
         Ok(hired) => {
             crew.push_reserved(hired);
@@ -195,6 +190,7 @@ pub(crate) fn hire<
     api: &'s SharedApi<V>,
     pass: &mut Pass<V>,
     tools: &mut M,
+    bell: &Bell,
     crew: &mut Vec<HiredHere<'s, V, R>>,
     workers: usize,
 ) -> usize
@@ -211,7 +207,7 @@ where
 {
     let mut idle = 0;
     for _i in 0..workers {
-        if !hire_one(rt, alloc, scope, api, pass, tools, crew) {
+        if !hire_one(rt, alloc, scope, api, pass, tools, bell, crew) {
             idle += 1;
         }
     }
@@ -234,11 +230,12 @@ fn dismiss_one<V: Versions + Drop, G: PatientGate + Drop, R: Threads>(
     api.meet(pass, back);
 }
 
-// Shuts all gates, joins all workers, and meets their passes into `pass`.
+// Shuts all gates, rings for those who rest, joins all workers, and meets their passes into `pass`.
 pub(crate) fn dismiss<V: Versions + Drop, G: PatientGate + Drop, R: Threads>(
     rt: &R,
     api: &SharedApi<V>,
     pass: &mut Pass<V>,
+    bell: &Bell,
     mut crew: Vec<Hired<V, G>>,
 )
     requires of { IsOf V.meaning api.now pass.old }
@@ -251,6 +248,7 @@ pub(crate) fn dismiss<V: Versions + Drop, G: PatientGate + Drop, R: Threads>(
     for hired in &crew {
         hired.close();
     }
+    bell.ring();
     while let Some(hired) = crew.pop() {
         dismiss_one(rt, api, pass, hired);
     }

@@ -1,40 +1,111 @@
 //! What workers ask before each turn.
-ghost use Rattle.std.specs.Prelude.{◌≡◌, IsTrue};
-ghost use Rattle.serve_many.specs.Gates.{Rests};
+//!
+//! One worker watches: where there is nothing to do it looks again at least ten times a second. The others are told of work by
+//! a bell that a worker rings which found some behind a rest, and look once a second besides.
+ghost use Rattle.std.specs.Prelude.{◌≡◌, ◌⊎◌, ◌*◌, min, IsTrue};
+ghost use Rattle.serve_many.specs.Gates.{Rests, most_rest};
 
+use crate::bell::Bell;
 use migrate_workers::{Gate, WorkEnd};
 use shared_api::TurnStep;
+use std::alloc::{AllocError, Global};
 use std::sync::Wait;
 use std::thread;
 use std::time::{Clock, Duration};
-use thread_jobs::Flag;
+use thread_jobs::{Flag, two_flags};
 
 /// So many milliseconds a worker rests at first where it finds nothing to do.
 pub const PAUSE_MILLIS: u64 = 2;
 
-/// So many milliseconds it rests at most, where it found nothing to do many times, and where its converter failed.
+/// So many milliseconds the worker that watches rests at most, where it found nothing to do many times, and any worker where its
+/// converter failed.
 pub const MOST_PAUSE_MILLIS: u64 = 100;
 
+/// So many milliseconds another worker rests at most, where no bell is rung.
+pub const MOST_TOLD_PAUSE_MILLIS: u64 = 1000;
+
 /// A gate that says yes until its flag is raised, and rests before the turn after one that found nothing to do, twice as long each
-/// time. Its parameter has no bound, so that it may be sent.
+/// time, or until its bell is rung. Its parameter has no bound, so that it may be sent.
 #[derive(Drop)]
 pub struct RestingGate<'s, T> {
     pub system: &'s T,
     pub shut: Flag,
     /// So many milliseconds the next rest takes.
     pub pause: u64,
+    /// Whether its worker watches.
+    pub watches: bool,
+    /// Rung where a worker finds something to do behind a rest, and where all are to end.
+    pub bell: Bell,
+    /// How often the bell had been rung before the last turn.
+    pub heard: u64,
+}
+
+/// A gate whose worker watches or not, and the flag that shuts it. An error only where there is no memory.
+pub(crate) fn resting_gate<'s, T>(
+    alloc: Global,
+    system: &'s T,
+    bell: &Bell,
+    watches: bool,
+) -> Result<(Flag, RestingGate<'s, T>), AllocError> {
+    let bell = bell.other()?;
+    let (shut, theirs) = two_flags(alloc)?;
+    let heard = bell.rung();
+    Ok((
+        shut,
+        RestingGate {
+            system,
+            shut: theirs,
+            pause: PAUSE_MILLIS,
+            watches,
+            bell,
+            heard,
+        },
+    ))
+}
+
+// A rest twice as long, up to the most.
+fn longer(pause: u64, watches: bool) -> u64
+    ensures { result ≡ min (pause * 2) (most_rest watches) }
+{
+    let most = if watches {
+        MOST_PAUSE_MILLIS
+    } else {
+        MOST_TOLD_PAUSE_MILLIS
+    };
+    pause.saturating_mul(2).min(most)
+}
+
+impl<'s, T> RestingGate<'s, T> {
+    // Tells the others that there is something to do, where this worker rested since it last had.
+    fn tell(&self) {
+        if self.pause != PAUSE_MILLIS {
+            self.bell.ring();
+        }
+    }
+
+    // Rests, and answers how long the next rest is to take: as long as the first one where the bell was rung.
+    fn rest<R: Wait>(&self, rt: &R) -> u64
+        ensures { (result ≡ min (self.now.pause * 2) (most_rest self.now.watches)) ⊎ (result ≡ 2) }
+    {
+        self.bell.rest(rt, self.heard, self.pause);
+        if self.bell.rung() != self.heard {
+            return PAUSE_MILLIS;
+        }
+        longer(self.pause, self.watches)
+    }
 }
 
 impl<'s, T: Clock> Gate for RestingGate<'s, T> {
-    ghost answers = { λ g last may h. Rests last g.pause h.pause × (h.shut ≡ g.shut) };
+    ghost answers = { λ g last may h. Rests last (most_rest g.watches) g.pause h.pause × (h.watches ≡ g.watches) × (h.shut ≡ g.shut) };
 
-    fn go_on<R: Wait>(&mut self, _rt: &R, last: TurnStep) -> bool {
+    fn go_on<R: Wait>(&mut self, rt: &R, last: TurnStep) -> bool {
         if last != TurnStep::Idle {
+            self.tell();
             self.pause = PAUSE_MILLIS;
         } else if self.shut.raised().is_none() {
-            thread::sleep(self.system, Duration::from_millis(self.pause));
-            self.pause = self.pause.saturating_mul(2).min(MOST_PAUSE_MILLIS);
+            self.pause = self.rest(rt);
         }
+        self.heard = self.bell.rung();
         self.shut.raised().is_none()
     }
 }

@@ -7,6 +7,7 @@
 #![tactic(auto)]
 
 mod accepting;
+mod bell;
 mod crew;
 mod gates;
 mod laws;
@@ -17,6 +18,6 @@ mod serving;
 
 pub use accepting::MOST_RUNNING;
 pub use crew::TURNS_BETWEEN;
-pub use gates::{MOST_PAUSE_MILLIS, PAUSE_MILLIS};
+pub use gates::{MOST_PAUSE_MILLIS, MOST_TOLD_PAUSE_MILLIS, PAUSE_MILLIS};
 pub use laws::{never_rises, stays_served};
 pub use serving::{ServeEnd, serve_all};

@@ -7,6 +7,7 @@ ghost use Rattle.serve_many.specs.Answered.{IsAnswered, front_of};
 ghost use Rattle.serve_many.specs.Ends.{EndsAt, ServeBlames, UnlessNoMemory};
 
 use crate::accepting::{MOST_RUNNING, accept_all};
+use crate::bell::Bell;
 use crate::crew::{HiredHere, disband, dismiss, hire};
 use crate::running::{Link, join_all};
 use api_calls::{Tools, Versions};
@@ -62,6 +63,7 @@ where
         → (count : ℕ) × MatchBool done (connections ≡ Some count) (IfSome connections (λ k. count < k))
         × ServedAll (IsAnswered V.Tool.faults (front_of V.meaning api.now.base (C.told clock.now))) workers pass.old.view pass.new.view count (A.origins ears.old) (A.origins ears.new) (A.returned ears.old) (A.returned ears.new)) }
 {
+    let bell = Bell::new(alloc)?;
     let mut crew: Vec<HiredHere<'s, V, R>> = Vec::with_capacity(alloc, workers)?;
     let mut running: Vec<Link<'s, V, A, C>> = match Vec::with_capacity(alloc, MOST_RUNNING) {
         Ok(running) => running,
@@ -70,7 +72,9 @@ where
             return Err(fault);
         }
     };
-    let idle = hire(rt, alloc, scope, api, pass, tools, &mut crew, workers);
+    let idle = hire(
+        rt, alloc, scope, api, pass, tools, &bell, &mut crew, workers,
+    );
     let done = accept_all(
         rt,
         alloc,
@@ -85,7 +89,7 @@ where
         connections,
     );
     join_all(rt, api, pass, ears, clock, running);
-    dismiss(rt, api, pass, crew);
+    dismiss(rt, api, pass, &bell, crew);
     Ok(done)
 }
 
