@@ -260,6 +260,11 @@ fn renamed<R: Wait>(rt: &R, alloc: Global, case: &Case) -> Option<String> {
     told
 }
 
+// A text, and behind it another.
+fn joined(alloc: Global, front: &str, end: &str) -> Option<String> {
+    format!(in alloc; "{front}{end}").ok()
+}
+
 /// What a script answers over the definition that its first line names, or without any.
 pub(crate) fn told<R: Threads + Wait + Sync + Files>(
     rt: &R,
@@ -282,6 +287,11 @@ pub(crate) fn told<R: Threads + Wait + Sync + Files>(
             case,
         ),
         b'c' => test_core::tell(alloc, head, case.lines.as_str()),
+        b'e' => joined(
+            alloc,
+            crontab_example::definition(),
+            crontab_example::rules(),
+        ),
         _ => test_values::tell(rt, alloc, head, case.lines.as_str()),
     }
 }
