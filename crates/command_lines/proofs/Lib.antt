@@ -1,1 +1,11 @@
 pub mod LineWords
+pub mod Rows
+pub mod Walking
+pub mod Level
+pub mod Giving
+pub mod Commands
+pub mod Plain
+pub mod Addressing
+pub mod Drill
+pub mod Building
+pub mod LineMatches

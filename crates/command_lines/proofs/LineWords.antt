@@ -1,11 +1,9 @@
 -- What words are as options, and which line they are.
-use Rattle.std.proofs.Common.{◌≡◌, ◌≢◌, ◌∙◌, ℕ, ◌<◌, ◌≤◌, List, [], ◌∷◌, ◌++◌, suc, ◌-◌, length, map, take, drop, get_or, refl, ap, sym, subst, arith, inl, inr, Option, Some, None}
-use Rattle.std.specs.Prelude.{codes, decimal, IfSome, MatchOption, ◌^◌, ◌==◌, if◌then◌else◌}
+use Rattle.std.proofs.Common.{◌≡◌, ◌≢◌, ◌∙◌, ℕ, ◌<◌, ◌≤◌, List, [], ◌∷◌, ◌++◌, suc, ◌-◌, length, map, take, drop, get_or, refl, ap, sym, subst, arith, inl, inr, Option, Some, None, Global, String, string_bytes}
+use Rattle.std.specs.Prelude.{codes, decimal, IfSome, MatchOption, ◌==◌, if◌then◌else◌}
 use Rattle.std.proofs.Math.Seq.{take-length}
 use Rattle.std.proofs.lemmas.List.{append_cancel_left}
 use Rattle.std.proofs.lemmas.Fmt.{decimal_injective}
-use Rattle.kj_value.specs.Texts.{bytes_of}
-use Rattle.kj_value.specs.declared.txt.Txt.{Txt}
 use Rattle.command_lines.specs.declared.words.Taken.{Taken}
 use Rattle.command_lines.specs.declared.words.Given.{Given}
 use Rattle.command_lines.specs.declared.words.Command.{Command}
@@ -304,7 +302,7 @@ none_unserved w v other some (serve_by c l) e has = other e
 
 -- ---- words in memory
 
-pub map_length : (ws : List Txt) → length (map bytes_of ws) ≡ length ws
+pub map_length : (ws : List (String Global)) → length (map string_bytes ws) ≡ length ws
 map_length [] = refl
 map_length (x ∷ ws) = ap (λ n. suc n) (map_length ws)
 
@@ -313,13 +311,13 @@ pub no_end : (f : Flag) (end : List ℕ) (ws : List (List ℕ)) (o : Option Take
 no_end f [] ws o n first = subst (λ (x : List ℕ). TakesFirst (x ∷ ws) o) (flag_alone f) first
 no_end f (b ∷ bs) ws o n first = absurd (omega (arith, n))
 
-pub first_word : (ws : List Txt) (first : Txt) (w : List ℕ) → 1 ≤ length ws → first ≡ get_or ws 0 first → w ≡ bytes_of first → map bytes_of ws ≡ w ∷ map bytes_of (take (length ws - 1) (drop 1 ws))
+pub first_word : (ws : List (String Global)) (first : String Global) (w : List ℕ) → 1 ≤ length ws → first ≡ get_or ws 0 first → w ≡ string_bytes first → map string_bytes ws ≡ w ∷ map string_bytes (take (length ws - 1) (drop 1 ws))
 first_word [] first w n is spelled = absurd (omega (arith, n))
 first_word (x ∷ ws) first w n is spelled =
     let k : length (x ∷ ws) - 1 ≡ length ws = omega arith in
     let t : take (length (x ∷ ws) - 1) ws ≡ ws = ap (λ (i : ℕ). take i ws) k ∙ take-length ws in
-    let h : bytes_of x ≡ w = ap bytes_of (sym is) ∙ sym spelled in
-    ap (λ (b : List ℕ). b ∷ map bytes_of ws) h ∙ ap (λ (y : List Txt). w ∷ map bytes_of y) (sym t)
+    let h : string_bytes x ≡ w = ap string_bytes (sym is) ∙ sym spelled in
+    ap (λ (b : List ℕ). b ∷ map string_bytes ws) h ∙ ap (λ (y : List (String Global)). w ∷ map string_bytes y) (sym t)
 
 -- the first word begins with no option's name
 pub no_flag : (w : List ℕ) (ws all : List (List ℕ)) → all ≡ w ∷ ws → ((f : Flag) (end : List ℕ) → w ≢ flag_text f ++ end)
@@ -328,7 +326,7 @@ no_flag w ws all is none f v r begins =
     let e = front w ws f v r (subst (λ (x : List (List ℕ)). BeginsWithOption x f v r) is begins) in
     none f e.0 e.1
 
-pub no_words : (ws : List Txt) (values : Values) → length ws < 1 → Gives (map bytes_of ws) values values
+pub no_words : (ws : List (String Global)) (values : Values) → length ws < 1 → Gives (map string_bytes ws) values values
 no_words [] values n = no_more values
 no_words (x ∷ ws) values n = absurd (omega (arith, n))
 
@@ -412,20 +410,20 @@ same_drill a b x n line start low count few h =
     second = let spelled : b ≡ decimal h.count = cc in decimal_injective n h.count (omega (arith, few)) (omega (arith, h.few)) (sym count ∙ spelled)
 
 -- how many words stand behind the command
-pub no_numbers : (ws : List Txt) (line : Line) → length ws < 1 → HasNumbers (codes "drill" ∷ map bytes_of ws) line → ⊥
+pub no_numbers : (ws : List (String Global)) (line : Line) → length ws < 1 → HasNumbers (codes "drill" ∷ map string_bytes ws) line → ⊥
 no_numbers [] line few h = let same : codes "drill" ∷ [] ≡ codes "drill" ∷ decimal h.start ∷ decimal h.count ∷ [] = h.spelled in cc
 no_numbers (x ∷ ws) line few h = omega (arith, few)
 
-pub no_count : (a : List ℕ) (ws : List Txt) (line : Line) → length ws < 1 → HasNumbers (codes "drill" ∷ a ∷ map bytes_of ws) line → ⊥
+pub no_count : (a : List ℕ) (ws : List (String Global)) (line : Line) → length ws < 1 → HasNumbers (codes "drill" ∷ a ∷ map string_bytes ws) line → ⊥
 no_count a [] line few h = let same : codes "drill" ∷ a ∷ [] ≡ codes "drill" ∷ decimal h.start ∷ decimal h.count ∷ [] = h.spelled in cc
 no_count a (x ∷ ws) line few h = omega (arith, few)
 
-pub no_third : (a b : List ℕ) (ws : List Txt) (line : Line) → 1 ≤ length ws → HasNumbers (codes "drill" ∷ a ∷ b ∷ map bytes_of ws) line → ⊥
+pub no_third : (a b : List ℕ) (ws : List (String Global)) (line : Line) → 1 ≤ length ws → HasNumbers (codes "drill" ∷ a ∷ b ∷ map string_bytes ws) line → ⊥
 no_third a b [] line some h = omega (arith, some)
 no_third a b (x ∷ ws) line some h =
-    let same : codes "drill" ∷ a ∷ b ∷ bytes_of x ∷ map bytes_of ws ≡ codes "drill" ∷ decimal h.start ∷ decimal h.count ∷ [] = h.spelled in cc
+    let same : codes "drill" ∷ a ∷ b ∷ string_bytes x ∷ map string_bytes ws ≡ codes "drill" ∷ decimal h.start ∷ decimal h.count ∷ [] = h.spelled in cc
 
-pub none_behind : (ws : List Txt) → length ws < 1 → map bytes_of ws ≡ []
+pub none_behind : (ws : List (String Global)) → length ws < 1 → map string_bytes ws ≡ []
 none_behind [] few = refl
 none_behind (x ∷ ws) few = absurd (omega (arith, few))
 
@@ -479,7 +477,7 @@ low_third migrate = omega arith
 low_third dump = omega arith
 low_third load = omega arith
 
-low_fifth : (k : Remote) → get_or (remote_word k) 4 0 < 108
+pub low_fifth : (k : Remote) → get_or (remote_word k) 4 0 < 108
 low_fifth migrate = omega arith
 low_fifth dump = omega arith
 low_fifth load = omega arith
@@ -567,7 +565,7 @@ pub line_only : (o : Option Command) (ws us : List (List ℕ)) → ws ≡ us →
 line_only o ws us same only line l = only line (subst (λ (x : List (List ℕ)). IsLine x line) same l)
 
 -- no words are no line
-pub no_line : (ws : List Txt) (words : List (List ℕ)) (line : Line) → map bytes_of ws ≡ words → length ws < 1 → IsLine words line → ⊥
+pub no_line : (ws : List (String Global)) (words : List (List ℕ)) (line : Line) → map string_bytes ws ≡ words → length ws < 1 → IsLine words line → ⊥
 no_line [] words line same few (inl l) = let none : [] ≡ command_word line ∷ l.options = same ∙ l.command in cc
 no_line [] words line same few (inr (inl h)) = let none : [] ≡ codes "drill" ∷ decimal h.start ∷ decimal h.count ∷ [] = same ∙ h.spelled in cc
 no_line [] words line same few (inr (inr a)) = let none : [] ≡ remote_word a.work ∷ a.url ∷ [] = same ∙ a.spelled in cc

@@ -1,6 +1,6 @@
 -- What the types of the code stand for: a line, options, and one option taken of words.
 use Rattle.std.specs.Prelude.{◌≡◌, ◌⊎◌, ℕ, List, Option, MatchOption, option_map, map}
-use Rattle.kj_value.specs.Texts.{bytes_of}
+use Rattle.std.specs.Prelude.{string_bytes}
 use Rattle.command_lines.specs.declared.words.Named.{Named as NamedCode}
 use Rattle.command_lines.specs.declared.words.Named.TheVariants as named
 use Rattle.command_lines.specs.declared.words.Task.{Task as TaskCode}
@@ -69,7 +69,7 @@ values_in g = record { crd = option_map (λ x. x.now) g.crd; rules = option_map 
 abbrev pub TakesFirst : List (List ℕ) → Option Taken → Type 0
 TakesFirst words o = MatchOption o
     ((f : Flag) (value : List ℕ) (rest : List (List ℕ)) → BeginsWithOption words f value rest → ⊥)
-    (λ t. BeginsWithOption words (flag_in t.flag) t.value.now (map bytes_of t.rest.now))
+    (λ t. BeginsWithOption words (flag_in t.flag) t.value.now (map string_bytes t.rest.now))
 
 -- the options that the words are, behind those values, and none where nothing is told
 abbrev pub GivesOne : List (List ℕ) → Values → Option Given → Type 0

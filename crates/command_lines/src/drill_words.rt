@@ -1,15 +1,13 @@
 //! The words of a drill.
-ghost use Rattle.std.specs.Prelude.{◌≡◌, ◌∷◌, [], IfSome, MatchOption, codes, map};
-ghost use Rattle.kj_value.specs.Texts.{bytes_of};
+ghost use Rattle.std.specs.Prelude.{◌≡◌, ◌∷◌, [], IfSome, MatchOption, codes, map, string_bytes};
 ghost use Rattle.command_lines.specs.Lines.{HasNumbers, Line};
 ghost use Rattle.command_lines.specs.Given.{line_of};
 
 use crate::numbers::{MOST_START, MOST_STEPS, number_up_to};
 use crate::words::Command;
-use kj_value::Txt;
 
 // The drill of two numbers.
-fn drill_with<'a>(start: &str, count: &str) -> Option<Command<'a>>
+pub(crate) fn drill_with<'a>(start: &str, count: &str) -> Option<Command<'a>>
     ensures is { IfSome result (λ c. HasNumbers (codes "drill" ∷ start.now ∷ count.now ∷ []) (line_of c)) }
     ensures only { (line : Line) → HasNumbers (codes "drill" ∷ start.now ∷ count.now ∷ []) line → MatchOption result ⊥ (λ c. line ≡ line_of c) }
 {
@@ -23,9 +21,9 @@ fn drill_with<'a>(start: &str, count: &str) -> Option<Command<'a>>
 }
 
 // The drill of two numbers, where no other word is behind them.
-fn ended<'a>(start: &str, count: &str, more: &[Txt]) -> Option<Command<'a>>
-    ensures is { IfSome result (λ c. HasNumbers (codes "drill" ∷ start.now ∷ count.now ∷ map bytes_of more.now) (line_of c)) }
-    ensures only { (line : Line) → HasNumbers (codes "drill" ∷ start.now ∷ count.now ∷ map bytes_of more.now) line → MatchOption result ⊥ (λ c. line ≡ line_of c) }
+fn ended<'a>(start: &str, count: &str, more: &[String]) -> Option<Command<'a>>
+    ensures is { IfSome result (λ c. HasNumbers (codes "drill" ∷ start.now ∷ count.now ∷ map string_bytes more.now) (line_of c)) }
+    ensures only { (line : Line) → HasNumbers (codes "drill" ∷ start.now ∷ count.now ∷ map string_bytes more.now) line → MatchOption result ⊥ (λ c. line ≡ line_of c) }
 {
     match more {
         [] => drill_with(start, count),
@@ -34,9 +32,9 @@ fn ended<'a>(start: &str, count: &str, more: &[Txt]) -> Option<Command<'a>>
 }
 
 // The drill of a number and the words behind it.
-fn counted<'a>(start: &str, rest: &[Txt]) -> Option<Command<'a>>
-    ensures is { IfSome result (λ c. HasNumbers (codes "drill" ∷ start.now ∷ map bytes_of rest.now) (line_of c)) }
-    ensures only { (line : Line) → HasNumbers (codes "drill" ∷ start.now ∷ map bytes_of rest.now) line → MatchOption result ⊥ (λ c. line ≡ line_of c) }
+fn counted<'a>(start: &str, rest: &[String]) -> Option<Command<'a>>
+    ensures is { IfSome result (λ c. HasNumbers (codes "drill" ∷ start.now ∷ map string_bytes rest.now) (line_of c)) }
+    ensures only { (line : Line) → HasNumbers (codes "drill" ∷ start.now ∷ map string_bytes rest.now) line → MatchOption result ⊥ (λ c. line ≡ line_of c) }
 {
     match rest {
         [] => None,
@@ -45,9 +43,9 @@ fn counted<'a>(start: &str, rest: &[Txt]) -> Option<Command<'a>>
 }
 
 /// The drill that the words behind the command are, or `None` exactly where they are none.
-pub(crate) fn drill_of<'a>(words: &[Txt]) -> Option<Command<'a>>
-    ensures is { IfSome result (λ c. HasNumbers (codes "drill" ∷ map bytes_of words.now) (line_of c)) }
-    ensures only { (line : Line) → HasNumbers (codes "drill" ∷ map bytes_of words.now) line → MatchOption result ⊥ (λ c. line ≡ line_of c) }
+pub(crate) fn drill_of<'a>(words: &[String]) -> Option<Command<'a>>
+    ensures is { IfSome result (λ c. HasNumbers (codes "drill" ∷ map string_bytes words.now) (line_of c)) }
+    ensures only { (line : Line) → HasNumbers (codes "drill" ∷ map string_bytes words.now) line → MatchOption result ⊥ (λ c. line ≡ line_of c) }
 {
     match words {
         [] => None,

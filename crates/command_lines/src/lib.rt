@@ -7,14 +7,19 @@
 mod conversion;
 mod conversion_words;
 mod drill_words;
+mod list;
+mod matching;
 mod numbers;
+mod program;
 mod serve_words;
 mod service;
 mod turns;
 mod words;
 
 pub use conversion::{Conversion, Listening};
+pub use list::Words;
+pub use matching::read_command;
 pub use numbers::MOST_STEPS;
 pub use service::{MOST_CONNECTIONS, MOST_WORKERS, Service, USUAL_WORKERS};
 pub use turns::MOST_TURNS;
-pub use words::{Command, Named, Task, Words, command_of};
+pub use words::{Command, Named, Task};

@@ -1,19 +1,15 @@
 //! The words of the command line.
-ghost use Rattle.std.specs.Prelude.{◌≡◌, ◌≢◌, ◌≤◌, ◌<◌, ◌↔◌, ◌++◌, ◌∷◌, [], ℕ, List, None, IfSome, IsTrue, MatchOption, codes, map, length};
-ghost use Rattle.kj_value.specs.Texts.{bytes_of};
+ghost use Rattle.std.specs.Prelude.{◌≡◌, ◌≢◌, ◌≤◌, ◌<◌, ◌↔◌, ◌++◌, ◌∷◌, [], ℕ, List, None, IfSome, IsTrue, MatchOption, codes, map, length, string_bytes};
 ghost use Rattle.command_lines.specs.Lines.{Line, Remote as RemoteView, remote, remote_word, Flag as FlagView, HasAddress, HasOptions, IsLine, IsUnconverted, IsUnserved, IsValue, SpellsTurns, crd_flag, rules_flag, hub_flag, converter_flag, to_flag, listen_flag, workers_flag, connections_flag, flag_text, value_at, with_value};
 ghost use Rattle.command_lines.specs.Given.{Within, line_of, remote_in, flag_in, values_in, TakesFirst, GivesOne, IsCommand};
 
 use crate::conversion::{Conversion, Listening};
 use crate::conversion_words::{converted, is_unconverted};
 use crate::drill_words::drill_of;
+use crate::list::Words;
 use crate::serve_words::{is_unserved, serve_of};
 use crate::service::Service;
 use crate::turns::turns_of;
-use kj_value::{TextList, Txt};
-
-/// The words of the command line, without the program's name.
-pub type Words = TextList;
 
 /// The definition that a line names: the one that is built in, or that of two files.
 #[derive(Clone, Copy)]
@@ -76,7 +72,7 @@ pub enum Command<'a> {
 
 // What is done at the place of an address.
 #[derive(Clone, Copy)]
-enum Remote {
+pub(crate) enum Remote {
     Migrate,
     Dump,
     Load,
@@ -101,7 +97,7 @@ enum Flag {
 struct Taken<'a> {
     flag: Flag,
     value: &'a str,
-    rest: &'a [Txt],
+    rest: &'a [String],
 }
 
 /// The options that are given.
@@ -220,8 +216,8 @@ fn flag_of(word: &str) -> Option<(Flag, &str)>
 }
 
 // An option whose name is a word, with its value in the next one.
-fn apart<'a>(flag: Flag, rest: &'a [Txt]) -> Option<Taken<'a>>
-    ensures first { TakesFirst (flag_text (flag_in flag) ∷ map bytes_of rest.now) result }
+fn apart<'a>(flag: Flag, rest: &'a [String]) -> Option<Taken<'a>>
+    ensures first { TakesFirst (flag_text (flag_in flag) ∷ map string_bytes rest.now) result }
     ensures fewer { IfSome result (λ t. length t.rest.now ≤ length rest.now) }
 {
     match rest {
@@ -242,9 +238,9 @@ fn apart<'a>(flag: Flag, rest: &'a [Txt]) -> Option<Taken<'a>>
 }
 
 // An option whose name and value are one word, of which `end` stands behind the name.
-fn joined<'a>(flag: Flag, end: &'a str, rest: &'a [Txt]) -> Option<Taken<'a>>
+fn joined<'a>(flag: Flag, end: &'a str, rest: &'a [String]) -> Option<Taken<'a>>
     requires { end.now ≢ [] }
-    ensures first { TakesFirst ((flag_text (flag_in flag) ++ end.now) ∷ map bytes_of rest.now) result }
+    ensures first { TakesFirst ((flag_text (flag_in flag) ++ end.now) ∷ map string_bytes rest.now) result }
     ensures fewer { IfSome result (λ t. length t.rest.now ≤ length rest.now) }
 {
     match behind(end, "=") {
@@ -260,8 +256,8 @@ fn joined<'a>(flag: Flag, end: &'a str, rest: &'a [Txt]) -> Option<Taken<'a>>
 }
 
 // An option whose name has `end` behind it.
-fn take_value<'a>(flag: Flag, end: &'a str, rest: &'a [Txt]) -> Option<Taken<'a>>
-    ensures first { TakesFirst ((flag_text (flag_in flag) ++ end.now) ∷ map bytes_of rest.now) result }
+fn take_value<'a>(flag: Flag, end: &'a str, rest: &'a [String]) -> Option<Taken<'a>>
+    ensures first { TakesFirst ((flag_text (flag_in flag) ++ end.now) ∷ map string_bytes rest.now) result }
     ensures fewer { IfSome result (λ t. length t.rest.now ≤ length rest.now) }
 {
     if end.len() == 0 {
@@ -272,8 +268,8 @@ fn take_value<'a>(flag: Flag, end: &'a str, rest: &'a [Txt]) -> Option<Taken<'a>
 }
 
 // The option at the front of the words.
-fn take_option<'a>(words: &'a [Txt]) -> Option<Taken<'a>>
-    ensures first { TakesFirst (map bytes_of words.now) result }
+fn take_option<'a>(words: &'a [String]) -> Option<Taken<'a>>
+    ensures first { TakesFirst (map string_bytes words.now) result }
     ensures fewer { IfSome result (λ t. length t.rest.now < length words.now) }
 {
     match words {
@@ -360,8 +356,8 @@ impl<'a> Given<'a> {
 }
 
 // The options that the words are, behind those that are given. Each call fills a place, so that there are few.
-fn give<'a>(words: &'a [Txt], given: Given<'a>) -> Option<Given<'a>>
-    ensures { GivesOne (map bytes_of words.now) (values_in given.entry) result }
+fn give<'a>(words: &'a [String], given: Given<'a>) -> Option<Given<'a>>
+    ensures { GivesOne (map string_bytes words.now) (values_in given.entry) result }
 {
     match words {
         [] => Some(given),
@@ -523,7 +519,7 @@ fn ruled<'a>(word: &str, given: Given<'a>) -> Option<Command<'a>>
 }
 
 // The line of a command with these options.
-fn command_named<'a>(word: &str, given: Given<'a>) -> Option<Command<'a>>
+pub(crate) fn command_named<'a>(word: &str, given: Given<'a>) -> Option<Command<'a>>
     ensures { IsCommand word.now (values_in given.entry) result }
 {
     if is_unconverted(given) {
@@ -534,9 +530,9 @@ fn command_named<'a>(word: &str, given: Given<'a>) -> Option<Command<'a>>
 }
 
 // The line of a command with the options that the words behind it are.
-fn optioned<'a>(word: &str, options: &'a [Txt]) -> Option<Command<'a>>
-    ensures is { IfSome result (λ c. HasOptions (word.now ∷ map bytes_of options.now) (line_of c)) }
-    ensures only { (line : Line) → HasOptions (word.now ∷ map bytes_of options.now) line → MatchOption result ⊥ (λ c. line ≡ line_of c) }
+fn optioned<'a>(word: &str, options: &'a [String]) -> Option<Command<'a>>
+    ensures is { IfSome result (λ c. HasOptions (word.now ∷ map string_bytes options.now) (line_of c)) }
+    ensures only { (line : Line) → HasOptions (word.now ∷ map string_bytes options.now) line → MatchOption result ⊥ (λ c. line ≡ line_of c) }
 {
     match give(options, NOTHING) {
         Some(given) => command_named(word, given),
@@ -544,14 +540,14 @@ fn optioned<'a>(word: &str, options: &'a [Txt]) -> Option<Command<'a>>
     }
 }
 
-fn is_drill(word: &str) -> bool
+pub(crate) fn is_drill(word: &str) -> bool
     ensures { IsTrue result ↔ (word.now ≡ codes "drill") }
 {
     word == "drill"
 }
 
 // What is done at the place of an address, by the word of the command, or `None` exactly where that works on no server from outside.
-fn remote_of(word: &str) -> Option<Remote>
+pub(crate) fn remote_of(word: &str) -> Option<Remote>
     ensures { MatchOption result ((work : RemoteView) → word.now ≢ remote_word work) (λ work. word.now ≡ remote_word (remote_in work)) }
 {
     if word == "migrate" {
@@ -566,7 +562,7 @@ fn remote_of(word: &str) -> Option<Remote>
 }
 
 // What is done at the place of this address.
-fn remote_at<'a>(work: Remote, url: &'a str) -> Command<'a>
+pub(crate) fn remote_at<'a>(work: Remote, url: &'a str) -> Command<'a>
     ensures { line_of result ≡ remote (remote_in work) url.now }
 {
     match work {
@@ -589,9 +585,9 @@ fn addressed<'a>(work: Remote, url: &'a str) -> Option<Command<'a>>
 }
 
 // The line of such a command with the words behind it.
-fn remote_with<'a>(work: Remote, rest: &'a [Txt]) -> Option<Command<'a>>
-    ensures is { IfSome result (λ c. HasAddress (remote_word (remote_in work) ∷ map bytes_of rest.now) (line_of c)) }
-    ensures only { (line : Line) → HasAddress (remote_word (remote_in work) ∷ map bytes_of rest.now) line → MatchOption result ⊥ (λ c. line ≡ line_of c) }
+fn remote_with<'a>(work: Remote, rest: &'a [String]) -> Option<Command<'a>>
+    ensures is { IfSome result (λ c. HasAddress (remote_word (remote_in work) ∷ map string_bytes rest.now) (line_of c)) }
+    ensures only { (line : Line) → HasAddress (remote_word (remote_in work) ∷ map string_bytes rest.now) line → MatchOption result ⊥ (λ c. line ≡ line_of c) }
 {
     match rest {
         [url] => addressed(work, url.as_str()),
@@ -600,9 +596,9 @@ fn remote_with<'a>(work: Remote, rest: &'a [Txt]) -> Option<Command<'a>>
 }
 
 // The line of a command with options, or of a drill.
-fn served_with<'a>(word: &str, rest: &'a [Txt]) -> Option<Command<'a>>
-    ensures is { IfSome result (λ c. Within (word.now ∷ map bytes_of rest.now) (line_of c)) }
-    ensures only { (line : Line) → Within (word.now ∷ map bytes_of rest.now) line → MatchOption result ⊥ (λ c. line ≡ line_of c) }
+fn served_with<'a>(word: &str, rest: &'a [String]) -> Option<Command<'a>>
+    ensures is { IfSome result (λ c. Within (word.now ∷ map string_bytes rest.now) (line_of c)) }
+    ensures only { (line : Line) → Within (word.now ∷ map string_bytes rest.now) line → MatchOption result ⊥ (λ c. line ≡ line_of c) }
 {
     if is_drill(word) {
         drill_of(rest)
@@ -612,9 +608,9 @@ fn served_with<'a>(word: &str, rest: &'a [Txt]) -> Option<Command<'a>>
 }
 
 // The line of a command with the words behind it.
-fn line_with<'a>(word: &str, rest: &'a [Txt]) -> Option<Command<'a>>
-    ensures is { IfSome result (λ c. IsLine (word.now ∷ map bytes_of rest.now) (line_of c)) }
-    ensures only { (line : Line) → IsLine (word.now ∷ map bytes_of rest.now) line → MatchOption result ⊥ (λ c. line ≡ line_of c) }
+fn line_with<'a>(word: &str, rest: &'a [String]) -> Option<Command<'a>>
+    ensures is { IfSome result (λ c. IsLine (word.now ∷ map string_bytes rest.now) (line_of c)) }
+    ensures only { (line : Line) → IsLine (word.now ∷ map string_bytes rest.now) line → MatchOption result ⊥ (λ c. line ≡ line_of c) }
 {
     match remote_of(word) {
         Some(work) => remote_with(work, rest),
@@ -623,7 +619,7 @@ fn line_with<'a>(word: &str, rest: &'a [Txt]) -> Option<Command<'a>>
 }
 
 /// What the words ask for, or `None` exactly where they are no line of the program. It takes no memory.
-pub fn command_of(words: &Words) -> Option<Command<'_>>
+pub(crate) fn command_of(words: &Words) -> Option<Command<'_>>
     ensures is { IfSome result (λ c. IsLine words.now (line_of c)) }
     ensures only { (line : Line) → IsLine words.now line → MatchOption result ⊥ (λ c. line ≡ line_of c) }
 {

@@ -14,12 +14,12 @@ use crate::loading::load_named;
 use crate::pipe::serve;
 use crate::serve_line::{serve_set, tell_served};
 use crate::status::{
-    BAD_ANSWER, BAD_INPUT, BAD_WORDS, REFUSED, ended, tell_dumped, tell_loaded, tell_migrated,
-    tell_pipe, tell_stop, tell_task, tell_unconverted,
+    BAD_ANSWER, BAD_INPUT, BAD_WORDS, NO_MEMORY, REFUSED, ended, tell_dumped, tell_loaded,
+    tell_migrated, tell_pipe, tell_stop, tell_task, tell_unconverted,
 };
 use crate::tasks::do_task;
 use api_calls::NoTool;
-use command_lines::{Command, Named, Words, command_of};
+use command_lines::{Command, Named, Words, read_command};
 use edge_io::{Clock, Ears, Files, Sink, Source};
 use far_lines::{dump_line, load_line, migrate_line};
 use std::alloc::Global;
@@ -312,12 +312,13 @@ where
         → E.written errors.new ≡ append_known (E.written errors.old) (error_line result) }
     ensures kept { (name : List ℕ) → F.file files.new name ≡ F.file files.old name }
 {
-    match command_of(words) {
-        Some(command) => {
+    match read_command(alloc, words) {
+        Ok(Some(command)) => {
             run_command(
                 rt, alloc, command, files, input, output, errors, ears, links, clock, boot,
             )
         }
-        None => ended(errors, BAD_WORDS),
+        Ok(None) => ended(errors, BAD_WORDS),
+        Err(_) => ended(errors, NO_MEMORY),
     }
 }

@@ -9,9 +9,9 @@ returns-in-empty-clause-only c = λ line h. no_count c.args.start.now c.args.res
 pub returns-in-len1-up-clause-is : goal.returns-in-len1-up-clause-is
 returns-in-len1-up-clause-is c =
     is_line c.ended.result _ _ (ap (λ (ws : List (List ℕ)). codes "drill" ∷ c.args.start.now ∷ ws)
-    (first_word c.args.rest.now c.count-item.result c.as_str.result.now (omega (arith, c.in-len1-up.len_at_least)) c.count-item.is c.as_str.ensures)) c.ended.ensures.is
+    (first_word c.args.rest.now c.count-item.result c.as_str.result.now (omega (arith, c.in-len1-up.len_at_least)) c.count-item.is c.as_str.ensures.value)) c.ended.ensures.is
 
 pub returns-in-len1-up-clause-only : goal.returns-in-len1-up-clause-only
 returns-in-len1-up-clause-only c =
     only_line c.ended.result _ _ (ap (λ (ws : List (List ℕ)). codes "drill" ∷ c.args.start.now ∷ ws)
-    (first_word c.args.rest.now c.count-item.result c.as_str.result.now (omega (arith, c.in-len1-up.len_at_least)) c.count-item.is c.as_str.ensures)) c.ended.ensures.only
+    (first_word c.args.rest.now c.count-item.result c.as_str.result.now (omega (arith, c.in-len1-up.len_at_least)) c.count-item.is c.as_str.ensures.value)) c.ended.ensures.only
