@@ -1,14 +1,16 @@
 -- What a run of each line comes to, from what its parts came to.
-use Rattle.std.proofs.Common.{◌≡◌, ◌≢◌, ◌∙◌, ◌<◌, ◌⊎◌, ℕ, List, Option, Some, Result, Ok, Err, inl, inr, refl, ap, sym, subst, arith}
-use Rattle.std.specs.Prelude.{IfOk, IfErr, OnOk, OnErr, IfSome, ⊤}
+use Rattle.std.proofs.Common.{◌≡◌, ◌≢◌, ◌∙◌, ◌<◌, ◌⊎◌, ℕ, List, Option, None, Some, Result, Ok, Err, inl, inr, refl, ap, sym, subst, arith}
+use Rattle.std.specs.Prelude.{IfOk, IfErr, OnOk, OnErr, IfSome, MatchOption, ⊤}
 use Rattle.std.specs.Io.KnownBytes.{IsAtEnd}
 use Rattle.kj_value.specs.declared.error.NoMemory.{NoMemory}
 use Rattle.crd_loading.specs.Load.{Loads}
 use Rattle.crd_loading.specs.Set.{set_of}
 use Rattle.crd_loading.specs.View.{LoadedView}
 use Rattle.crd_meaning.specs.Definition.{Definition}
-use Rattle.command_lines.specs.Lines.{Named, example, Conversion, Task, Line, pipe, task, drill, serve, migrate, dump, load, remote, pipe_by, serve_by}
-use Rattle.kubeconv_cmd.specs.Listening.{Told, ToldSome, Announced}
+use Rattle.command_lines.specs.declared.words.Command.{Command}
+use Rattle.command_lines.specs.Given.{line_of}
+use Rattle.command_lines.specs.Lines.{Named, example, Conversion, Task, Line, IsLine, pipe, task, drill, serve, migrate, dump, load, remote, pipe_by, serve_by}
+use Rattle.kubeconv_cmd.specs.Listening.{IfServes, NamesPlace, Told, ToldSome, Announced}
 use Rattle.kubeconv_cmd.specs.Beside.{AnsweredAll, ServesAll}
 use Rattle.kubeconv_cmd.specs.Converting.{RefusesConverted, converted_meaning, converter_faults}
 use Rattle.hook_versions.specs.Loads.{LoadsHook}
@@ -41,7 +43,7 @@ use Rattle.far_lines.specs.declared.end.LoadEnd.TheVariants as loads
 use Rattle.kubeconv_cmd.specs.inner.Backups.{dumped_line, dumped_status, loaded_line, loaded_status}
 use Rattle.kubeconv_cmd.specs.inner.Migrations.{migrate_end_line, migrate_status}
 use Rattle.kubeconv_cmd.specs.Status.{dump_status, error_line, pipe_status, restore_status}
-use Rattle.kubeconv_cmd.specs.Outcome.{World, OfTexts, OfInput, OfFile, HasLoaded, HasLoadedBy, HasHandedOn, Says, IsSilent, streams_of, HearsNobody, AnswersSo, AnswersSoBy, Stopped, unreadable, refused, wanting, StoppedBy, unreadable_file, refused_file, wanting_memory, addressless, PipeOutcome, PipeByOutcome, talked, unserved, TaskOutcome, wrote_line, broke_line, refused_input, unread_input, wanting_task, unloaded_task, DrillOutcome, wrote_drill, broke_drill, wanting_drill, ServeOutcome, ServeByOutcome, answered, answered_fewer, unheard, untold, wanting_service, unloaded_service, MigratedAt, MigrateOutcome, settled, contested, broke_tally, forgotten, misanswered, unlinked, wanting_migration, placeless, wanting_place, bad_place, DumpOutcome, dumped, undumped, TellsCounts, LoadOutcome, restored, broke_counts, unloaded, IsPlaceless, Outcome, FilesFail, InputFails, OutputFails, EarsFail, FilesStay, InputStays, OutputStays, EarsStay}
+use Rattle.kubeconv_cmd.specs.Outcome.{World, OfTexts, OfInput, OfFile, HasLoaded, HasLoadedBy, HasHandedOn, Says, IsSilent, streams_of, HearsNobody, AnswersSo, AnswersSoBy, Stopped, unreadable, refused, wanting, StoppedBy, unreadable_file, refused_file, wanting_memory, addressless, PipeOutcome, PipeByOutcome, talked, unserved, TaskOutcome, wrote_line, broke_line, refused_input, unread_input, wanting_task, unloaded_task, DrillOutcome, wrote_drill, broke_drill, wanting_drill, ServeOutcome, ServeByOutcome, answered, answered_fewer, unheard, untold, wanting_service, unloaded_service, MigratedAt, MigrateOutcome, settled, contested, broke_tally, forgotten, misanswered, unlinked, wanting_migration, placeless, wanting_place, bad_place, DumpOutcome, dumped, undumped, TellsCounts, LoadOutcome, restored, broke_counts, unloaded, IfUnlinked, IsPlaceless, Outcome, FilesFail, InputFails, OutputFails, EarsFail, FilesStay, InputStays, OutputStays, EarsStay}
 use Rattle.kubeconv_cmd.specs.inner.Ends.{OnBadAddress, OnRefused, OnStopped, OnUnread, stop_status, stop_line, talk_status, unconverted_line, unconverted_status, why_text}
 use Rattle.kubeconv_cmd.specs.inner.Halts.{OnHalt, Unwritten, task_status, task_line}
 use Rattle.kubeconv_cmd.specs.inner.Served.{OnUnheard, UnlessUnheard, OnUntold, Silent, served_status}
@@ -55,7 +57,7 @@ use Rattle.kubeconv_cmd.specs.declared.halt.Halt.{Halt}
 use Rattle.kubeconv_cmd.specs.declared.halt.Halt.TheVariants as halts
 use Rattle.kubeconv_cmd.specs.declared.serve_line.Unserved.{Unserved}
 use Rattle.kubeconv_cmd.specs.declared.serve_line.Unserved.TheVariants as ends
-use Rattle.kubeconv_cmd.specs.declared.status.TheConstants.{BAD_WORDS, REFUSED, BAD_INPUT, LISTEN_FAILED, BAD_ANSWER}
+use Rattle.kubeconv_cmd.specs.declared.status.TheConstants.{BAD_WORDS, REFUSED, BAD_INPUT, NO_MEMORY, LISTEN_FAILED, BAD_ANSWER}
 use Rattle.kubeconv_cmd.proofs.TaskLemmas.{wrote_texts, broke_texts, refuses_texts}
 
 -- what a line comes to is what an equal line does
@@ -480,3 +482,47 @@ bad_words w (remote dump url) s out e = let found = only_undumped w url s out.0 
 bad_words w (pipe_by c turns) s out e = let found = only_piped_by w c turns s out.0 e in (found.0, found.1, found.2, found.3, out.1)
 bad_words w (serve_by c l) s out e = let found = only_served_by w c l.workers l.connections s out.0 e in (found.0, found.1, out.1, found.2, found.3)
 bad_words w (remote load url) s out e = let found = only_unloaded w url s out.0 e in (found.0, out.1, found.1, found.2, out.2)
+
+-- memory was wanted before anything was touched
+pub wanted : {F S K A : Type 0} (w : World F S K A) (line : Line) (s : ℕ) → s ≡ NO_MEMORY → FilesStay w → InputStays w → IsSilent w → EarsStay w → HearsNobody w
+    → w.linked ≡ w.linked_before → Outcome w line s
+wanted w (pipe named turns) s is files input silent ears nobody links = (unserved (wanting is) input silent, ears)
+wanted w (task c r t) s is files input silent ears nobody links = (wanting_task is silent, ears)
+wanted w (drill start count) s is files input silent ears nobody links = (wanting_drill is silent, files, input, ears)
+wanted w (serve v) s is files input silent ears nobody links = (wanting_service is (inl silent.1) nobody, input)
+wanted w (remote migrate url) s is files input silent ears nobody links = (wanting_migration is silent, files, input, ears)
+wanted w (remote dump url) s is files input silent ears nobody links = (undumped (wanting_place is) links silent, files, input, ears)
+wanted w (remote load url) s is files input silent ears nobody links = (unloaded (wanting_place is) links input silent, files, ears)
+wanted w (pipe_by c turns) s is files input silent ears nobody links = (unserved (wanting_memory is) input silent, ears)
+wanted w (serve_by c l) s is files input silent ears nobody links = (wanting_service is (inl silent.1) nobody, input)
+
+-- whatever holds, it holds of such lines alone
+pub unlinked_stays : (line : Line) {P : Type 0} → P → IfUnlinked line P
+unlinked_stays (pipe named turns) is = is
+unlinked_stays (task c r t) is = is
+unlinked_stays (drill start count) is = is
+unlinked_stays (serve v) is = is
+unlinked_stays (remote work url) is = tt
+unlinked_stays (pipe_by c turns) is = tt
+unlinked_stays (serve_by c l) is = tt
+
+-- nothing was written that names a place
+pub placed_stays : (line : Line) (may : List ℕ → List ℕ → Type 0) (before written : Option (List ℕ)) → written ≡ before → IfServes line (λ place. NamesPlace (may place) before written)
+placed_stays (pipe named turns) may before written same = tt
+placed_stays (task c r t) may before written same = tt
+placed_stays (drill start count) may before written same = tt
+placed_stays (serve v) may before written same = inl same
+placed_stays (remote work url) may before written same = tt
+placed_stays (pipe_by c turns) may before written same = tt
+placed_stays (serve_by c l) may before written same = inl same
+
+-- the line that was read, where one was
+pub that_line : (read : Option Command) (c : Command) (line : Line) → read ≡ Some c → MatchOption read ⊥ (λ d. line ≡ line_of d) → line ≡ line_of c
+that_line read c line is only = let there : MatchOption (Some c) ⊥ (λ d. line ≡ line_of d) = subst (λ (o : Option Command). MatchOption o ⊥ (λ d. line ≡ line_of d)) is only in there
+
+pub that_is_line : (words : List (List ℕ)) (read : Option Command) (c : Command) → read ≡ Some c → IfSome read (λ d. IsLine words (line_of d)) → IsLine words (line_of c)
+that_is_line words read c is held = let there : IfSome (Some c) (λ d. IsLine words (line_of d)) = subst (λ (o : Option Command). IfSome o (λ d. IsLine words (line_of d))) is held in there
+
+-- no line was read, so the words are none
+pub no_line : (read : Option Command) (line : Line) → read ≡ None → MatchOption read ⊥ (λ d. line ≡ line_of d) → ⊥
+no_line read line is only = let there : MatchOption None ⊥ (λ (d : Command). line ≡ line_of d) = subst (λ (o : Option Command). MatchOption o ⊥ (λ d. line ≡ line_of d)) is only in there
