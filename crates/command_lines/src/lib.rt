@@ -1,7 +1,8 @@
-//! The words of a command line: a command with its options, each given once and in any order, or a drill with its two numbers.
+//! The words of a command line: a command with its options, each given once and in any order, a drill with its two numbers, or a command
+//! with the address of a place.
 //!
-//! The crate's one contract is that of `command_of`: what the words ask for, exactly where they are a line of the program. It knows nothing
-//! of what a line does, nor of what the files hold that it names.
+//! The crate's one contract is that of `read_command`: what the words ask for, exactly where they are a line of the program, unless memory is
+//! wanted to read a line. It knows nothing of what a line does, nor of what the files hold that it names.
 #![tactic(auto)]
 
 mod conversion;
