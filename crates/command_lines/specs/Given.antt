@@ -1,6 +1,5 @@
 -- What the types of the code stand for: a line, options, and one option taken of words.
-use Rattle.std.specs.Prelude.{◌≡◌, ◌⊎◌, ℕ, List, Option, MatchOption, option_map, map}
-use Rattle.std.specs.Prelude.{string_bytes}
+use Rattle.std.specs.Prelude.{◌≡◌, ◌⊎◌, ℕ, List, Option, MatchOption, option_map, map, string_bytes}
 use Rattle.command_lines.specs.declared.words.Named.{Named as NamedCode}
 use Rattle.command_lines.specs.declared.words.Named.TheVariants as named
 use Rattle.command_lines.specs.declared.words.Task.{Task as TaskCode}
