@@ -43,6 +43,17 @@ fn room_of(head: &str) -> Limits
     if head.contains("small") { SMALL } else { ROOM }
 }
 
+// Puts a text in place of another. Answers whether there was memory.
+fn put(alloc: Global, place: &mut String, text: &str) -> bool {
+    match String::from_str(alloc, text) {
+        Ok(text) => {
+            *place = text;
+            true
+        }
+        Err(_) => false,
+    }
+}
+
 /// What a script has: its first line, the input of its connections, and its orders.
 #[derive(Drop)]
 pub(crate) struct Case {
@@ -52,8 +63,8 @@ pub(crate) struct Case {
 }
 
 impl Case {
-    /// A script that has no line yet.
-    pub(crate) fn new(alloc: Global) -> Case {
+    // A script that has no line yet.
+    fn new(alloc: Global) -> Case {
         Case {
             head: String::new(alloc),
             input: String::new(alloc),
@@ -66,15 +77,24 @@ impl Case {
         self.lines.push_str(line).is_ok() && self.lines.push_str("\n").is_ok()
     }
 
-    /// Whether the script got one line more.
-    pub(crate) fn take(&mut self, line: String) -> bool {
+    // Whether the script got one line more.
+    fn take(&mut self, alloc: Global, line: &str) -> bool {
         match line.as_bytes().first().copied().unwrap_or(b' ') {
-            b'#' => self.head = line,
-            b'>' => self.input = line,
-            _ => return self.add(line.as_str()),
+            b'#' => put(alloc, &mut self.head, line),
+            b'>' => put(alloc, &mut self.input, line),
+            _ => self.add(line),
         }
-        true
     }
+}
+
+/// The script of these lines.
+pub(crate) fn gathered(alloc: Global, lines: &str) -> Option<Case> {
+    let mut case = Case::new(alloc);
+    let mut is_whole = true;
+    for line in lines.lines() {
+        is_whole = case.take(alloc, line) && is_whole;
+    }
+    if is_whole { Some(case) } else { None }
 }
 
 // The workers of the two passes.

@@ -26,6 +26,7 @@
 //! | `every place` | it is run again with the input in two pieces, parted at each of its places in turn, and ended there |
 //! | `@ FIRST END`, `@` | the lines between the two stand once for each number from FIRST on and below END, which stands for each `@` in them |
 //! | `.` | the case ends |
+//! | `scripts`, `cases` | the lines between the two are scripts, each with an empty line behind it, which `test_calls` tells: the head of its `src/lib.rt` has their lines |
 //!
 //! The ears have one connection, which holds the input too, or as many as the case says. The answers of the one link are the parts of the input
 //! between two `~`; of a line of `load` and of one with a converter those behind the first `~`, before which the input stands. What was written to the connection that was given back last, or asked over the link, is printed behind the output.
@@ -40,18 +41,20 @@ mod going;
 mod input;
 mod lines;
 mod reviewing;
+mod scripts;
 mod steps;
 mod telling;
 
 use case::Case;
-use steps::take;
+use scripts::{Script, take_any};
 
 fn main(rt: HostRuntime) -> std::io::Result<()> {
     let alloc = rt.alloc();
     let mut case = Case::new(alloc);
+    let mut script = Script::new(alloc);
     for line in rt.lines(alloc) {
         let line = line?;
-        match take(&rt, alloc, &mut case, line.as_str()) {
+        match take_any(&rt, alloc, &mut case, &mut script, line.as_str()) {
             Some(text) => print!(rt; "{}", text.as_str())?,
             None => println!(rt; "no such line: {}", line.as_str())?,
         }

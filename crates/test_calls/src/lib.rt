@@ -1,9 +1,9 @@
 //! Calls of the server that callers share, over connections: one after another by two passes, and beside each other by two threads. Beside
 //! them stand scripts of what needs no server of ours, which `test_core`, `test_far` and `test_values` tell.
 //!
-//! Standard input is scripts, each with an empty line behind it. The first line of a script begins with `#`, tells over which
-//! definition it runs, and is printed as it is; each other line is a call, which is printed with its answer. What is wanted
-//! stands in `stdout`. Before each script nothing has happened.
+//! The scripts stand in the `stdin` of `test_program`, behind its line `scripts`, each with an empty line behind it. The first line of a
+//! script begins with `#`, tells over which definition it runs, and is told as it is; each other line is a call, which is told with its
+//! answer. What is wanted stands in `stdout` there. Before each script nothing has happened.
 //!
 //! | first line | the definition |
 //! |---|---|
@@ -46,8 +46,11 @@ mod script;
 mod texts;
 mod tool;
 
-use script::{Case, told};
-use std::io;
+use script::{gathered, told};
+use std::alloc::Global;
+use std::rt::Files;
+use std::sync::Wait;
+use std::thread::Threads;
 
 fn shown(told: &Option<String>) -> &str {
     match told {
@@ -56,18 +59,16 @@ fn shown(told: &Option<String>) -> &str {
     }
 }
 
-fn main(rt: HostRuntime) -> io::Result<()> {
-    let alloc = rt.alloc();
-    let mut case = Case::new(alloc);
-    for line in rt.lines(alloc) {
-        let line = line?;
-        if line.as_str().is_empty() {
-            let text = told(&rt, alloc, &case);
-            println!(rt; "{}\n{}", case.head.as_str(), shown(&text))?;
-            case = Case::new(alloc);
-        } else if !case.take(line) {
-            println!(rt; "no memory")?;
-        }
-    }
-    Ok(())
+/// What a script is told as: its first line, what stands behind it with its answers, and an empty line. There is none where memory is wanted.
+pub fn tell<R: Threads + Wait + Sync + Files>(
+    rt: &R,
+    alloc: Global,
+    script: &str,
+) -> Option<String> {
+    let Some(case) = gathered(alloc, script) else {
+        return None;
+    };
+    let text = told(rt, alloc, &case);
+    let (head, answers) = (case.head.as_str(), shown(&text));
+    format!(in alloc; "{head}\n{answers}\n").ok()
 }
