@@ -1,11 +1,10 @@
 //! Scripts between the lines of cases, which `test_calls` tells.
-use crate::case::Case;
-use crate::steps::take;
 use std::alloc::Global;
 use std::rt::Files;
 use std::sync::Wait;
 use std::thread::Threads;
 use std::time::Clock;
+use test_runs::{Case, take};
 
 /// The lines of a script, where lines are those of scripts.
 #[derive(Drop)]

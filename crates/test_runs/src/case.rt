@@ -60,7 +60,7 @@ pub(crate) struct Block {
 
 /// A case.
 #[derive(Drop)]
-pub(crate) struct Case {
+pub struct Case {
     pub(crate) documents: Documents,
     pub(crate) asked: Asked,
     pub(crate) outside: Outside,
@@ -164,7 +164,7 @@ impl Block {
 
 impl Case {
     /// Nothing said.
-    pub(crate) fn new(alloc: Global) -> Case {
+    pub fn new(alloc: Global) -> Case {
         Case {
             documents: no_documents(alloc),
             asked: nothing_asked(alloc),

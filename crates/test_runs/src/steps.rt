@@ -268,7 +268,7 @@ fn begin(block: &mut Block, numbers: &str) -> bool {
 }
 
 /// Takes a line, and answers what is to be printed; there is no answer where it is no line, or memory is wanted.
-pub(crate) fn take<R: Threads + Wait + Clock + Sync>(
+pub fn take<R: Threads + Wait + Clock + Sync>(
     rt: &R,
     alloc: Global,
     case: &mut Case,
