@@ -1,5 +1,4 @@
 pub mod Taking
-pub mod Alone
 pub mod Serving
 pub mod Outcomes
 pub mod TaskLemmas

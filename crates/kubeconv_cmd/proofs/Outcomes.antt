@@ -17,7 +17,8 @@ use Rattle.hook_versions.specs.Loads.{LoadsHook}
 use Rattle.http_address.specs.Address.{AddressView, IsAddress}
 use Rattle.kubeconv_cmd.specs.Tasks.{AnswersDocument, RefusesDocument, Wrote, Broke}
 use Rattle.http_front.specs.Link.{UnlessUnwritten}
-use Rattle.kubeconv_cmd.specs.Serving.{Blames, Conversed, Converses, DrillsTexts, IsPaced, MayRise, Paces, front_of, link_end}
+use Rattle.serve_input.specs.Conversed.{Blames, Conversed, IsPaced, MayRise, front_of, link_end}
+use Rattle.kubeconv_cmd.specs.Serving.{Converses, DrillsTexts, Paces}
 use Rattle.kubeconv_cmd.specs.Refusal.{IsText, RefusesNamed}
 use Rattle.place.specs.Place.{IsPlace, OnBadPlace, PlaceView}
 use Rattle.place.specs.declared.PlaceFault.{PlaceFault}
@@ -47,8 +48,8 @@ use Rattle.kubeconv_cmd.specs.Outcome.{World, OfTexts, OfInput, OfFile, HasLoade
 use Rattle.kubeconv_cmd.specs.inner.Ends.{OnBadAddress, OnRefused, OnStopped, OnUnread, stop_status, stop_line, talk_status, unconverted_line, unconverted_status, why_text}
 use Rattle.kubeconv_cmd.specs.inner.Halts.{OnHalt, Unwritten, task_status, task_line}
 use Rattle.kubeconv_cmd.specs.inner.Served.{OnUnheard, UnlessUnheard, OnUntold, Silent, served_status}
-use Rattle.kubeconv_cmd.specs.declared.pipe.PipeEnd.{PipeEnd}
-use Rattle.kubeconv_cmd.specs.declared.pipe.PipeEnd.TheVariants.{Closed, Torn, Refused, Spent, ReadFault, WriteFault}
+use Rattle.serve_input.specs.declared.conversing.PipeEnd.{PipeEnd}
+use Rattle.serve_input.specs.declared.conversing.PipeEnd.TheVariants.{Closed, Torn, Refused, Spent, ReadFault, WriteFault}
 use Rattle.kubeconv_cmd.specs.declared.stop.Stop.{Stop}
 use Rattle.kubeconv_cmd.specs.declared.stop.Stop.TheVariants as stops
 use Rattle.kubeconv_cmd.specs.declared.stop.Unconverted.{Unconverted}

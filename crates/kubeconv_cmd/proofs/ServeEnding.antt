@@ -17,12 +17,13 @@ use Rattle.crd_meaning.specs.Definition.{Definition}
 use Rattle.serve_spans.specs.Served.{ServedAll}
 use Rattle.serve_spans.specs.Spans.{AllServed}
 use Rattle.serve_many.specs.Answered.{IsAnswered, front_of}
-use Rattle.kubeconv_cmd.specs.Serving.{Start, meaning_of, no_faults}
+use Rattle.serve_input.specs.Conversed.{Start}
+use Rattle.kubeconv_cmd.specs.Serving.{meaning_of, no_faults}
 use Rattle.kubeconv_cmd.specs.Beside.{AnsweredAll, ServesAll}
 use Rattle.kubeconv_cmd.specs.inner.Served.{OnUnheard}
 use Rattle.kubeconv_cmd.specs.declared.serve_line.Unserved.{Unserved}
 use Rattle.kubeconv_cmd.specs.declared.serve_line.Unserved.TheVariants.{NotListening, WriteFailed, NoMemory}
-use Rattle.kubeconv_cmd.proofs.Serving.{first_alone}
+use Rattle.serve_input.proofs.Opened.{first_alone}
 
 -- ---- one list
 

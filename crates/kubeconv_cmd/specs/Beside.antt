@@ -11,7 +11,8 @@ use Rattle.serve_spans.specs.Owners.{At, Within, IsOfWorker}
 use Rattle.serve_spans.specs.Served.{Among, origins_of, HandsOutAll, AddsAll}
 use Rattle.serve_spans.specs.Spans.{Span, AllServed, AreApart}
 use Rattle.serve_many.specs.Answered.{IsAnswered}
-use Rattle.kubeconv_cmd.specs.Serving.{Start, front_of, no_faults, served_meaning}
+use Rattle.serve_input.specs.Conversed.{Start, front_of}
+use Rattle.kubeconv_cmd.specs.Serving.{no_faults, served_meaning}
 
 -- So many connections were handed out, and as many were given back, with so many workers asked for beside them. One list tells what they were
 -- answered: it is legal, begins with nothing entered, and has for each connection a span in which one pass served it. No two share an item, and

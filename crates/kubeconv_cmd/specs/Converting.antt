@@ -14,8 +14,8 @@ use Rattle.hook_versions.specs.Facts.{hooked}
 use Rattle.hook_versions.specs.Loads.{LoadsHook, HasNoHub}
 use Rattle.kubeconv_cmd.specs.Beside.{AnsweredAll}
 use Rattle.kubeconv_cmd.specs.Refusal.{IsText, IsUnfit, blame_text}
-use Rattle.kubeconv_cmd.specs.Serving.{Start, Conversed, IsPaced, MayRise, Streams, front_of}
-use Rattle.kubeconv_cmd.specs.declared.pipe.PipeEnd.{PipeEnd}
+use Rattle.serve_input.specs.Conversed.{Start, Conversed, IsPaced, MayRise, Streams, front_of}
+use Rattle.serve_input.specs.declared.conversing.PipeEnd.{PipeEnd}
 
 -- ---- what is refused
 

@@ -24,10 +24,11 @@ use Rattle.kubeconv_cmd.specs.Listening.{Told, ToldSome, Announced}
 use Rattle.kubeconv_cmd.specs.Beside.{ServesAll}
 use Rattle.kubeconv_cmd.specs.Converting.{ConversesBy, IsConvertible, PacesBy, RefusesConverted, ServesAllBy}
 use Rattle.kubeconv_cmd.specs.Tasks.{AnswersTexts, RefusesTexts, Wrote, Broke}
-use Rattle.kubeconv_cmd.specs.Serving.{Start, Converses, DrillsTexts, Paces, Streams, WasHeld}
+use Rattle.serve_input.specs.Conversed.{Start, Streams}
+use Rattle.kubeconv_cmd.specs.Serving.{Converses, DrillsTexts, Paces, WasHeld}
 use Rattle.kubeconv_cmd.specs.Refusal.{RefusesNamed, IsServed}
 use Rattle.kubeconv_cmd.specs.Status.{answer_line, dump_status, dump_error_line, line_saying, refusal_line, restore_status, restore_error_line}
-use Rattle.kubeconv_cmd.specs.declared.pipe.PipeEnd.{PipeEnd}
+use Rattle.serve_input.specs.declared.conversing.PipeEnd.{PipeEnd}
 use Rattle.kubeconv_cmd.specs.declared.status.TheConstants.{DONE, BAD_WORDS, REFUSED, BAD_INPUT, READ_FAILED, WRITE_FAILED, NO_MEMORY, LISTEN_FAILED, LINK_FAILED, BAD_ANSWER, UNSETTLED}
 
 -- ---- the outside

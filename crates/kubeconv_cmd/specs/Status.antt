@@ -5,8 +5,8 @@ use Rattle.record_dump.specs.declared.ends.DumpEnd.{DumpEnd}
 use Rattle.record_dump.specs.declared.ends.DumpEnd.TheVariants as dumps
 use Rattle.record_dump.specs.declared.ends.RestoreEnd.{RestoreEnd}
 use Rattle.record_dump.specs.declared.ends.RestoreEnd.TheVariants as restores
-use Rattle.kubeconv_cmd.specs.declared.pipe.PipeEnd.{PipeEnd}
-use Rattle.kubeconv_cmd.specs.declared.pipe.PipeEnd.TheVariants.{Closed, Torn, Refused, Spent, ReadFault, WriteFault}
+use Rattle.serve_input.specs.declared.conversing.PipeEnd.{PipeEnd}
+use Rattle.serve_input.specs.declared.conversing.PipeEnd.TheVariants.{Closed, Torn, Refused, Spent, ReadFault, WriteFault}
 use Rattle.kubeconv_cmd.specs.declared.status.TheConstants.{DONE, BAD_WORDS, BAD_INPUT, READ_FAILED, WRITE_FAILED, NO_MEMORY, LISTEN_FAILED, CUT, TOO_MANY, LINK_FAILED, BAD_ANSWER, UNSETTLED}
 
 -- the status of the end of an input

@@ -4,7 +4,7 @@ ghost use Rattle.edge_io.specs.Causes.{Rose};
 ghost use Rattle.http_address.specs.Address.{AddressView, IsAddress};
 ghost use Rattle.hook_versions.specs.Loads.{LoadsHook};
 ghost use Rattle.http_front.specs.Link.{UnlessUnwritten};
-ghost use Rattle.kubeconv_cmd.specs.Serving.{Blames, Conversed, IsPaced, MayRise, front_of, link_end};
+ghost use Rattle.serve_input.specs.Conversed.{Blames, Conversed, IsPaced, MayRise, front_of, link_end};
 ghost use Rattle.kubeconv_cmd.specs.Beside.{AnsweredAll};
 ghost use Rattle.kubeconv_cmd.specs.Converting.{DoesntLoad, RefusesConverted, converted_meaning, converter_faults};
 ghost use Rattle.kubeconv_cmd.specs.Listening.{Told, ToldSome, Announced, NamesPlace};
@@ -13,7 +13,6 @@ ghost use Rattle.kubeconv_cmd.specs.inner.Ends.{OnBadAddress, OnRefused, OnStopp
 ghost use Rattle.kubeconv_cmd.specs.inner.Served.{OnUnheard, UnlessUnheard, OnUntold, Silent};
 
 use crate::loading::read_text;
-use crate::pipe::{PipeEnd, serve};
 use crate::serve_line::{Unserved, serve_connections};
 use crate::stop::{Stop, Unconverted, Why};
 use api_calls::Tools;
@@ -25,6 +24,7 @@ use hook_versions::{HookSet, LoadFault, Which, load_hook};
 use http_address::{Address, AddressFault, read_address};
 use kj_value::NoMemory;
 use link_converter::LinkConverter;
+use serve_input::{PipeEnd, serve_input};
 use std::alloc::Global;
 use std::sync::Wait;
 use std::thread::Threads;
@@ -115,7 +115,7 @@ pub(crate) fn load_converted<'a, C: Converter, F: Files>(
     }
 }
 
-/// Answers the requests of the input by such a definition, as `serve` of `pipe` does.
+/// Answers the requests of the input by such a definition, as `serve_input` does.
 pub(crate) fn serve_converted<R: Wait, L: Links, S: Source, K: Sink, C: Clock>(
     rt: &R,
     alloc: Global,
@@ -138,7 +138,7 @@ pub(crate) fn serve_converted<R: Wait, L: Links, S: Source, K: Sink, C: Clock>(
     let Converted { versions, address } = found;
     let mut converters = ConverterLinks::new(links, address);
     let converter = converters.make(alloc)?;
-    serve(
+    serve_input(
         rt, alloc, versions, converter, input, output, clock, boot, turns,
     )
 }

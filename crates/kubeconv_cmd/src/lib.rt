@@ -13,9 +13,6 @@ pub mod laws;
 mod loading;
 mod stop;
 
-// The work of `pipe`.
-mod pipe;
-
 // The work of `convert` and `review`.
 mod halt;
 mod input;
@@ -36,7 +33,7 @@ mod top;
 
 pub use command_lines::Words;
 pub use input::MOST_INPUT_BYTES;
-pub use pipe::PipeEnd;
+pub use serve_input::PipeEnd;
 pub use status::{
     BAD_ANSWER, BAD_INPUT, BAD_WORDS, CUT, DONE, LINK_FAILED, LISTEN_FAILED, NO_MEMORY,
     READ_FAILED, REFUSED, TOO_MANY, UNSETTLED, WRITE_FAILED, ended,

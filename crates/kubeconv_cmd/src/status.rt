@@ -11,7 +11,6 @@ ghost use Rattle.kubeconv_cmd.specs.inner.Backups.{dumped_line, dumped_status, l
 ghost use Rattle.kubeconv_cmd.specs.inner.Migrations.{migrate_end_line, migrate_status};
 
 use crate::halt::Halt;
-use crate::pipe::PipeEnd;
 use crate::stop::{Stop, Unconverted, Why};
 use edge_io::{Failed, Sink, send};
 use far_lines::{LoadEnd, MigrateEnd};
@@ -19,6 +18,7 @@ use itoa::Buffer;
 use kj_value::NoMemory;
 use place::PlaceFault;
 use record_dump::{DumpEnd, RestoreEnd};
+use serve_input::PipeEnd;
 
 /// Done: of `pipe` the input was read to its end between two requests, or an answered request asked for closing.
 pub const DONE: u8 = 0;

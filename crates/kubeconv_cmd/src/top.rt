@@ -11,7 +11,6 @@ ghost use Rattle.command_lines.specs.Given.{line_of};
 use crate::converting::{connect_converted, load_converted, serve_converted};
 use crate::drill_line::do_drill;
 use crate::loading::load_named;
-use crate::pipe::serve;
 use crate::serve_line::{serve_set, tell_served};
 use crate::status::{
     BAD_ANSWER, BAD_INPUT, BAD_WORDS, NO_MEMORY, REFUSED, ended, tell_dumped, tell_loaded,
@@ -22,6 +21,7 @@ use api_calls::NoTool;
 use command_lines::{Command, Named, Words, read_command};
 use edge_io::{Clock, Ears, Files, Sink, Source};
 use far_lines::{dump_line, load_line, migrate_line};
+use serve_input::serve_input;
 use std::alloc::Global;
 use std::sync::Wait;
 use std::thread::Threads;
@@ -102,7 +102,7 @@ where
     match command {
         Command::Pipe { named, turns } => match load_named(alloc, files, named) {
             Ok(versions) => {
-                let came = serve(
+                let came = serve_input(
                     rt, alloc, versions, NoTool, input, output, clock, boot, turns,
                 );
                 tell_pipe(errors, came)

@@ -10,11 +10,12 @@ use Rattle.command_lines.specs.Lines.{Named}
 use Rattle.kubeconv_cmd.specs.Texts.{Texts}
 use Rattle.kubeconv_cmd.specs.Refusal.{RefusesNamed, IsServed}
 use Rattle.http_front.specs.Link.{UnlessUnwritten}
-use Rattle.kubeconv_cmd.specs.Serving.{Blames, Converses, Paces, WasHeld, link_end}
+use Rattle.serve_input.specs.Conversed.{Blames, link_end}
+use Rattle.kubeconv_cmd.specs.Serving.{Converses, Paces, WasHeld}
 use Rattle.kubeconv_cmd.specs.Status.{status_of, pipe_status}
 use Rattle.kubeconv_cmd.specs.Outcome.{World, OfInput, OfTexts, streams_of, BlamesFile, HasHandedOn, Stopped, unreadable, refused, wanting, PipeOutcome, talked, unserved, FilesFail, InputFails, OutputFails, InputStays, OutputStays}
-use Rattle.kubeconv_cmd.specs.declared.pipe.PipeEnd.{PipeEnd}
-use Rattle.kubeconv_cmd.specs.declared.pipe.PipeEnd.TheVariants.{Closed, Torn, Refused, Spent, ReadFault, WriteFault}
+use Rattle.serve_input.specs.declared.conversing.PipeEnd.{PipeEnd}
+use Rattle.serve_input.specs.declared.conversing.PipeEnd.TheVariants.{Closed, Torn, Refused, Spent, ReadFault, WriteFault}
 use Rattle.kubeconv_cmd.specs.declared.status.TheConstants.{DONE, REFUSED, READ_FAILED, WRITE_FAILED, NO_MEMORY, CUT, TOO_MANY}
 use Rattle.run_laws.specs.Ran.{RefusesSome, ServesTexts, IsUnheld}
 use Rattle.run_laws.proofs.Refusing.{not_both}

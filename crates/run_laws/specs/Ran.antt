@@ -10,7 +10,8 @@ use Rattle.crd_loading.specs.View.{LoadedView}
 use Rattle.command_lines.specs.Lines.{Named, Task, Line, pipe, task, drill, serve, migrate, dump, load, remote, pipe_by, serve_by}
 use Rattle.kubeconv_cmd.specs.Listening.{Told, ToldSome}
 use Rattle.kubeconv_cmd.specs.Refusal.{RefusesNamed}
-use Rattle.kubeconv_cmd.specs.Serving.{At, AnswersAndWorks, DrillsTexts, MayRise, Start, front_of, no_faults, opening, served_meaning}
+use Rattle.serve_input.specs.Conversed.{At, AnswersAndWorks, MayRise, Start, front_of, opening}
+use Rattle.kubeconv_cmd.specs.Serving.{DrillsTexts, no_faults, served_meaning}
 use Rattle.kubeconv_cmd.specs.Status.{status_of}
 use Rattle.kubeconv_cmd.specs.Tasks.{AnswersTexts, RefusesTexts, Wrote}
 use Rattle.kubeconv_cmd.specs.declared.status.TheConstants.{DONE, REFUSED, BAD_INPUT, READ_FAILED, WRITE_FAILED, NO_MEMORY, LISTEN_FAILED, CUT, TOO_MANY}

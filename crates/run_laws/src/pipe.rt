@@ -9,8 +9,8 @@ ghost use Rattle.kubeconv_cmd.specs.Outcome.{HasHandedOn, OfInput, OfTexts, Outc
 ghost use Rattle.kubeconv_cmd.specs.Refusal.{IsServed};
 ghost use Rattle.kubeconv_cmd.specs.Serving.{Converses, Paces, WasHeld};
 ghost use Rattle.kubeconv_cmd.specs.Status.{pipe_status, status_of};
-ghost use Rattle.kubeconv_cmd.specs.declared.pipe.PipeEnd.{PipeEnd};
-ghost use Rattle.kubeconv_cmd.specs.declared.pipe.PipeEnd.TheVariants.{ReadFault as ReadFaulted, WriteFault as WriteFaulted};
+ghost use Rattle.serve_input.specs.declared.conversing.PipeEnd.{PipeEnd};
+ghost use Rattle.serve_input.specs.declared.conversing.PipeEnd.TheVariants.{ReadFault as ReadFaulted, WriteFault as WriteFaulted};
 ghost use Rattle.kubeconv_cmd.specs.declared.status.TheConstants.{BAD_INPUT, NO_MEMORY, READ_FAILED, WRITE_FAILED};
 ghost use Rattle.run_laws.specs.Ran.{IsUnheld};
 

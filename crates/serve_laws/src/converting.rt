@@ -9,8 +9,8 @@ ghost use Rattle.crd_meaning.specs.Definition.{Definition};
 ghost use Rattle.edge_io.specs.Connections.{Ending, Origin};
 ghost use Rattle.serve_spans.specs.Owners.{At as StandsAt, Within};
 ghost use Rattle.kubeconv_cmd.specs.Converting.{ConversesBy, ServesAllBy, converted_meaning};
-ghost use Rattle.kubeconv_cmd.specs.Serving.{At, Start, TakesTurn, front_of};
-ghost use Rattle.kubeconv_cmd.specs.declared.pipe.PipeEnd.{PipeEnd};
+ghost use Rattle.serve_input.specs.Conversed.{At, Start, TakesTurn, front_of};
+ghost use Rattle.serve_input.specs.declared.conversing.PipeEnd.{PipeEnd};
 ghost use Rattle.serve_laws.specs.Moves.{MovesNumbers};
 
 /// What is entered beside the connections of a line of `serve` moves the resource version of one object at most, with the version at which

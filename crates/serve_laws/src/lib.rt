@@ -15,8 +15,9 @@ ghost use Rattle.edge_io.specs.Connections.{Ending, Origin};
 ghost use Rattle.serve_spans.specs.Owners.{At as StandsAt, Within};
 ghost use Rattle.crd_loading.specs.View.{LoadedView};
 ghost use Rattle.kubeconv_cmd.specs.Beside.{ServesAll};
-ghost use Rattle.kubeconv_cmd.specs.Serving.{At, Converses, Start, TakesTurn, front_of, served_meaning};
-ghost use Rattle.kubeconv_cmd.specs.declared.pipe.PipeEnd.{PipeEnd};
+ghost use Rattle.serve_input.specs.Conversed.{At, Start, TakesTurn, front_of};
+ghost use Rattle.kubeconv_cmd.specs.Serving.{Converses, served_meaning};
+ghost use Rattle.serve_input.specs.declared.conversing.PipeEnd.{PipeEnd};
 ghost use Rattle.serve_laws.specs.Moves.{MovesNumbers};
 
 pub mod converting;

@@ -1,7 +1,7 @@
 -- For private clauses: what the code's own types stand for.
 use Rattle.std.specs.Prelude.{ℕ, List, codes, Result, Ok, Err}
 use Rattle.kj_value.specs.declared.error.NoMemory.{NoMemory}
-use Rattle.kubeconv_cmd.specs.declared.pipe.PipeEnd.{PipeEnd}
+use Rattle.serve_input.specs.declared.conversing.PipeEnd.{PipeEnd}
 use Rattle.kubeconv_cmd.specs.declared.stop.Why.{Why}
 use Rattle.kubeconv_cmd.specs.declared.stop.Why.TheVariants as whys
 use Rattle.kubeconv_cmd.specs.declared.stop.Stop.{Stop}

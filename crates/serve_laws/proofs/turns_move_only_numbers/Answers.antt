@@ -1,4 +1,5 @@
-use Rattle.kubeconv_cmd.specs.Serving.{front_of, served_meaning}
+use Rattle.serve_input.specs.Conversed.{front_of}
+use Rattle.kubeconv_cmd.specs.Serving.{served_meaning}
 use Rattle.serve_laws.proofs.Moving.{turn-moves}
 use Rattle.serve_laws.proofs.turns_move_only_numbers.Goals as goal
 

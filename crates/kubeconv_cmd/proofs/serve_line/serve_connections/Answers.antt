@@ -1,5 +1,5 @@
 use Rattle.std.proofs.Common.{inr}
-use Rattle.kubeconv_cmd.proofs.Serving.{first_number}
+use Rattle.serve_input.proofs.Opened.{first_number}
 use Rattle.kubeconv_cmd.proofs.ServeEnding.{answered_all, rose_since}
 use Rattle.kubeconv_cmd.proofs.serve_line.serve_connections.Goals as goal
 

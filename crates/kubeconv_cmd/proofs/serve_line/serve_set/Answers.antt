@@ -7,7 +7,8 @@ use Rattle.crd_loading.specs.View.{LoadedView}
 use Rattle.crd_versions.specs.Set.{definition_of}
 use Rattle.crd_crossing.proofs.Crossing.{set_send, set_sync}
 use Rattle.kubeconv_cmd.specs.Listening.{Announced}
-use Rattle.kubeconv_cmd.specs.Serving.{Start, meaning_of, no_faults}
+use Rattle.serve_input.specs.Conversed.{Start}
+use Rattle.kubeconv_cmd.specs.Serving.{meaning_of, no_faults}
 use Rattle.kubeconv_cmd.specs.Beside.{AnsweredAll, ServesAll}
 use Rattle.kubeconv_cmd.proofs.ServeEnding.{serves_all, done_as, fewer_as}
 use Rattle.kubeconv_cmd.proofs.serve_line.serve_set.Goals as goal

@@ -11,16 +11,16 @@ use Rattle.kubeconv_cmd.proofs.top.run_command.Goals as goal
 pub returns-in-Ok-clause-outcome : goal.returns-in-Ok-clause-outcome
 returns-in-Ok-clause-outcome g c =
     rw c.in-Pipe.is (
-      pipe_outcome _ (named_of c.in-Pipe.named) c.in-Pipe.turns c.serve-came.result c.tell_pipe.result
+      pipe_outcome _ (named_of c.in-Pipe.named) c.in-Pipe.turns c.serve_input-came.result c.tell_pipe.result
           c.in-Ok.ensures.served
           (λ crd rules b texts known.
           let found = c.in-Ok.ensures.loaded crd rules texts in
-          converses_at c.serve-came.result crd rules c.in-Pipe.turns (record { boot = c.args.boot; told = g.C.Clock.told c.args.clock.now }) b
-          (g.K.Sink.written c.args.output.now) (g.K.Sink.written c.serve-came.new.output) (definition_of c.in-Ok.versions) found.0 found.1 found.2 (c.serve-came.ensures.talk b known))
+          converses_at c.serve_input-came.result crd rules c.in-Pipe.turns (record { boot = c.args.boot; told = g.C.Clock.told c.args.clock.now }) b
+          (g.K.Sink.written c.args.output.now) (g.K.Sink.written c.serve_input-came.new.output) (definition_of c.in-Ok.versions) found.0 found.1 found.2 (c.serve_input-came.ensures.talk b known))
           (λ crd rules texts.
           let found = c.in-Ok.ensures.loaded crd rules texts in
-          paces_at c.serve-came.result crd rules c.in-Pipe.turns (record { boot = c.args.boot; told = g.C.Clock.told c.args.clock.now }) _ (definition_of c.in-Ok.versions) found.0 found.1 found.2 c.serve-came.ensures.paced)
-          c.serve-came.ensures.blames c.serve-came.ensures.flushed c.serve-came.ensures.untouched
+          paces_at c.serve_input-came.result crd rules c.in-Pipe.turns (record { boot = c.args.boot; told = g.C.Clock.told c.args.clock.now }) _ (definition_of c.in-Ok.versions) found.0 found.1 found.2 c.serve_input-came.ensures.paced)
+          c.serve_input-came.ensures.blames c.serve_input-came.ensures.flushed c.serve_input-came.ensures.untouched
           (λ e. (ap g.K.Sink.written e, ap g.K.Sink.flushed e)) c.tell_pipe.ensures.status,
       refl,
     )

@@ -1,5 +1,5 @@
 use Rattle.kubeconv_cmd.specs.Converting.{converted_meaning}
-use Rattle.kubeconv_cmd.specs.Serving.{front_of}
+use Rattle.serve_input.specs.Conversed.{front_of}
 use Rattle.serve_laws.proofs.Moving.{turn-moves}
 use Rattle.serve_laws.proofs.converting.turns_move_only_numbers.Goals as goal
 

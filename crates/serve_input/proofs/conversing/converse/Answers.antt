@@ -9,9 +9,9 @@ use Rattle.http_front.specs.Paced.{none_yet, one_more}
 use Rattle.http_front.proofs.Calling.{same_number, same_on}
 use Rattle.http_front.proofs.Pacing.{took, finished}
 use Rattle.http_front.proofs.Talking.{so_far_from, so_far_more, ended_so, ended_last, ended_spent, broke_reading, broke}
-use Rattle.kubeconv_cmd.specs.Serving.{At, AnswersAndWorks, MayRise}
-use Rattle.kubeconv_cmd.proofs.Alone.{alone_on, answered_and_worked, broke_at, ended_at, unread_at}
-use Rattle.kubeconv_cmd.proofs.pipe.converse.Goals as goal
+use Rattle.serve_input.specs.Conversed.{At, AnswersAndWorks, MayRise}
+use Rattle.serve_input.proofs.Alone.{alone_on, answered_and_worked, broke_at, ended_at, unread_at}
+use Rattle.serve_input.proofs.conversing.converse.Goals as goal
 
 pub loop-count-init : goal.loop-count-init
 loop-count-init g c = record {

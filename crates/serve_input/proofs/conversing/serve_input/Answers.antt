@@ -1,7 +1,7 @@
 use Rattle.std.proofs.Common.{ap}
-use Rattle.kubeconv_cmd.specs.Serving.{MayRise}
-use Rattle.kubeconv_cmd.proofs.Serving.{first_alone, first_number, opened, opened_paced}
-use Rattle.kubeconv_cmd.proofs.pipe.serve.Goals as goal
+use Rattle.serve_input.specs.Conversed.{MayRise}
+use Rattle.serve_input.proofs.Opened.{first_alone, first_number, opened, opened_paced}
+use Rattle.serve_input.proofs.conversing.serve_input.Goals as goal
 
 pub converse-end-requires-clause-number : goal.converse-end-requires-clause-number
 converse-end-requires-clause-number g c = first_number _ _ c.in_ok-api.ensures.new

@@ -1,4 +1,4 @@
-//! The work of `pipe`, over any definition.
+//! A conversation over one input, by any definition.
 ghost use Rattle.std.specs.Prelude.{◌≡◌, ℕ, [], List, Some, IfOk, OnErr};
 ghost use Rattle.api_calls.specs.Item.{items};
 ghost use Rattle.api_calls.specs.Legal.{legal};
@@ -10,7 +10,7 @@ ghost use Rattle.shared_api.specs.Passes.{IsOf};
 ghost use Rattle.http_front.specs.Link.{Links, UnlessUnwritten};
 ghost use Rattle.http_front.specs.Paced.{Paced};
 ghost use Rattle.http_front.specs.Steps.{IsSameBut};
-ghost use Rattle.kubeconv_cmd.specs.Serving.{At, AnswersAndWorks, Blames, Conversed, IsPaced, MayRise, TakesTurns, front_of, link_end};
+ghost use Rattle.serve_input.specs.Conversed.{At, AnswersAndWorks, Blames, Conversed, IsPaced, MayRise, TakesTurns, front_of, link_end};
 
 use api_calls::Versions;
 use edge_io::{Clock, Sink, Source};
@@ -105,7 +105,7 @@ fn converse<V: Versions + Drop, R: Wait, S: Source, K: Sink, C: Clock>(
 /// Answers the requests of the input by a definition and its tool, from a server that begins with nothing entered, and which no other
 /// calls. After each answer its one worker takes so many turns. Where memory is wanted for the server, nothing is read and
 /// nothing is written.
-pub(crate) fn serve<V: Versions + Drop, R: Wait, S: Source, K: Sink, C: Clock>(
+pub fn serve_input<V: Versions + Drop, R: Wait, S: Source, K: Sink, C: Clock>(
     rt: &R,
     alloc: Global,
     versions: V,

@@ -2,9 +2,9 @@ use Rattle.std.proofs.Common.{refl}
 use Rattle.api_calls.specs.Item.{items}
 use Rattle.shared_api.specs.Base.{server_of}
 use Rattle.http_front.proofs.Calling.{same_but, same_on}
-use Rattle.kubeconv_cmd.specs.Serving.{At, no_turn, one_more}
-use Rattle.kubeconv_cmd.proofs.Alone.{alone_on, turn_alone}
-use Rattle.kubeconv_cmd.proofs.pipe.take_turns.Goals as goal
+use Rattle.serve_input.specs.Conversed.{At, no_turn, one_more}
+use Rattle.serve_input.proofs.Alone.{alone_on, turn_alone}
+use Rattle.serve_input.proofs.conversing.take_turns.Goals as goal
 
 pub loop-turn-init : goal.loop-turn-init
 loop-turn-init g c = record { of = c.requires.of; took = no_turn; same = refl }

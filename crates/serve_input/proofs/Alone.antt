@@ -33,7 +33,7 @@ use Rattle.http_front.specs.One.{AnswersOne, EndsInput, Did}
 use Rattle.request_replies.specs.Replies.{Front, Replies, RoutedReply}
 use Rattle.http_front.specs.Steps.{Point, StepAnswers, IsSameBut, added}
 use Rattle.http_front.specs.declared.one.OneEnd.TheVariants as steps
-use Rattle.kubeconv_cmd.specs.Serving.{At, AnswersAlone, AnswersAndWorks, TakesTurn, TakesTurns, no_turn, one_more, turn_at, turned}
+use Rattle.serve_input.specs.Conversed.{At, AnswersAlone, AnswersAndWorks, TakesTurn, TakesTurns, no_turn, one_more, turn_at, turned}
 
 -- ---- lists of one pass
 

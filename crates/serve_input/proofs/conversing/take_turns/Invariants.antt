@@ -2,8 +2,8 @@ use Rattle.api_calls.specs.Item.{items}
 use Rattle.shared_api.specs.Base.{server_of}
 use Rattle.shared_api.specs.Passes.{IsOf}
 use Rattle.http_front.specs.Steps.{IsSameBut}
-use Rattle.kubeconv_cmd.specs.Serving.{TakesTurns}
-use Rattle.kubeconv_cmd.proofs.pipe.take_turns.Given as goal
+use Rattle.serve_input.specs.Conversed.{TakesTurns}
+use Rattle.serve_input.proofs.conversing.take_turns.Given as goal
 
 abbrev pub invariant-loop-turn : goal.invariant-loop-turn
 invariant-loop-turn g l = record {

@@ -7,8 +7,8 @@ use Rattle.shared_api.specs.Passes.{IsOf}
 use Rattle.http_front.specs.Steps.{IsSameBut}
 use Rattle.http_front.specs.Paced.{InTurn}
 use Rattle.http_front.proofs.Talking.{SoFar}
-use Rattle.kubeconv_cmd.specs.Serving.{AnswersAndWorks, MayRise}
-use Rattle.kubeconv_cmd.proofs.pipe.converse.Given as goal
+use Rattle.serve_input.specs.Conversed.{AnswersAndWorks, MayRise}
+use Rattle.serve_input.proofs.conversing.converse.Given as goal
 
 abbrev pub invariant-loop-count : goal.invariant-loop-count
 invariant-loop-count g l = record {
