@@ -1,5 +1,5 @@
 -- Connections that are answered beside each other.
-use Rattle.std.specs.Prelude.{◌≡◌, ◌≤◌, ◌⊎◌, ℕ, List, length, Option, Some}
+use Rattle.std.specs.Prelude.{◌≡◌, ◌≤◌, ◌⊎◌, ◌+◌, ℕ, List, [], ◌∷◌, length, Option, Some}
 use Rattle.kube_meta.specs.declared.limits.TheConstants.Limits.{STANDING}
 use Rattle.api_calls.specs.Item.{Logged}
 use Rattle.api_calls.specs.Legal.{IsLegal}
@@ -8,7 +8,7 @@ use Rattle.edge_io.specs.Connections.{Origin, Ending}
 use Rattle.crd_loading.specs.Load.{Loads}
 use Rattle.crd_loading.specs.View.{LoadedView}
 use Rattle.serve_spans.specs.Owners.{At, Within, IsOfWorker}
-use Rattle.serve_spans.specs.Served.{Among, origins_of, HandsOutAll, AddsAll}
+use Rattle.serve_spans.specs.Served.{Among, origins_of, HandsOutAll, AddsAll, AreWorkers}
 use Rattle.serve_spans.specs.Spans.{Span, AllServed, AreApart}
 use Rattle.serve_many.specs.Answered.{IsAnswered}
 use Rattle.serve_input.specs.Conversed.{Start, front_of}
@@ -29,11 +29,17 @@ pub record AnsweredAll {A : Type 0} (faults : A → ℕ) (m : Meaning) (start : 
   pub each : (o : Option Origin) → Among o origins → Among o (origins_of endings)
   pub served : AllServed (IsAnswered faults (front_of m start)) log endings spans
   pub apart : AreApart spans
-  -- the numbers of the workers' passes, which are no more than were asked for
+  -- The pass of the number 0 accepts, and these are all that there were. So many workers have no thread, and each of the others has a pass of its own.
+  pub passes : List ℕ
+  pub idle : ℕ
   pub workers : List ℕ
-  pub few : length workers ≤ asked
-  -- the pass of the number 0 accepts, and takes the turns of workers without a thread
-  pub owned : (i : ℕ) (x : Logged) → At log i x → Within spans i x ⊎ IsOfWorker (Some 0) asked workers x
+  pub are_workers : AreWorkers (0 ∷ []) passes spans workers
+  pub hired : length workers + idle ≡ asked
+  -- the passes that were made for workers whose thread wasn't started
+  pub spared : List ℕ
+  pub few : length spared ≤ idle
+  -- the first pass takes the turns of workers without a thread
+  pub owned : (i : ℕ) (x : Logged) → At log i x → Within spans i x ⊎ IsOfWorker (Some 0) idle workers spared x
 
 -- the same by the definition and the rules that two texts are, without a tool
 pub record ServesAll (crd rules : List ℕ) (start : Start) (asked count : ℕ) (h0 handed : Option (List Origin)) (g0 given : Option (List Ending)) : Type 0 where

@@ -123,7 +123,7 @@ where
         Ok(()) => {}
         Err(why) => return Err(why),
     }
-    match serve_all(
+    let served = serve_all(
         rt,
         alloc,
         &api,
@@ -133,7 +133,8 @@ where
         clock,
         workers,
         connections,
-    ) {
+    );
+    match served.end {
         ServeEnd::Done => Ok(()),
         ServeEnd::EarsFault => Err(Unserved::NotListening),
         ServeEnd::NoMemory => Err(Unserved::NoMemory),

@@ -56,25 +56,28 @@ worked n (entry (StartMigration name)) s w = absurd w
 
 -- an item that is of none of the spans is a worker's
 pub moves-in : (m : Meaning) (log before after : List Logged) (spans : List Span) (x : Logged) → log ≡ before ++ x ∷ after → (Within spans (length before) x → ⊥)
-    → (number : Option ℕ) (asked : ℕ) (workers : List ℕ) → ((i : ℕ) (y : Logged) → At log i y → Within spans i y ⊎ IsOfWorker number asked workers y)
+    → (number : Option ℕ) (lacking : ℕ) (workers spared : List ℕ) → ((i : ℕ) (y : Logged) → At log i y → Within spans i y ⊎ IsOfWorker number lacking workers spared y)
     → MovesNumbers (state m (items before)) (state m (items before ++ x.item ∷ []))
-moves-in m log before after spans x is outside number asked workers owned =
+moves-in m log before after spans x is outside number lacking workers spared owned =
     subst (λ (s : State). MovesNumbers (state m (items before)) s) (sym (state-more m (items before) x.item))
     (worked (next_number (items before)) x.item (state m (items before)) (by (owned (length before) x (before, after, is, refl))))
   where
-    by : Within spans (length before) x ⊎ IsOfWorker number asked workers x → IsWork x.item
+    by : Within spans (length before) x ⊎ IsOfWorker number lacking workers spared x → IsWork x.item
     by (inl w) = absurd (outside w)
     by (inr w) = w.0
 
 -- where no workers were asked for there is none
-pub none-works : (spans : List Span) (number : Option ℕ) (workers : List ℕ) (i : ℕ) (x : Logged) → length workers ≤ 0 → Within spans i x ⊎ IsOfWorker number 0 workers x → Within spans i x
-none-works spans number workers i x few (inl w) = w
-none-works spans number [] i x few (inr w) = absurd (nobody w.1)
+pub none-works : (spans : List Span) (number : Option ℕ) (lacking : ℕ) (workers spared : List ℕ) (i : ℕ) (x : Logged) → length workers + lacking ≡ 0 → length spared ≤ lacking
+    → Within spans i x ⊎ IsOfWorker number lacking workers spared x → Within spans i x
+none-works spans number lacking workers spared i x hired few (inl w) = w
+none-works spans number lacking [] [] i x hired few (inr w) = absurd (nobody w.1)
   where
-    nobody : ⊥ ⊎ ((number ≡ Some x.by) × (0 < 0)) → ⊥
+    nobody : ⊥ ⊎ (⊥ ⊎ ((number ≡ Some x.by) × (0 < lacking))) → ⊥
     nobody (inl none) = none
-    nobody (inr none) = let lt = none.1 in omega arith
-none-works spans number (m ∷ ms) i x few (inr w) = absurd (omega (arith, few))
+    nobody (inr (inl none)) = none
+    nobody (inr (inr none)) = let lt = none.1 in omega (arith, hired)
+none-works spans number lacking [] (m ∷ ms) i x hired few (inr w) = absurd (omega (arith, hired, few))
+none-works spans number lacking (m ∷ ms) spared i x hired few (inr w) = absurd (omega (arith, hired))
 
 -- the guard of the mark names the migration, and the law of a success holds of the part of the list up to there
 pub stands-in : (m : Meaning) (limits : Limits) (log before after later : List Item) → legal m limits log → log ≡ before ++ entry MarkSucceeded ∷ (after ++ later)

@@ -85,10 +85,10 @@ where
     ensures room { (vec_len running.new ≤ most_running) × (vec_capacity running.new ≡ vec_capacity running.old) }
     ensures faults { A.faults ears.new ≡ A.faults ears.old }
     ensures origins { A.origins ears.new ≡ A.origins ears.old }
-    ensures going { (n asked : ℕ) (v0 : View (CoreBase V)) (h0 : Option (List Origin)) (g0 : Option (List Ending)) (crew : List (View (CoreBase V))) (count : ℕ) (handed : Option (List Origin)) (later : Option (List Origin))
+    ensures going { (n asked idle : ℕ) (v0 : View (CoreBase V)) (h0 : Option (List Origin)) (g0 : Option (List Ending)) (crew : List (View (CoreBase V))) (count : ℕ) (handed : Option (List Origin)) (later : Option (List Origin))
         → HandsOut handed later (A.In.origin input)
-        → Going (IsAnswered V.Tool.faults (front_of V.meaning api.now.base (C.told clock.now))) n asked v0 h0 g0 crew (map (λ h. (h.handle.promise.job.value.pass.view, A.In.origin h.handle.promise.job.value.input)) running.old.items) pass.old.view count handed (A.returned ears.old)
-        → Going (IsAnswered V.Tool.faults (front_of V.meaning api.now.base (C.told clock.now))) n asked v0 h0 g0 crew (map (λ h. (h.handle.promise.job.value.pass.view, A.In.origin h.handle.promise.job.value.input)) running.new.items) pass.new.view (count + 1) later (A.returned ears.new) }
+        → Going (IsAnswered V.Tool.faults (front_of V.meaning api.now.base (C.told clock.now))) n asked idle v0 h0 g0 crew (map (λ h. (h.handle.promise.job.value.pass.view, A.In.origin h.handle.promise.job.value.input)) running.old.items) pass.old.view count handed (A.returned ears.old)
+        → Going (IsAnswered V.Tool.faults (front_of V.meaning api.now.base (C.told clock.now))) n asked idle v0 h0 g0 crew (map (λ h. (h.handle.promise.job.value.pass.view, A.In.origin h.handle.promise.job.value.input)) running.new.items) pass.new.view (count + 1) later (A.returned ears.new) }
 {
     if running.len() >= MOST_RUNNING {
         serve_here(rt, alloc, api, pass, ears, clock, input, output);
@@ -128,8 +128,8 @@ fn help_out<V: Versions + Drop, R: Wait>(
     requires of { IsOf V.meaning api.now pass.old }
     ensures of { IsOf V.meaning api.now pass.new }
     ensures going { (told : Option (List ℕ)) (n asked : ℕ) (v0 : View (CoreBase V)) (h0 : Option (List Origin)) (g0 : Option (List Ending)) (crew : List (View (CoreBase V))) (jobs : List (GoingJob (CoreBase V))) (count : ℕ) (handed : Option (List Origin)) (given : Option (List Ending))
-        → idle ≤ asked → Going (IsAnswered V.Tool.faults (front_of V.meaning api.now.base told)) n asked v0 h0 g0 crew jobs pass.old.view count handed given
-        → Going (IsAnswered V.Tool.faults (front_of V.meaning api.now.base told)) n asked v0 h0 g0 crew jobs pass.new.view count handed given }
+        → Going (IsAnswered V.Tool.faults (front_of V.meaning api.now.base told)) n asked idle v0 h0 g0 crew jobs pass.old.view count handed given
+        → Going (IsAnswered V.Tool.faults (front_of V.meaning api.now.base told)) n asked idle v0 h0 g0 crew jobs pass.new.view count handed given }
 {
     for _i in 0..idle {
         work_between(rt, api, pass);
@@ -169,11 +169,11 @@ where
     ensures room { (vec_len running.new ≤ most_running) × (vec_capacity running.new ≡ vec_capacity running.old) }
     ensures later { A.faults ears.old ≤ A.faults ears.new }
     ensures fault { IfErr result (λ _. Rose (A.faults ears.old) (A.faults ears.new)) }
-    ensures going { (n asked : ℕ) (v0 : View (CoreBase V)) (h0 : Option (List Origin)) (g0 : Option (List Ending)) (crew : List (View (CoreBase V))) (count : ℕ)
-        → Going (IsAnswered V.Tool.faults (front_of V.meaning api.now.base (C.told clock.now))) n asked v0 h0 g0 crew (map (λ h. (h.handle.promise.job.value.pass.view, A.In.origin h.handle.promise.job.value.input)) running.old.items) pass.old.view count (A.origins ears.old) (A.returned ears.old)
+    ensures going { (n asked idle : ℕ) (v0 : View (CoreBase V)) (h0 : Option (List Origin)) (g0 : Option (List Ending)) (crew : List (View (CoreBase V))) (count : ℕ)
+        → Going (IsAnswered V.Tool.faults (front_of V.meaning api.now.base (C.told clock.now))) n asked idle v0 h0 g0 crew (map (λ h. (h.handle.promise.job.value.pass.view, A.In.origin h.handle.promise.job.value.input)) running.old.items) pass.old.view count (A.origins ears.old) (A.returned ears.old)
         → MatchResult result
-        (λ _. Going (IsAnswered V.Tool.faults (front_of V.meaning api.now.base (C.told clock.now))) n asked v0 h0 g0 crew (map (λ h. (h.handle.promise.job.value.pass.view, A.In.origin h.handle.promise.job.value.input)) running.new.items) pass.new.view (count + 1) (A.origins ears.new) (A.returned ears.new))
-        (λ _. Going (IsAnswered V.Tool.faults (front_of V.meaning api.now.base (C.told clock.now))) n asked v0 h0 g0 crew (map (λ h. (h.handle.promise.job.value.pass.view, A.In.origin h.handle.promise.job.value.input)) running.new.items) pass.new.view count (A.origins ears.new) (A.returned ears.new)) }
+        (λ _. Going (IsAnswered V.Tool.faults (front_of V.meaning api.now.base (C.told clock.now))) n asked idle v0 h0 g0 crew (map (λ h. (h.handle.promise.job.value.pass.view, A.In.origin h.handle.promise.job.value.input)) running.new.items) pass.new.view (count + 1) (A.origins ears.new) (A.returned ears.new))
+        (λ _. Going (IsAnswered V.Tool.faults (front_of V.meaning api.now.base (C.told clock.now))) n asked idle v0 h0 g0 crew (map (λ h. (h.handle.promise.job.value.pass.view, A.In.origin h.handle.promise.job.value.input)) running.new.items) pass.new.view count (A.origins ears.new) (A.returned ears.new)) }
 {
     let (input, output) = ears.next()?;
     reap(rt, api, pass, ears, clock, running);
@@ -239,9 +239,9 @@ where
     ensures links { All (λ h. IsOf V.meaning api.now h.handle.promise.job.value.pass × (C.told h.handle.promise.job.value.clock.now ≡ C.told clock.now)) running.new.items }
     ensures fault { result ≡ false → Rose (A.faults ears.old) (A.faults ears.new) }
     ensures going { (n asked : ℕ) (v0 : View (CoreBase V)) (h0 : Option (List Origin)) (g0 : Option (List Ending)) (crew : List (View (CoreBase V)))
-        → idle ≤ asked → Going (IsAnswered V.Tool.faults (front_of V.meaning api.now.base (C.told clock.now))) n asked v0 h0 g0 crew (map (λ h. (h.handle.promise.job.value.pass.view, A.In.origin h.handle.promise.job.value.input)) running.old.items) pass.old.view 0 (A.origins ears.old) (A.returned ears.old)
+        → Going (IsAnswered V.Tool.faults (front_of V.meaning api.now.base (C.told clock.now))) n asked idle v0 h0 g0 crew (map (λ h. (h.handle.promise.job.value.pass.view, A.In.origin h.handle.promise.job.value.input)) running.old.items) pass.old.view 0 (A.origins ears.old) (A.returned ears.old)
         → (count : ℕ) × MatchBool result (connections ≡ Some count) (IfSome connections (λ k. count < k))
-        × Going (IsAnswered V.Tool.faults (front_of V.meaning api.now.base (C.told clock.now))) n asked v0 h0 g0 crew (map (λ h. (h.handle.promise.job.value.pass.view, A.In.origin h.handle.promise.job.value.input)) running.new.items) pass.new.view count (A.origins ears.new) (A.returned ears.new) }
+        × Going (IsAnswered V.Tool.faults (front_of V.meaning api.now.base (C.told clock.now))) n asked idle v0 h0 g0 crew (map (λ h. (h.handle.promise.job.value.pass.view, A.In.origin h.handle.promise.job.value.input)) running.new.items) pass.new.view count (A.origins ears.new) (A.returned ears.new) }
 {
     let mut left = connections;
     for _ in rt.forever() {

@@ -9,7 +9,6 @@ ghost use Rattle.serve_spans.specs.inner.Keeping.{Going, Job};
 ghost use Rattle.serve_many.specs.Answered.{IsAnswered, front_of};
 ghost use Rattle.serve_many.specs.Jobs.{Retires, Worked};
 
-use crate::bell::Bell;
 use crate::gates::{OpenGate, PatientGate, RestingGate, resting_gate};
 use crate::passes::make_pass;
 use api_calls::{Tools, Versions};
@@ -128,7 +127,7 @@ where
     }
 }
 
-// Makes a pass and begins a worker with it, if both can be. The first one watches. Answers whether a thread works.
+// Makes a pass and begins a worker with it, if both can be. The first one watches. Answers how many have no thread: one or none.
 fn hire_one<
     's,
     E,
@@ -142,36 +141,36 @@ fn hire_one<
     api: &'s SharedApi<V>,
     pass: &mut Pass<V>,
     tools: &mut M,
-    bell: &Bell,
     crew: &mut Vec<HiredHere<'s, V, R>>,
-) -> bool
+) -> usize
 where
     V::Tool: Send + 's,
     requires of { IsOf V.meaning api.now pass.old }
     requires crew { All (λ h. IsOf V.meaning api.now h.running.handle.promise.job.value.pass) crew.old.items }
     requires room { vec_len crew.old < vec_capacity crew.old }
     ensures of { IsOf V.meaning api.now pass.new }
+    ensures one { result ≤ 1 }
     ensures crew { All (λ h. IsOf V.meaning api.now h.running.handle.promise.job.value.pass) crew.new.items }
     ensures room { (vec_len crew.new ≤ vec_len crew.old + 1) × (vec_capacity crew.new ≡ vec_capacity crew.old) }
-    ensures going { (told : Option (List ℕ)) (n asked : ℕ) (v0 : View (CoreBase V)) (h0 : Option (List Origin)) (g0 : Option (List Ending)) (jobs : List (Job (CoreBase V))) (count : ℕ) (handed : Option (List Origin)) (given : Option (List Ending))
-        → Going (IsAnswered V.Tool.faults (front_of V.meaning api.now.base told)) n asked v0 h0 g0 (map (λ h. h.running.handle.promise.job.value.pass.view) crew.old.items) jobs pass.old.view count handed given
-        → Going (IsAnswered V.Tool.faults (front_of V.meaning api.now.base told)) n (asked + 1) v0 h0 g0 (map (λ h. h.running.handle.promise.job.value.pass.view) crew.new.items) jobs pass.new.view count handed given }
+    ensures going { (told : Option (List ℕ)) (n asked idle : ℕ) (v0 : View (CoreBase V)) (h0 : Option (List Origin)) (g0 : Option (List Ending)) (jobs : List (Job (CoreBase V))) (count : ℕ) (handed : Option (List Origin)) (given : Option (List Ending))
+        → Going (IsAnswered V.Tool.faults (front_of V.meaning api.now.base told)) n asked idle v0 h0 g0 (map (λ h. h.running.handle.promise.job.value.pass.view) crew.old.items) jobs pass.old.view count handed given
+        → Going (IsAnswered V.Tool.faults (front_of V.meaning api.now.base told)) n (asked + 1) (idle + result) v0 h0 g0 (map (λ h. h.running.handle.promise.job.value.pass.view) crew.new.items) jobs pass.new.view count handed given }
 {
-    let Ok((shut, gate)) = resting_gate(alloc, rt, bell, crew.is_empty()) else {
-        return false;
+    let Ok((shut, gate)) = resting_gate(alloc, rt, api.bell(), crew.is_empty()) else {
+        return 1;
     };
     let Some(own) = make_pass(rt, alloc, api, pass, tools) else {
-        return false;
+        return 1;
     };
     let shift = Shift { pass: own, gate };
     match start_work(rt, alloc, scope, api, shift, shut) {
         Ok(hired) => {
             crew.push_reserved(hired);
-            true
+            0
         }
         Err(back) => {
             api.meet(pass, back);
-            false
+            1
         }
     }
 }
@@ -190,7 +189,6 @@ pub(crate) fn hire<
     api: &'s SharedApi<V>,
     pass: &mut Pass<V>,
     tools: &mut M,
-    bell: &Bell,
     crew: &mut Vec<HiredHere<'s, V, R>>,
     workers: usize,
 ) -> usize
@@ -202,14 +200,12 @@ where
     ensures idle { result ≤ workers }
     ensures crew { All (λ h. IsOf V.meaning api.now h.running.handle.promise.job.value.pass) crew.new.items }
     ensures going { (told : Option (List ℕ)) (n : ℕ) (v0 : View (CoreBase V)) (h0 : Option (List Origin)) (g0 : Option (List Ending)) (jobs : List (Job (CoreBase V))) (count : ℕ) (handed : Option (List Origin)) (given : Option (List Ending))
-        → Going (IsAnswered V.Tool.faults (front_of V.meaning api.now.base told)) n 0 v0 h0 g0 [] jobs pass.old.view count handed given
-        → Going (IsAnswered V.Tool.faults (front_of V.meaning api.now.base told)) n workers v0 h0 g0 (map (λ h. h.running.handle.promise.job.value.pass.view) crew.new.items) jobs pass.new.view count handed given }
+        → Going (IsAnswered V.Tool.faults (front_of V.meaning api.now.base told)) n 0 0 v0 h0 g0 [] jobs pass.old.view count handed given
+        → Going (IsAnswered V.Tool.faults (front_of V.meaning api.now.base told)) n workers result v0 h0 g0 (map (λ h. h.running.handle.promise.job.value.pass.view) crew.new.items) jobs pass.new.view count handed given }
 {
     let mut idle = 0;
     for _i in 0..workers {
-        if !hire_one(rt, alloc, scope, api, pass, tools, bell, crew) {
-            idle += 1;
-        }
+        idle += hire_one(rt, alloc, scope, api, pass, tools, crew);
     }
     idle
 }
@@ -235,20 +231,19 @@ pub(crate) fn dismiss<V: Versions + Drop, G: PatientGate + Drop, R: Threads>(
     rt: &R,
     api: &SharedApi<V>,
     pass: &mut Pass<V>,
-    bell: &Bell,
     mut crew: Vec<Hired<V, G>>,
 )
     requires of { IsOf V.meaning api.now pass.old }
     requires crew { All (λ h. IsOf V.meaning api.now h.running.handle.promise.job.value.pass) crew.items }
     ensures of { IsOf V.meaning api.now pass.new }
-    ensures going { (told : Option (List ℕ)) (n asked : ℕ) (v0 : View (CoreBase V)) (h0 : Option (List Origin)) (g0 : Option (List Ending)) (jobs : List (Job (CoreBase V))) (count : ℕ) (handed : Option (List Origin)) (given : Option (List Ending))
-        → Going (IsAnswered V.Tool.faults (front_of V.meaning api.now.base told)) n asked v0 h0 g0 (map (λ h. h.running.handle.promise.job.value.pass.view) crew.items) jobs pass.old.view count handed given
-        → Going (IsAnswered V.Tool.faults (front_of V.meaning api.now.base told)) n asked v0 h0 g0 [] jobs pass.new.view count handed given }
+    ensures going { (told : Option (List ℕ)) (n asked idle : ℕ) (v0 : View (CoreBase V)) (h0 : Option (List Origin)) (g0 : Option (List Ending)) (jobs : List (Job (CoreBase V))) (count : ℕ) (handed : Option (List Origin)) (given : Option (List Ending))
+        → Going (IsAnswered V.Tool.faults (front_of V.meaning api.now.base told)) n asked idle v0 h0 g0 (map (λ h. h.running.handle.promise.job.value.pass.view) crew.items) jobs pass.old.view count handed given
+        → Going (IsAnswered V.Tool.faults (front_of V.meaning api.now.base told)) n asked idle v0 h0 g0 [] jobs pass.new.view count handed given }
 {
     for hired in &crew {
         hired.close();
     }
-    bell.ring();
+    api.bell().ring();
     while let Some(hired) = crew.pop() {
         dismiss_one(rt, api, pass, hired);
     }

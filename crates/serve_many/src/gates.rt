@@ -1,13 +1,13 @@
 //! What workers ask before each turn.
 //!
-//! One worker watches: where there is nothing to do it looks again at least ten times a second. The others are told of work by
-//! a bell that a worker rings which found some behind a rest, and look once a second besides.
-ghost use Rattle.std.specs.Prelude.{◌≡◌, ◌⊎◌, ◌*◌, min, IsTrue};
+//! Workers that rest are woken by the server's bell, which each call rings that sets the flags or starts a migration, and each
+//! worker that finds something to do behind a rest. Besides, one worker watches, which looks again at least ten times a second,
+//! and the others once a second.
+ghost use Rattle.std.specs.Prelude.{◌≡◌, ◌≢◌, ◌⊎◌, ◌*◌, min, IsTrue};
 ghost use Rattle.serve_many.specs.Gates.{Rests, most_rest};
 
-use crate::bell::Bell;
 use migrate_workers::{Gate, WorkEnd};
-use shared_api::TurnStep;
+use shared_api::{Bell, TurnStep};
 use std::alloc::{AllocError, Global};
 use std::sync::Wait;
 use std::thread;
@@ -25,7 +25,7 @@ pub const MOST_PAUSE_MILLIS: u64 = 100;
 pub const MOST_TOLD_PAUSE_MILLIS: u64 = 1000;
 
 /// A gate that says yes until its flag is raised, and rests before the turn after one that found nothing to do, twice as long each
-/// time, or until its bell is rung. Its parameter has no bound, so that it may be sent.
+/// time, or until the server's bell is rung. Its parameter has no bound, so that it may be sent.
 #[derive(Drop)]
 pub struct RestingGate<'s, T> {
     pub system: &'s T,
@@ -34,8 +34,8 @@ pub struct RestingGate<'s, T> {
     pub pause: u64,
     /// Whether its worker watches.
     pub watches: bool,
-    /// Rung where a worker finds something to do behind a rest, and where all are to end.
-    pub bell: Bell,
+    /// The server's.
+    pub bell: &'s Bell,
     /// How often the bell had been rung before the last turn.
     pub heard: u64,
 }
@@ -44,10 +44,9 @@ pub struct RestingGate<'s, T> {
 pub(crate) fn resting_gate<'s, T>(
     alloc: Global,
     system: &'s T,
-    bell: &Bell,
+    bell: &'s Bell,
     watches: bool,
 ) -> Result<(Flag, RestingGate<'s, T>), AllocError> {
-    let bell = bell.other()?;
     let (shut, theirs) = two_flags(alloc)?;
     let heard = bell.rung();
     Ok((
@@ -75,6 +74,17 @@ fn longer(pause: u64, watches: bool) -> u64
     pause.saturating_mul(2).min(most)
 }
 
+// How long the rest takes that comes after one: as long as the first one where the bell was rung meanwhile.
+fn next(pause: u64, watches: bool, heard: u64, rung: u64) -> u64
+    ensures { ((result ≡ min (pause * 2) (most_rest watches)) × (rung ≡ heard)) ⊎ ((result ≡ 2) × (rung ≢ heard)) }
+{
+    if rung == heard {
+        longer(pause, watches)
+    } else {
+        PAUSE_MILLIS
+    }
+}
+
 impl<'s, T> RestingGate<'s, T> {
     // Tells the others that there is something to do, where this worker rested since it last had.
     fn tell(&self) {
@@ -82,30 +92,24 @@ impl<'s, T> RestingGate<'s, T> {
             self.bell.ring();
         }
     }
-
-    // Rests, and answers how long the next rest is to take: as long as the first one where the bell was rung.
-    fn rest<R: Wait>(&self, rt: &R) -> u64
-        ensures { (result ≡ min (self.now.pause * 2) (most_rest self.now.watches)) ⊎ (result ≡ 2) }
-    {
-        self.bell.rest(rt, self.heard, self.pause);
-        if self.bell.rung() != self.heard {
-            return PAUSE_MILLIS;
-        }
-        longer(self.pause, self.watches)
-    }
 }
 
 impl<'s, T: Clock> Gate for RestingGate<'s, T> {
-    ghost answers = { λ g last may h. Rests last (most_rest g.watches) g.pause h.pause × (h.watches ≡ g.watches) × (h.shut ≡ g.shut) };
+    ghost answers = { λ g last may h. Rests last (most_rest g.watches) g.pause h.pause g.heard h.heard may × (h.watches ≡ g.watches) × (h.shut ≡ g.shut) };
 
     fn go_on<R: Wait>(&mut self, rt: &R, last: TurnStep) -> bool {
         if last != TurnStep::Idle {
             self.tell();
             self.pause = PAUSE_MILLIS;
-        } else if self.shut.raised().is_none() {
-            self.pause = self.rest(rt);
+            self.heard = self.bell.rung();
+        } else if self.shut.raised().is_some() {
+            return false;
+        } else {
+            self.bell.rest(rt, self.heard, self.pause);
+            let rung = self.bell.rung();
+            self.pause = next(self.pause, self.watches, self.heard, rung);
+            self.heard = rung;
         }
-        self.heard = self.bell.rung();
         self.shut.raised().is_none()
     }
 }

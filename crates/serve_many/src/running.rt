@@ -105,9 +105,9 @@ pub(crate) fn join_all<V: Versions + Drop, A: Ears, C: Clock, R: Threads>(
     ensures of { IsOf V.meaning api.now pass.new }
     ensures faults { A.faults ears.new ≡ A.faults ears.old }
     ensures origins { A.origins ears.new ≡ A.origins ears.old }
-    ensures going { (n asked : ℕ) (v0 : View (CoreBase V)) (h0 : Option (List Origin)) (g0 : Option (List Ending)) (crew : List (View (CoreBase V))) (count : ℕ) (handed : Option (List Origin))
-        → Going (IsAnswered V.Tool.faults (front_of V.meaning api.now.base (C.told clock.now))) n asked v0 h0 g0 crew (map (λ h. (h.handle.promise.job.value.pass.view, A.In.origin h.handle.promise.job.value.input)) running.entry.items) pass.old.view count handed (A.returned ears.old)
-        → Going (IsAnswered V.Tool.faults (front_of V.meaning api.now.base (C.told clock.now))) n asked v0 h0 g0 crew [] pass.new.view count handed (A.returned ears.new) }
+    ensures going { (n asked idle : ℕ) (v0 : View (CoreBase V)) (h0 : Option (List Origin)) (g0 : Option (List Ending)) (crew : List (View (CoreBase V))) (count : ℕ) (handed : Option (List Origin))
+        → Going (IsAnswered V.Tool.faults (front_of V.meaning api.now.base (C.told clock.now))) n asked idle v0 h0 g0 crew (map (λ h. (h.handle.promise.job.value.pass.view, A.In.origin h.handle.promise.job.value.input)) running.entry.items) pass.old.view count handed (A.returned ears.old)
+        → Going (IsAnswered V.Tool.faults (front_of V.meaning api.now.base (C.told clock.now))) n asked idle v0 h0 g0 crew [] pass.new.view count handed (A.returned ears.new) }
 {
     while let Some(link) = running.pop() {
         join_one(rt, api, pass, ears, link);
@@ -134,9 +134,9 @@ fn reap_at<V: Versions + Drop, A: Ears, C: Clock, R: Threads>(
     ensures capacity { vec_capacity running.new ≡ vec_capacity running.old }
     ensures faults { A.faults ears.new ≡ A.faults ears.old }
     ensures origins { A.origins ears.new ≡ A.origins ears.old }
-    ensures going { (n asked : ℕ) (v0 : View (CoreBase V)) (h0 : Option (List Origin)) (g0 : Option (List Ending)) (crew : List (View (CoreBase V))) (count : ℕ) (handed : Option (List Origin))
-        → Going (IsAnswered V.Tool.faults (front_of V.meaning api.now.base (C.told clock.now))) n asked v0 h0 g0 crew (map (λ h. (h.handle.promise.job.value.pass.view, A.In.origin h.handle.promise.job.value.input)) running.old.items) pass.old.view count handed (A.returned ears.old)
-        → Going (IsAnswered V.Tool.faults (front_of V.meaning api.now.base (C.told clock.now))) n asked v0 h0 g0 crew (map (λ h. (h.handle.promise.job.value.pass.view, A.In.origin h.handle.promise.job.value.input)) running.new.items) pass.new.view count handed (A.returned ears.new) }
+    ensures going { (n asked idle : ℕ) (v0 : View (CoreBase V)) (h0 : Option (List Origin)) (g0 : Option (List Ending)) (crew : List (View (CoreBase V))) (count : ℕ) (handed : Option (List Origin))
+        → Going (IsAnswered V.Tool.faults (front_of V.meaning api.now.base (C.told clock.now))) n asked idle v0 h0 g0 crew (map (λ h. (h.handle.promise.job.value.pass.view, A.In.origin h.handle.promise.job.value.input)) running.old.items) pass.old.view count handed (A.returned ears.old)
+        → Going (IsAnswered V.Tool.faults (front_of V.meaning api.now.base (C.told clock.now))) n asked idle v0 h0 g0 crew (map (λ h. (h.handle.promise.job.value.pass.view, A.In.origin h.handle.promise.job.value.input)) running.new.items) pass.new.view count handed (A.returned ears.new) }
 {
     if running[at].is_over().is_none() {
         return false;
@@ -163,9 +163,9 @@ pub(crate) fn reap<V: Versions + Drop, A: Ears, C: Clock, R: Threads>(
     ensures capacity { vec_capacity running.new ≡ vec_capacity running.old }
     ensures faults { A.faults ears.new ≡ A.faults ears.old }
     ensures origins { A.origins ears.new ≡ A.origins ears.old }
-    ensures going { (n asked : ℕ) (v0 : View (CoreBase V)) (h0 : Option (List Origin)) (g0 : Option (List Ending)) (crew : List (View (CoreBase V))) (count : ℕ) (handed : Option (List Origin))
-        → Going (IsAnswered V.Tool.faults (front_of V.meaning api.now.base (C.told clock.now))) n asked v0 h0 g0 crew (map (λ h. (h.handle.promise.job.value.pass.view, A.In.origin h.handle.promise.job.value.input)) running.old.items) pass.old.view count handed (A.returned ears.old)
-        → Going (IsAnswered V.Tool.faults (front_of V.meaning api.now.base (C.told clock.now))) n asked v0 h0 g0 crew (map (λ h. (h.handle.promise.job.value.pass.view, A.In.origin h.handle.promise.job.value.input)) running.new.items) pass.new.view count handed (A.returned ears.new) }
+    ensures going { (n asked idle : ℕ) (v0 : View (CoreBase V)) (h0 : Option (List Origin)) (g0 : Option (List Ending)) (crew : List (View (CoreBase V))) (count : ℕ) (handed : Option (List Origin))
+        → Going (IsAnswered V.Tool.faults (front_of V.meaning api.now.base (C.told clock.now))) n asked idle v0 h0 g0 crew (map (λ h. (h.handle.promise.job.value.pass.view, A.In.origin h.handle.promise.job.value.input)) running.old.items) pass.old.view count handed (A.returned ears.old)
+        → Going (IsAnswered V.Tool.faults (front_of V.meaning api.now.base (C.told clock.now))) n asked idle v0 h0 g0 crew (map (λ h. (h.handle.promise.job.value.pass.view, A.In.origin h.handle.promise.job.value.input)) running.new.items) pass.new.view count handed (A.returned ears.new) }
 {
     let mut at = 0;
     while at < running.len() {

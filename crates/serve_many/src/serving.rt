@@ -7,7 +7,6 @@ ghost use Rattle.serve_many.specs.Answered.{IsAnswered, front_of};
 ghost use Rattle.serve_many.specs.Ends.{EndsAt, ServeBlames, UnlessNoMemory};
 
 use crate::accepting::{MOST_RUNNING, accept_all};
-use crate::bell::Bell;
 use crate::crew::{HiredHere, disband, dismiss, hire};
 use crate::running::{Link, join_all};
 use api_calls::{Tools, Versions};
@@ -17,6 +16,13 @@ use std::alloc::{AllocError, Global};
 use std::sync::Wait;
 use std::thread::{Scope, Threads};
 use std::{thread, time};
+
+/// How serving many connections ended, and how many of the workers that were asked for had no thread of their own.
+#[derive(Clone, Copy, Debug, PartialEq, Eq, Drop)]
+pub struct Served {
+    pub end: ServeEnd,
+    pub idle: u64,
+}
 
 /// How serving many connections ends.
 #[derive(Clone, Copy, Debug, PartialEq, Eq, Drop)]
@@ -29,7 +35,8 @@ pub enum ServeEnd {
     NoMemory,
 }
 
-// Hires workers, accepts so many connections, joins all, and dismisses the workers. Answers whether they were so many.
+// Hires workers, accepts so many connections, joins all, and dismisses the workers. Answers whether they were so many, and how many
+// workers have no thread.
 fn serve_in<
     's,
     E,
@@ -49,7 +56,7 @@ fn serve_in<
     clock: &'s C,
     workers: usize,
     connections: Option<u64>,
-) -> Result<bool, AllocError>
+) -> Result<(bool, usize), AllocError>
 where
     V::Tool: Send + 's,
     A::In: 's,
@@ -57,13 +64,12 @@ where
     A::Ended: 's,
     requires of { IsOf V.meaning api.now pass.old }
     ensures of { IsOf V.meaning api.now pass.new }
-    ensures fault { IfOk result (λ done. done ≡ false → Rose (A.faults ears.old) (A.faults ears.new)) }
+    ensures fault { IfOk result (λ done. done.0 ≡ false → Rose (A.faults ears.old) (A.faults ears.new)) }
     ensures memory { IfErr result (λ _. (ears.new ≡ ears.old) × (pass.new ≡ pass.old)) }
     ensures served { IfOk result (λ done. (n : ℕ) → pass.old.view.number ≡ Some n
-        → (count : ℕ) × MatchBool done (connections ≡ Some count) (IfSome connections (λ k. count < k))
-        × ServedAll (IsAnswered V.Tool.faults (front_of V.meaning api.now.base (C.told clock.now))) workers pass.old.view pass.new.view count (A.origins ears.old) (A.origins ears.new) (A.returned ears.old) (A.returned ears.new)) }
+        → (count : ℕ) × MatchBool done.0 (connections ≡ Some count) (IfSome connections (λ k. count < k))
+        × ServedAll (IsAnswered V.Tool.faults (front_of V.meaning api.now.base (C.told clock.now))) workers done.1 pass.old.view pass.new.view count (A.origins ears.old) (A.origins ears.new) (A.returned ears.old) (A.returned ears.new)) }
 {
-    let bell = Bell::new(alloc)?;
     let mut crew: Vec<HiredHere<'s, V, R>> = Vec::with_capacity(alloc, workers)?;
     let mut running: Vec<Link<'s, V, A, C>> = match Vec::with_capacity(alloc, MOST_RUNNING) {
         Ok(running) => running,
@@ -72,9 +78,7 @@ where
             return Err(fault);
         }
     };
-    let idle = hire(
-        rt, alloc, scope, api, pass, tools, &bell, &mut crew, workers,
-    );
+    let idle = hire(rt, alloc, scope, api, pass, tools, &mut crew, workers);
     let done = accept_all(
         rt,
         alloc,
@@ -89,8 +93,8 @@ where
         connections,
     );
     join_all(rt, api, pass, ears, clock, running);
-    dismiss(rt, api, pass, &bell, crew);
-    Ok(done)
+    dismiss(rt, api, pass, crew);
+    Ok((done, idle))
 }
 
 // Serves in a scope of threads.
@@ -111,16 +115,16 @@ fn serve_scoped<
     clock: &'x C,
     workers: usize,
     connections: Option<u64>,
-) -> Result<bool, AllocError>
+) -> Result<(bool, usize), AllocError>
 where
     V::Tool: Send,
     requires of { IsOf V.meaning api.now pass.old }
     ensures of { IsOf V.meaning api.now pass.new }
-    ensures fault { IfOk result (λ done. done ≡ false → Rose (A.faults ears.old) (A.faults ears.new)) }
+    ensures fault { IfOk result (λ done. done.0 ≡ false → Rose (A.faults ears.old) (A.faults ears.new)) }
     ensures memory { IfErr result (λ _. (ears.new ≡ ears.old) × (pass.new ≡ pass.old)) }
     ensures served { IfOk result (λ done. (n : ℕ) → pass.old.view.number ≡ Some n
-        → (count : ℕ) × MatchBool done (connections ≡ Some count) (IfSome connections (λ k. count < k))
-        × ServedAll (IsAnswered V.Tool.faults (front_of V.meaning api.now.base (C.told clock.now))) workers pass.old.view pass.new.view count (A.origins ears.old) (A.origins ears.new) (A.returned ears.old) (A.returned ears.new)) }
+        → (count : ℕ) × MatchBool done.0 (connections ≡ Some count) (IfSome connections (λ k. count < k))
+        × ServedAll (IsAnswered V.Tool.faults (front_of V.meaning api.now.base (C.told clock.now))) workers done.1 pass.old.view pass.new.view count (A.origins ears.old) (A.origins ears.new) (A.returned ears.old) (A.returned ears.new)) }
 {
     let own = &mut *pass;
     let heard = &mut *ears;
@@ -128,15 +132,20 @@ where
     let (end, back, ears_back, tools_back) = thread::scope(
         thread::scope_env(),
         rt,
-        move |scope| -> (Result<bool, AllocError>, &mut Pass<V>, &mut A, &mut M)
+        move |scope| -> (
+            Result<(bool, usize), AllocError>,
+            &mut Pass<V>,
+            &mut A,
+            &mut M,
+        )
             requires { IsOf V.meaning api.now own.now }
             ensures names { (result.1.ghost_name ≡ own.entry.ghost_name) × (result.2.ghost_name ≡ heard.entry.ghost_name) × (result.3.ghost_name ≡ kit.entry.ghost_name) }
             ensures of { IsOf V.meaning api.entry.now result.1.now }
-            ensures fault { IfOk result.0 (λ done. done ≡ false → Rose (A.faults heard.entry.now) (A.faults result.2.now)) }
+            ensures fault { IfOk result.0 (λ done. done.0 ≡ false → Rose (A.faults heard.entry.now) (A.faults result.2.now)) }
             ensures memory { IfErr result.0 (λ _. (result.2.now ≡ heard.entry.now) × (result.1.now ≡ own.entry.now)) }
             ensures served { IfOk result.0 (λ done. (n : ℕ) → own.entry.now.view.number ≡ Some n
-                → (count : ℕ) × MatchBool done (connections ≡ Some count) (IfSome connections (λ k. count < k))
-                × ServedAll (IsAnswered V.Tool.faults (front_of V.meaning api.entry.now.base (C.told clock.entry.now))) workers own.entry.now.view result.1.now.view count (A.origins heard.entry.now) (A.origins result.2.now) (A.returned heard.entry.now) (A.returned result.2.now)) }
+                → (count : ℕ) × MatchBool done.0 (connections ≡ Some count) (IfSome connections (λ k. count < k))
+                × ServedAll (IsAnswered V.Tool.faults (front_of V.meaning api.entry.now.base (C.told clock.entry.now))) workers done.1 own.entry.now.view result.1.now.view count (A.origins heard.entry.now) (A.origins result.2.now) (A.returned heard.entry.now) (A.returned result.2.now)) }
         {
             let end = serve_in(
                 rt,
@@ -163,8 +172,8 @@ where
 /// that is handed out has a thread and a pass of its own, and is served by one `serve_link`, closed and given back. The calling
 /// thread accepts; it serves a connection itself, on `pass`, where 64 threads run, where the connection's pass couldn't be made
 /// and where its thread isn't started. A worker works until all connections are joined; one without a thread has 64 turns after
-/// each connection. `EarsFault` comes only where the count of faults of `ears` rose, and `NoMemory` only before the first
-/// connection is asked for.
+/// each connection, and how many are without one is told: those for whom there was no memory or no thread. `EarsFault` comes only
+/// where the count of faults of `ears` rose, and `NoMemory` only before the first connection is asked for and a worker is hired.
 pub fn serve_all<
     'x,
     V: Versions + Drop + Send + Sync,
@@ -182,20 +191,20 @@ pub fn serve_all<
     clock: &'x C,
     workers: u64,
     connections: Option<u64>,
-) -> ServeEnd
+) -> Served
 where
     V::Tool: Send,
     requires of { IsOf V.meaning api.now pass.old }
     requires workers { workers ≤ 15 }
     ensures of { IsOf V.meaning api.now pass.new }
     // Each connection that was handed out was served in a span of the list and given back. `Done` is where they were as many as
-    // were asked for, and at `EarsFault` they were fewer. What no connection entered is of so many workers at most, with a pass each, or of the
-    // pass that accepts, where there are any.
-    ensures served { UnlessNoMemory result ((n : ℕ) → pass.old.view.number ≡ Some n
-        → (count : ℕ) × EndsAt result connections count
-        × ServedAll (IsAnswered V.Tool.faults (front_of V.meaning api.now.base (C.told clock.now))) workers pass.old.view pass.new.view count (A.origins ears.old) (A.origins ears.new) (A.returned ears.old) (A.returned ears.new)) }
+    // were asked for, and at `EarsFault` they were fewer. The workers that aren't idle have a pass each, which serves no connection. What no
+    // connection entered is of theirs, or where any are idle of one of as many further passes at most, or of the pass that accepts.
+    ensures served { UnlessNoMemory result.end ((n : ℕ) → pass.old.view.number ≡ Some n
+        → (count : ℕ) × EndsAt result.end connections count
+        × ServedAll (IsAnswered V.Tool.faults (front_of V.meaning api.now.base (C.told clock.now))) workers result.idle pass.old.view pass.new.view count (A.origins ears.old) (A.origins ears.new) (A.returned ears.old) (A.returned ears.new)) }
     // A fault comes only where the ears' count rose, and without memory nothing was done.
-    ensures blames { ServeBlames result (Rose (A.faults ears.old) (A.faults ears.new)) ((ears.new ≡ ears.old) × (pass.new ≡ pass.old)) }
+    ensures blames { ServeBlames result.end (Rose (A.faults ears.old) (A.faults ears.new)) ((ears.new ≡ ears.old) × (pass.new ≡ pass.old)) }
 {
     match serve_scoped(
         rt,
@@ -208,8 +217,17 @@ where
         workers as usize,
         connections,
     ) {
-        Ok(true) => ServeEnd::Done,
-        Ok(false) => ServeEnd::EarsFault,
-        Err(_) => ServeEnd::NoMemory,
+        Ok((true, idle)) => Served {
+            end: ServeEnd::Done,
+            idle: idle as u64,
+        },
+        Ok((false, idle)) => Served {
+            end: ServeEnd::EarsFault,
+            idle: idle as u64,
+        },
+        Err(_) => Served {
+            end: ServeEnd::NoMemory,
+            idle: workers,
+        },
     }
 }

@@ -1,5 +1,5 @@
 -- Connections that go on: each step keeps `Going`, and at the end it is `ServedAll`.
-use Rattle.std.proofs.Common.{ℕ, zero, suc, ◌≡◌, ◌<◌, ◌+◌, arith, length, List, [], ◌∷◌, ◌++◌, Option, Some, inl, inr, ⊎_elim, refl, ap, sym, ◌∙◌, subst, map, append_assoc, length-append, take, drop, slice_index_or}
+use Rattle.std.proofs.Common.{ℕ, zero, suc, ◌≡◌, ◌<◌, ◌+◌, ◌⊎◌, arith, length, List, [], ◌∷◌, ◌++◌, Option, Some, inl, inr, ⊎_elim, refl, ap, sym, ◌∙◌, subst, map, append_assoc, length-append, take, drop, slice_index_or}
 use Rattle.std.proofs.lemmas.List.{append-nil}
 use mathlib.Core.List.{IsPrefix}
 use Rattle.api_calls.specs.Item.{Logged, items_of}
@@ -8,13 +8,13 @@ use Rattle.turn_cell.specs.laws.Laws.{prefix_self}
 use Rattle.turn_cell.specs.Turns.{Meets, IsNew}
 use Rattle.turn_cell.specs.Views.{numbers_of, halved}
 use Rattle.turn_cell.specs.declared.view.View.{View}
-use Rattle.serve_spans.specs.Spans.{Service, Span, Linked}
-use Rattle.turn_cell.specs.Numbers.{In}
+use Rattle.serve_spans.specs.Spans.{Service, Span, Linked, AreNotOf}
+use Rattle.turn_cell.specs.Numbers.{In, Differ}
 use Rattle.serve_spans.specs.Owners.{IsOfWorker, TakesTurns}
-use Rattle.serve_spans.specs.Served.{Among, origins_of, HandsOutAll, AddsAll, ServedAll}
-use Rattle.serve_spans.specs.inner.Keeping.{IsServing, IsShared, Job, out_of, views_of, IsBegun, AllBegun, Going}
-use Rattle.serve_spans.proofs.Lists.{map_append, map_snoc}
-use Rattle.serve_spans.proofs.Spans.{Grows, linked_grows, span_of, past_of, one_worked, one_joins, one_met, one_begun, one_here}
+use Rattle.serve_spans.specs.Served.{Among, origins_of, HandsOutAll, AddsAll, AreWorkers, ServedAll}
+use Rattle.serve_spans.specs.inner.Keeping.{ArePast, IsServing, IsShared, Job, out_of, views_of, IsBegun, AllBegun, Going}
+use Rattle.serve_spans.proofs.Lists.{map_append, map_snoc, in_left, in_right, differ_apart, number_in}
+use Rattle.serve_spans.proofs.Spans.{Grows, numbers_met, linked_grows, span_of, past_of, one_worked, one_joins, one_met, one_begun, one_here}
 use Rattle.serve_spans.proofs.Alone.{at_within, within_front, within_last, cover_starts, cover_more, cover_same, cover_met, cover_here, cover_works, cover_all, shared_starts, shared_made, shared_two, shared_met, shared_same, shared_ends, shared_part}
 
 -- ---- lists that are told
@@ -38,27 +38,84 @@ adds_more g0 given later cs c all one xs is =
 
 -- ---- workers
 
-in_front : (k : ℕ) (ns ms : List ℕ) → In k ns → In k (ns ++ ms)
-in_front k [] ms h = absurd h
-in_front k (n ∷ ns) ms h = ⊎_elim (λ (e : k ≡ n). inl e) (λ (a : In k ns). inr (in_front k ns ms a)) h
-
 in_last : (k m : ℕ) (ns : List ℕ) → k ≡ m → In k (ns ++ m ∷ [])
 in_last k m [] e = inl e
 in_last k m (n ∷ ns) e = inr (in_last k m ns e)
 
--- one more worker was asked for
-asked_more : (number : Option ℕ) (asked : ℕ) (workers : List ℕ) (x : Logged) → IsOfWorker number asked workers x → IsOfWorker number (asked + 1) workers x
-asked_more number asked workers x (work, of) =
-    (work, ⊎_elim (λ (a : In x.by workers). inl a) (λ (b : (number ≡ Some x.by) × (0 < asked)). inr (b.0, (let lt = b.1 in omega arith))) of)
+in_snoc : (k m : ℕ) (ns : List ℕ) → In k (ns ++ m ∷ []) → In k ns ⊎ (k ≡ m)
+in_snoc k m [] h = ⊎_elim (λ (e : k ≡ m). inr e) (λ (none : ⊥). absurd none) h
+in_snoc k m (n ∷ ns) h =
+    ⊎_elim (λ (e : k ≡ n). inl (inl e)) (λ (a : In k (ns ++ m ∷ [])). ⊎_elim (λ (b : In k ns). inl (inr b)) (λ (e : k ≡ m). inr e) (in_snoc k m ns a)) h
+
+differ_snoc : (ns : List ℕ) (m : ℕ) → Differ ns → ¬ In m ns → Differ (ns ++ m ∷ [])
+differ_snoc [] m h new = ((λ none. none), tt)
+differ_snoc (n ∷ ns) m h new = (
+  (λ a. ⊎_elim (λ (b : In n ns). h.0 b) (λ (e : n ≡ m). new (inl (sym e))) (in_snoc n m ns a)),
+  differ_snoc ns m h.1 (λ a. new (inr a)),
+)
+
+none_snoc : (ns : List ℕ) (ss : List Span) (s : Span) → AreNotOf ns ss → ¬ In s.number ns → AreNotOf ns (ss ++ s ∷ [])
+none_snoc ns [] s h one = (one, tt)
+none_snoc ns (t ∷ ts) s h one = (h.0, none_snoc ns ts s h.1 one)
+
+-- a number that no span has is none of theirs
+none_more : (ns ks : List ℕ) (k m : ℕ) (ss : List Span) → AreNotOf ns ss → ArePast ks k ss → ¬ In m ks → AreNotOf (ns ++ m ∷ []) ss
+none_more ns ks k m [] h past new = tt
+none_more ns ks k m (t ∷ ts) h past new = (
+  (λ a. ⊎_elim (λ (b : In t.number ns). h.0 b) (λ (e : t.number ≡ m). new (subst (λ (j : ℕ). In j ks) e past.0.0)) (in_snoc t.number m ns a)),
+  none_more ns ks k m ts h.1 past.1 new,
+)
+
+-- one more has no thread
+idle_more : (number : Option ℕ) (idle : ℕ) (workers spared : List ℕ) (x : Logged) → IsOfWorker number idle workers spared x → IsOfWorker number (idle + 1) workers spared x
+idle_more number idle workers spared x (work, of) = (
+  work,
+  ⊎_elim (λ (a : In x.by workers). inl a) (λ (b : In x.by spared ⊎ ((number ≡ Some x.by) × (0 < idle))).
+      inr (⊎_elim (λ (c : In x.by spared). inl c) (λ (c : (number ≡ Some x.by) × (0 < idle)). inr (c.0, (let lt = c.1 in omega arith))) b)) of,
+)
 
 -- one more worked
-worked_more : (number : Option ℕ) (asked : ℕ) (workers : List ℕ) (m : ℕ) (x : Logged) → IsOfWorker number asked workers x → IsOfWorker number asked (workers ++ m ∷ []) x
-worked_more number asked workers m x (work, of) =
-    (work, ⊎_elim (λ (a : In x.by workers). inl (in_front x.by workers (m ∷ []) a)) (λ (b : (number ≡ Some x.by) × (0 < asked)). inr b) of)
+worked_more : (number : Option ℕ) (idle : ℕ) (workers spared : List ℕ) (m : ℕ) (x : Logged) → IsOfWorker number idle workers spared x → IsOfWorker number idle (workers ++ m ∷ []) spared x
+worked_more number idle workers spared m x (work, of) =
+    (work, ⊎_elim (λ (a : In x.by workers). inl (in_left x.by workers (m ∷ []) a)) (λ (b : In x.by spared ⊎ ((number ≡ Some x.by) × (0 < idle))). inr b) of)
+
+-- the thread of one more wasn't started
+spared_more : (number : Option ℕ) (idle : ℕ) (workers spared : List ℕ) (m : ℕ) (x : Logged) → IsOfWorker number idle workers spared x → IsOfWorker number (idle + 1) workers (spared ++ m ∷ []) x
+spared_more number idle workers spared m x (work, of) = (
+  work,
+  ⊎_elim (λ (a : In x.by workers). inl a) (λ (b : In x.by spared ⊎ ((number ≡ Some x.by) × (0 < idle))).
+      inr (⊎_elim (λ (c : In x.by spared). inl (in_left x.by spared (m ∷ []) c)) (λ (c : (number ≡ Some x.by) × (0 < idle)). inr (c.0, (let lt = c.1 in omega arith))) b)) of,
+)
 
 -- the same of an equal number
-renamed : (asked : ℕ) (workers : List ℕ) (a b : Option ℕ) → a ≡ b → (x : Logged) → IsOfWorker a asked workers x → IsOfWorker b asked workers x
-renamed asked workers a b e x of = subst (λ (number : Option ℕ). IsOfWorker number asked workers x) e of
+renamed : (idle : ℕ) (workers spared : List ℕ) (a b : Option ℕ) → a ≡ b → (x : Logged) → IsOfWorker a idle workers spared x → IsOfWorker b idle workers spared x
+renamed idle workers spared a b e x of = subst (λ (number : Option ℕ). IsOfWorker number idle workers spared x) e of
+
+-- all these numbers stand in those
+workers_on : (before now later : List ℕ) (ss : List Span) (ns : List ℕ) → ((m : ℕ) → In m now → In m later) → AreWorkers before now ss ns → AreWorkers before later ss ns
+workers_on before now later ss ns on h = record {
+  met = λ m a. let b = h.met m a in (on m b.0, b.1);
+  differ = h.differ;
+  serve_none = h.serve_none;
+}
+
+-- one more span, of another number
+workers_span : (before now : List ℕ) (ss : List Span) (s : Span) (ns : List ℕ) → AreWorkers before now ss ns → ¬ In s.number ns → AreWorkers before now (ss ++ s ∷ []) ns
+workers_span before now ss s ns h one = record {
+  met = h.met;
+  differ = h.differ;
+  serve_none = none_snoc ns ss s h.serve_none one;
+}
+
+-- one more, whose number is new
+workers_more : (before now later : List ℕ) (k : ℕ) (ss : List Span) (ns : List ℕ) (m : ℕ) → AreWorkers before now ss ns → ((j : ℕ) → In j before → In j now)
+    → ((j : ℕ) → In j now → In j later) → ArePast now k ss → In m later → ¬ In m now → AreWorkers before later ss (ns ++ m ∷ [])
+workers_more before now later k ss ns m h since on past here new = record {
+  met = λ j a. ⊎_elim (λ (b : In j ns). let c = h.met j b in (on j c.0, c.1))
+      (λ (e : j ≡ m). (subst (λ (i : ℕ). In i later) (sym e) here, (λ (b : In j before). new (subst (λ (i : ℕ). In i now) e (since j b))))) (in_snoc j m ns a);
+  differ = differ_snoc ns m h.differ (λ a. new (h.met m a).0);
+  serve_none = none_more ns now k m ss h.serve_none past new;
+}
 
 -- a list in parts, around the element x at i
 parts_at : {X : Type 0} (xs : List X) (i : ℕ) (x : X) → i < length xs → x ≡ slice_index_or xs i x → xs ≡ take i xs ++ x ∷ drop (suc i) xs
@@ -87,7 +144,7 @@ module _ {B : Type 0} where
   begun_put v0 [] back p one h = (one, h)
   begun_put v0 (q ∷ qs) back p one h = (h.0, begun_put v0 qs back p one h.1)
 
-  module _ (Serves : Service) (grows : Grows Serves) (n asked : ℕ) (v0 : View B) (h0 : Option (List Origin)) (g0 : Option (List Ending)) (crew : List (View B)) where
+  module _ (Serves : Service) (grows : Grows Serves) (n asked idle : ℕ) (v0 : View B) (h0 : Option (List Origin)) (g0 : Option (List Ending)) (crew : List (View B)) where
     -- a pass that is made now
     is_begun : (spans : List Span) (jobs : List (Job B)) (v p : View B) (hs : List (Option Origin)) (cs : List Ending)
         → IsServing Serves n v0 (out_of jobs) v hs cs spans → IsNew v p → IsBegun v0 p
@@ -96,12 +153,21 @@ module _ {B : Type 0} where
       subst (λ (q : List Logged). IsPrefix v0.seen q) (sym (ap (λ (q : View B). q.seen) new.1)) s.grows,
     )
 
+    -- the numbers of a pass that another was met into
+    all_met : (v w u : View B) → v.number ≡ Some n → Meets v w u → (k : ℕ) → In k (numbers_of v) → In k (numbers_of u)
+    all_met v w u number met k a =
+        subst (λ (ns : List ℕ). In k ns) (sym (ap (λ (q : View B). numbers_of q) met.0 ∙ numbers_met v w n number)) (in_left k (numbers_of v) (numbers_of w) a)
+
+    -- and of one that is the same but for its list or its share
+    all_same : (v u : View B) → numbers_of u ≡ numbers_of v → (k : ℕ) → In k (numbers_of v) → In k (numbers_of u)
+    all_same v u same k a = subst (λ (ns : List ℕ). In k ns) (sym same) a
+
     -- a connection was given back, and its pass was met into v
     pub going_met : (front back : List (Job B)) (p : View B) (o : Option Origin) (v w u : View B) (count : ℕ) (handed : Option (List Origin)) (given later : Option (List Ending)) (c : Ending)
-        → Going Serves n asked v0 h0 g0 crew (front ++ (p, o) ∷ back) v count handed given
+        → Going Serves n asked idle v0 h0 g0 crew (front ++ (p, o) ∷ back) v count handed given
         → ((m : ℕ) → p.number ≡ Some m → Linked Serves m p o w c)
         → Meets v w u → AddsOne given later c
-        → Going Serves n asked v0 h0 g0 crew (front ++ back) u count handed later
+        → Going Serves n asked idle v0 h0 g0 crew (front ++ back) u count handed later
     going_met front back p o v w u count handed given later c h linked met adds =
         let left : List (View B) = views_of front in
         let right : List (View B) = views_of back ++ crew in
@@ -113,6 +179,7 @@ module _ {B : Type 0} where
         let l : Linked Serves m p o w c = linked m own.0.1 in
         let up = linked_grows Serves grows m p o w c l in
         let s : Span = span_of Serves m p o w c l in
+        let on : (k : ℕ) → In k (numbers_of v) → In k (numbers_of u) = all_met v w u h.serving.number met in
         let serving : IsServing Serves n v0 (out_of front ++ o ∷ out_of back) v h.hs h.cs h.spans =
         subst (λ (zs : List (Option Origin)). IsServing Serves n v0 zs v h.hs h.cs h.spans) (out_append front ((p, o) ∷ back)) h.serving in
         record {
@@ -124,7 +191,13 @@ module _ {B : Type 0} where
           counted = h.counted;
           serving = subst (λ (zs : List (Option Origin)). IsServing Serves n v0 zs u h.hs (h.cs ++ c ∷ []) (h.spans ++ s ∷ [])) (sym (out_append front back))
               (one_met Serves grows n v0 (out_of front) (out_of back) o v u h.hs h.cs h.spans m p w c serving own.0.1 own.1 l met);
+          first = h.first;
+          since = λ k a. on k (h.since k a);
           workers = h.workers;
+          spared = h.spared;
+          are_workers = workers_span (numbers_of v0) (numbers_of u) h.spans s h.workers (workers_on (numbers_of v0) (numbers_of v) (numbers_of u) h.spans h.workers on h.are_workers)
+              (λ a. differ_apart (numbers_of v) (numbers_of w) m met.1.2 (h.are_workers.met m a).0 (number_in w m (ap (λ (q : View B). q.number) l.same ∙ own.0.1)));
+          hired = h.hired;
           few = h.few;
           covering = cover_met _ v0 _ v p w u n m h.spans (h.spans ++ s ∷ []) h.covering h.serving.number h.serving.grows own.0.1 own.0.2 own.0.3 l.same up met
               (within_front h.spans s) (λ x theirs. theirs) (λ i x at ge by. inl (within_last h.spans s i x by ge (at_within w.seen i x at)));
@@ -135,33 +208,34 @@ module _ {B : Type 0} where
 
     -- the last one of all that are being served
     pub going_last : (front : List (Job B)) (p : View B) (o : Option Origin) (v w u : View B) (count : ℕ) (handed : Option (List Origin)) (given later : Option (List Ending)) (c : Ending)
-        → Going Serves n asked v0 h0 g0 crew (front ++ (p, o) ∷ []) v count handed given
+        → Going Serves n asked idle v0 h0 g0 crew (front ++ (p, o) ∷ []) v count handed given
         → ((m : ℕ) → p.number ≡ Some m → Linked Serves m p o w c)
         → Meets v w u → AddsOne given later c
-        → Going Serves n asked v0 h0 g0 crew front u count handed later
+        → Going Serves n asked idle v0 h0 g0 crew front u count handed later
     going_last front p o v w u count handed given later c h linked met adds =
-        subst (λ (js : List (Job B)). Going Serves n asked v0 h0 g0 crew js u count handed later) (append-nil front) (going_met front [] p o v w u count handed given later c h linked met adds)
+        subst (λ (js : List (Job B)). Going Serves n asked idle v0 h0 g0 crew js u count handed later) (append-nil front) (going_met front [] p o v w u count handed given later c h linked met adds)
 
     -- the one at this place
     pub going_removed : {X : Type 0} (f : X → Job B) (xs : List X) (at : ℕ) (x : X) (v w u : View B) (count : ℕ) (handed : Option (List Origin)) (given later : Option (List Ending)) (c : Ending)
         → at < length xs → x ≡ slice_index_or xs at x
-        → Going Serves n asked v0 h0 g0 crew (map f xs) v count handed given
+        → Going Serves n asked idle v0 h0 g0 crew (map f xs) v count handed given
         → ((m : ℕ) → (f x).0.number ≡ Some m → Linked Serves m (f x).0 (f x).1 w c)
         → Meets v w u → AddsOne given later c
-        → Going Serves n asked v0 h0 g0 crew (map f (take at xs ++ drop (suc at) xs)) u count handed later
+        → Going Serves n asked idle v0 h0 g0 crew (map f (take at xs ++ drop (suc at) xs)) u count handed later
     going_removed f xs at x v w u count handed given later c lt is h linked met adds =
         let front : List (Job B) = map f (take at xs) in
         let back : List (Job B) = map f (drop (suc at) xs) in
         let parts : map f xs ≡ front ++ f x ∷ back = ap (map f) (parts_at xs at x lt is) ∙ map_append f (take at xs) (x ∷ drop (suc at) xs) in
-        subst (λ (js : List (Job B)). Going Serves n asked v0 h0 g0 crew js u count handed later) (sym (map_append f (take at xs) (drop (suc at) xs)))
-        (going_met front back (f x).0 (f x).1 v w u count handed given later c (subst (λ (js : List (Job B)). Going Serves n asked v0 h0 g0 crew js v count handed given) parts h) linked met adds)
+        subst (λ (js : List (Job B)). Going Serves n asked idle v0 h0 g0 crew js u count handed later) (sym (map_append f (take at xs) (drop (suc at) xs)))
+        (going_met front back (f x).0 (f x).1 v w u count handed given later c (subst (λ (js : List (Job B)). Going Serves n asked idle v0 h0 g0 crew js v count handed given) parts h) linked met adds)
 
     -- a connection was handed out, with a pass that was made of v
     pub going_begun : (jobs : List (Job B)) (p : View B) (o : Option Origin) (v u : View B) (count : ℕ) (handed later : Option (List Origin)) (given : Option (List Ending))
-        → Going Serves n asked v0 h0 g0 crew jobs v count handed given → u ≡ halved v → IsNew v p → HandsOut handed later o
-        → Going Serves n asked v0 h0 g0 crew (jobs ++ (p, o) ∷ []) u (count + 1) later given
+        → Going Serves n asked idle v0 h0 g0 crew jobs v count handed given → u ≡ halved v → IsNew v p → HandsOut handed later o
+        → Going Serves n asked idle v0 h0 g0 crew (jobs ++ (p, o) ∷ []) u (count + 1) later given
     going_begun jobs p o v u count handed later given h left new out =
         let s = h.serving in
+        let on : (k : ℕ) → In k (numbers_of v) → In k (numbers_of u) = all_same v u (ap (λ (q : View B). numbers_of q) left) in
         let after : views_of (jobs ++ (p, o) ∷ []) ++ crew ≡ views_of jobs ++ p ∷ crew = outs_parts jobs ((p, o) ∷ []) crew in
         let shared = shared_made v0 (views_of jobs) crew v u p h.shared (ap (λ (q : View B). q.share) left) (ap (λ (q : View B). q.share) new.1) in
         record {
@@ -173,7 +247,12 @@ module _ {B : Type 0} where
           counted = length-append h.hs (o ∷ []) ∙ ap (λ (k : ℕ). k + 1) h.counted;
           serving = subst (λ (zs : List (Option Origin)). IsServing Serves n v0 zs u (h.hs ++ o ∷ []) h.cs h.spans) (sym (out_append jobs ((p, o) ∷ [])))
               (one_begun Serves grows n v0 (out_of jobs) o v u h.hs h.cs h.spans s (ap (λ (q : View B). q.number) left) (ap (λ (q : View B). q.base) left) (ap (λ (q : View B). q.seen) left) (ap (λ (q : View B). q.met) left));
+          first = h.first;
+          since = λ k a. on k (h.since k a);
           workers = h.workers;
+          spared = h.spared;
+          are_workers = workers_on (numbers_of v0) (numbers_of v) (numbers_of u) h.spans h.workers on h.are_workers;
+          hired = h.hired;
           few = h.few;
           covering = cover_same _ v0 v u h.spans h.covering (ap (λ (q : View B). numbers_of q) left) (ap (λ (q : View B). q.seen) left)
               (shared_two v0 (views_of jobs) crew v u p shared (ap (λ (q : View B). q.share) new.1 ∙ sym (ap (λ (q : View B). q.share) left)));
@@ -183,14 +262,15 @@ module _ {B : Type 0} where
 
     -- the pass v itself served a connection
     pub going_here : (jobs : List (Job B)) (o : Option Origin) (v z : View B) (count : ℕ) (handed handed_later : Option (List Origin)) (given given_later : Option (List Ending)) (c : Ending)
-        → Going Serves n asked v0 h0 g0 crew jobs v count handed given
+        → Going Serves n asked idle v0 h0 g0 crew jobs v count handed given
         → ((m : ℕ) → v.number ≡ Some m → Linked Serves m v o z c)
         → HandsOut handed handed_later o → AddsOne given given_later c
-        → Going Serves n asked v0 h0 g0 crew jobs z (count + 1) handed_later given_later
+        → Going Serves n asked idle v0 h0 g0 crew jobs z (count + 1) handed_later given_later
     going_here jobs o v z count handed handed_later given given_later c h linked out adds =
         let s = h.serving in
         let l : Linked Serves n v o z c = linked n s.number in
         let up = linked_grows Serves grows n v o z c l in
+        let on : (k : ℕ) → In k (numbers_of v) → In k (numbers_of z) = all_same v z (ap (λ (q : View B). numbers_of q) l.same) in
         let spans : List Span = h.spans ++ span_of Serves n v o z c l ∷ [] in
         record {
           hs = h.hs ++ o ∷ [];
@@ -201,7 +281,13 @@ module _ {B : Type 0} where
           counted = length-append h.hs (o ∷ []) ∙ ap (λ (k : ℕ). k + 1) h.counted;
           serving = subst (λ (zs : List (Option Origin)). IsServing Serves n v0 zs z (h.hs ++ o ∷ []) (h.cs ++ c ∷ []) spans) (append-nil (out_of jobs))
               (one_here Serves grows n v0 (out_of jobs) o v z h.hs h.cs h.spans c s l);
+          first = h.first;
+          since = λ k a. on k (h.since k a);
           workers = h.workers;
+          spared = h.spared;
+          are_workers = workers_span (numbers_of v0) (numbers_of z) h.spans (span_of Serves n v o z c l) h.workers (workers_on (numbers_of v0) (numbers_of v) (numbers_of z) h.spans h.workers on h.are_workers)
+              (λ a. (h.are_workers.met n a).1 (number_in v0 n h.first));
+          hired = h.hired;
           few = h.few;
           covering = cover_here _ v0 v z n h.spans (span_of Serves n v o z c l) h.covering s.number l.same up l.quiet refl refl refl;
           begun = h.begun;
@@ -210,12 +296,13 @@ module _ {B : Type 0} where
 
     -- the pass v itself took a worker's turns
     pub going_worked : (jobs : List (Job B)) (v z : View B) (count : ℕ) (handed : Option (List Origin)) (given : Option (List Ending))
-        → Going Serves n asked v0 h0 g0 crew jobs v count handed given
-        → 0 < asked → ((m : ℕ) → v.number ≡ Some m → TakesTurns m v z)
-        → Going Serves n asked v0 h0 g0 crew jobs z count handed given
+        → Going Serves n asked idle v0 h0 g0 crew jobs v count handed given
+        → 0 < idle → ((m : ℕ) → v.number ≡ Some m → TakesTurns m v z)
+        → Going Serves n asked idle v0 h0 g0 crew jobs z count handed given
     going_worked jobs v z count handed given h some turns =
         let s = h.serving in
         let l = turns n s.number in
+        let on : (k : ℕ) → In k (numbers_of v) → In k (numbers_of z) = all_same v z (ap (λ (q : View B). numbers_of q) l.same) in
         record {
           hs = h.hs;
           cs = h.cs;
@@ -224,17 +311,22 @@ module _ {B : Type 0} where
           given_back = h.given_back;
           counted = h.counted;
           serving = one_worked Serves grows n v0 (out_of jobs) v z h.hs h.cs h.spans s l.same l.grows;
+          first = h.first;
+          since = λ k a. on k (h.since k a);
           workers = h.workers;
+          spared = h.spared;
+          are_workers = workers_on (numbers_of v0) (numbers_of v) (numbers_of z) h.spans h.workers on h.are_workers;
+          hired = h.hired;
           few = h.few;
-          covering = cover_works _ v0 v z n h.spans h.covering s.number l (λ x work by. (work, inr (ap (λ (k : ℕ). let o : Option ℕ = Some k in o) (sym by), some)));
+          covering = cover_works _ v0 v z n h.spans h.covering s.number l (λ x work by. (work, inr (inr (ap (λ (k : ℕ). let o : Option ℕ = Some k in o) (sym by), some))));
           begun = h.begun;
           shared = shared_same v0 v z (views_of jobs ++ crew) h.shared (ap (λ (q : View B). q.share) l.same);
         }
 
     -- a worker was hired, with a pass that was made of v
     pub going_hired : (jobs : List (Job B)) (p v u : View B) (count : ℕ) (handed : Option (List Origin)) (given : Option (List Ending))
-        → Going Serves n asked v0 h0 g0 crew jobs v count handed given → u ≡ halved v → IsNew v p
-        → Going Serves n (asked + 1) v0 h0 g0 (crew ++ p ∷ []) jobs u count handed given
+        → Going Serves n asked idle v0 h0 g0 crew jobs v count handed given → u ≡ halved v → IsNew v p
+        → Going Serves n (asked + 1) idle v0 h0 g0 (crew ++ p ∷ []) jobs u count handed given
     going_hired jobs p v u count handed given h left new =
         let s = h.serving in
         let outs : List (View B) = views_of jobs ++ crew in
@@ -242,7 +334,7 @@ module _ {B : Type 0} where
         let after : views_of jobs ++ (crew ++ p ∷ []) ≡ outs ++ p ∷ [] = sym (append_assoc (views_of jobs) crew (p ∷ [])) in
         let shared = shared_made v0 outs [] v (halved v) p (subst (λ (vs : List (View B)). IsShared v0 v vs) (sym whole) h.shared) refl (ap (λ (q : View B). q.share) new.1) in
         let more = length-append crew (p ∷ []) in
-        subst (λ (q : View B). Going Serves n (asked + 1) v0 h0 g0 (crew ++ p ∷ []) jobs q count handed given) (sym left) record {
+        subst (λ (q : View B). Going Serves n (asked + 1) idle v0 h0 g0 (crew ++ p ∷ []) jobs q count handed given) (sym left) record {
           hs = h.hs;
           cs = h.cs;
           spans = h.spans;
@@ -260,16 +352,21 @@ module _ {B : Type 0} where
             count = s.count;
             each = s.each;
           };
+          first = h.first;
+          since = h.since;
           workers = h.workers;
-          few = (let few = h.few in omega arith);
-          covering = cover_same _ v0 v (halved v) h.spans (cover_more _ v0 _ v h.spans h.covering (asked_more (Some n) asked h.workers)) refl refl (shared_two v0 outs [] v (halved v) p shared (ap (λ (q : View B). q.share) new.1));
+          spared = h.spared;
+          are_workers = workers_on (numbers_of v0) (numbers_of v) (numbers_of (halved v)) h.spans h.workers (λ k a. a) h.are_workers;
+          hired = (let hired = h.hired in omega arith);
+          few = h.few;
+          covering = cover_same _ v0 v (halved v) h.spans h.covering refl refl (shared_two v0 outs [] v (halved v) p shared (ap (λ (q : View B). q.share) new.1));
           begun = subst (λ (vs : List (View B)). AllBegun v0 vs) (sym after) (begun_put v0 outs [] p (is_begun h.spans jobs v p h.hs h.cs s new) (subst (λ (vs : List (View B)). AllBegun v0 vs) (sym whole) h.begun));
           shared = subst (λ (vs : List (View B)). IsShared v0 (halved v) vs) (sym after) shared;
         }
 
     -- a worker that was asked for has no pass
     pub going_idle : (jobs : List (Job B)) (v : View B) (count : ℕ) (handed : Option (List Origin)) (given : Option (List Ending))
-        → Going Serves n asked v0 h0 g0 crew jobs v count handed given → Going Serves n (asked + 1) v0 h0 g0 crew jobs v count handed given
+        → Going Serves n asked idle v0 h0 g0 crew jobs v count handed given → Going Serves n (asked + 1) (idle + 1) v0 h0 g0 crew jobs v count handed given
     going_idle jobs v count handed given h = record {
       hs = h.hs;
       cs = h.cs;
@@ -278,19 +375,24 @@ module _ {B : Type 0} where
       given_back = h.given_back;
       counted = h.counted;
       serving = h.serving;
+      first = h.first;
+      since = h.since;
       workers = h.workers;
+      spared = h.spared;
+      are_workers = h.are_workers;
+      hired = (let hired = h.hired in omega arith);
       few = (let few = h.few in omega arith);
-      covering = cover_more _ v0 _ v h.spans h.covering (asked_more (Some n) asked h.workers);
+      covering = cover_more _ v0 _ v h.spans h.covering (idle_more (Some n) idle h.workers h.spared);
       begun = h.begun;
       shared = h.shared;
     }
 
     -- the last worker was dismissed, and its pass was met into v
     pub going_dismissed : (jobs : List (Job B)) (p v w u : View B) (count : ℕ) (handed : Option (List Origin)) (given : Option (List Ending))
-        → Going Serves n asked v0 h0 g0 (crew ++ p ∷ []) jobs v count handed given
+        → Going Serves n asked idle v0 h0 g0 (crew ++ p ∷ []) jobs v count handed given
         → ((m : ℕ) → p.number ≡ Some m → TakesTurns m p w)
         → Meets v w u
-        → Going Serves n asked v0 h0 g0 crew jobs u count handed given
+        → Going Serves n asked idle v0 h0 g0 crew jobs u count handed given
     going_dismissed jobs p v w u count handed given h works met =
         let outs : List (View B) = views_of jobs ++ crew in
         let whole : outs ++ [] ≡ outs = append-nil outs in
@@ -299,6 +401,9 @@ module _ {B : Type 0} where
         let own = begun.0 in
         let m : ℕ = own.0.0 in
         let l = works m own.0.1 in
+        let on : (k : ℕ) → In k (numbers_of v) → In k (numbers_of u) = all_met v w u h.serving.number met in
+        let here : In m (numbers_of w) = number_in w m (ap (λ (q : View B). q.number) l.same ∙ own.0.1) in
+        let numbers : numbers_of u ≡ numbers_of v ++ numbers_of w = ap (λ (q : View B). numbers_of q) met.0 ∙ numbers_met v w n h.serving.number in
         record {
           hs = h.hs;
           cs = h.cs;
@@ -307,17 +412,60 @@ module _ {B : Type 0} where
           given_back = h.given_back;
           counted = h.counted;
           serving = one_joins Serves grows n v0 (out_of jobs) v u h.hs h.cs h.spans w h.serving met;
+          first = h.first;
+          since = λ k a. on k (h.since k a);
           workers = h.workers ++ m ∷ [];
-          few = (let few = h.few in let one = length-append crew (p ∷ []) in let other = length-append h.workers (m ∷ []) in omega arith);
-          covering = cover_met _ v0 _ v p w u n m h.spans h.spans h.covering h.serving.number h.serving.grows own.0.1 own.0.2 own.0.3 l.same l.grows met (λ i x d. d) (worked_more (Some n) asked h.workers m)
+          spared = h.spared;
+          are_workers = workers_more (numbers_of v0) (numbers_of v) (numbers_of u) (length v.seen) h.spans h.workers m h.are_workers h.since on h.serving.past
+              (subst (λ (ns : List ℕ). In m ns) (sym numbers) (in_right m (numbers_of v) (numbers_of w) here)) (λ a. differ_apart (numbers_of v) (numbers_of w) m met.1.2 a here);
+          hired = (let hired = h.hired in let one = length-append crew (p ∷ []) in let other = length-append h.workers (m ∷ []) in omega arith);
+          few = h.few;
+          covering = cover_met _ v0 _ v p w u n m h.spans h.spans h.covering h.serving.number h.serving.grows own.0.1 own.0.2 own.0.3 l.same l.grows met (λ i x d. d) (worked_more (Some n) idle h.workers h.spared m)
               (λ i x at ge by. inr (l.work i x at ge by, inl (in_last x.by m h.workers by)));
           begun = subst (λ (vs : List (View B)). AllBegun v0 vs) whole begun.1;
           shared = subst (λ (vs : List (View B)). IsShared v0 u vs) whole
               (shared_met v0 outs [] v u p w (subst (λ (vs : List (View B)). IsShared v0 v vs) before h.shared) (ap (λ (q : View B). q.share) l.same) (ap (λ (q : View B). q.share) met.0));
         }
 
-  module _ (Serves : Service) (n asked : ℕ) (v0 : View B) (h0 : Option (List Origin)) (g0 : Option (List Ending)) where
-    pub going_starts : v0.number ≡ Some n → Going Serves n 0 v0 h0 g0 [] [] v0 0 h0 g0
+    -- the thread of the last worker wasn't started, and its pass was met into v
+    pub going_spared : (jobs : List (Job B)) (p v w u : View B) (count : ℕ) (handed : Option (List Origin)) (given : Option (List Ending))
+        → Going Serves n asked idle v0 h0 g0 (crew ++ p ∷ []) jobs v count handed given
+        → ((m : ℕ) → p.number ≡ Some m → TakesTurns m p w)
+        → Meets v w u
+        → Going Serves n asked (idle + 1) v0 h0 g0 crew jobs u count handed given
+    going_spared jobs p v w u count handed given h works met =
+        let outs : List (View B) = views_of jobs ++ crew in
+        let whole : outs ++ [] ≡ outs = append-nil outs in
+        let before : views_of jobs ++ (crew ++ p ∷ []) ≡ outs ++ p ∷ [] = sym (append_assoc (views_of jobs) crew (p ∷ [])) in
+        let begun = begun_drop v0 outs [] p (subst (λ (vs : List (View B)). AllBegun v0 vs) before h.begun) in
+        let own = begun.0 in
+        let m : ℕ = own.0.0 in
+        let l = works m own.0.1 in
+        let on : (k : ℕ) → In k (numbers_of v) → In k (numbers_of u) = all_met v w u h.serving.number met in
+        record {
+          hs = h.hs;
+          cs = h.cs;
+          spans = h.spans;
+          handed_out = h.handed_out;
+          given_back = h.given_back;
+          counted = h.counted;
+          serving = one_joins Serves grows n v0 (out_of jobs) v u h.hs h.cs h.spans w h.serving met;
+          first = h.first;
+          since = λ k a. on k (h.since k a);
+          workers = h.workers;
+          spared = h.spared ++ m ∷ [];
+          are_workers = workers_on (numbers_of v0) (numbers_of v) (numbers_of u) h.spans h.workers on h.are_workers;
+          hired = (let hired = h.hired in let one = length-append crew (p ∷ []) in omega arith);
+          few = (let few = h.few in let one = length-append h.spared (m ∷ []) in omega arith);
+          covering = cover_met _ v0 _ v p w u n m h.spans h.spans h.covering h.serving.number h.serving.grows own.0.1 own.0.2 own.0.3 l.same l.grows met (λ i x d. d) (spared_more (Some n) idle h.workers h.spared m)
+              (λ i x at ge by. inr (l.work i x at ge by, inr (inl (in_last x.by m h.spared by))));
+          begun = subst (λ (vs : List (View B)). AllBegun v0 vs) whole begun.1;
+          shared = subst (λ (vs : List (View B)). IsShared v0 u vs) whole
+              (shared_met v0 outs [] v u p w (subst (λ (vs : List (View B)). IsShared v0 v vs) before h.shared) (ap (λ (q : View B). q.share) l.same) (ap (λ (q : View B). q.share) met.0));
+        }
+
+  module _ (Serves : Service) (n asked idle : ℕ) (v0 : View B) (h0 : Option (List Origin)) (g0 : Option (List Ending)) where
+    pub going_starts : v0.number ≡ Some n → Going Serves n 0 0 v0 h0 g0 [] [] v0 0 h0 g0
     going_starts number = record {
       hs = [];
       cs = [];
@@ -336,7 +484,12 @@ module _ {B : Type 0} where
         count = refl;
         each = λ x a. absurd a;
       };
+      first = number;
+      since = λ k a. a;
       workers = [];
+      spared = [];
+      are_workers = record { met = λ m a. absurd a; differ = tt; serve_none = tt };
+      hired = refl;
       few = omega arith;
       covering = cover_starts _ v0;
       begun = tt;
@@ -344,7 +497,7 @@ module _ {B : Type 0} where
     }
 
     pub going_ends : (v : View B) (count : ℕ) (handed : Option (List Origin)) (given : Option (List Ending)) → v0.number ≡ Some n
-        → Going Serves n asked v0 h0 g0 [] [] v count handed given → ServedAll Serves asked v0 v count h0 handed g0 given
+        → Going Serves n asked idle v0 h0 g0 [] [] v count handed given → ServedAll Serves asked idle v0 v count h0 handed g0 given
     going_ends v count handed given number h =
         let s = h.serving in
         let all : length h.hs ≡ length h.cs + 0 = s.count in
@@ -364,10 +517,13 @@ module _ {B : Type 0} where
           apart = s.apart;
           met = past_of (numbers_of v) (length v.seen) h.spans s.past;
           workers = h.workers;
-          few = (let few = h.few in omega arith);
+          are_workers = h.are_workers;
+          hired = (let hired = h.hired in omega arith);
+          spared = h.spared;
+          few = h.few;
           alone = λ a0.
               let a = shared_ends v0 v h.shared a0 in
-              (a, cover_all _ v0 v h.spans (cover_more _ v0 (IsOfWorker v0.number asked h.workers) v h.spans h.covering (renamed asked h.workers (Some n) v0.number (sym number))) s.grows a0 a);
+              (a, cover_all _ v0 v h.spans (cover_more _ v0 (IsOfWorker v0.number idle h.workers h.spared) v h.spans h.covering (renamed idle h.workers h.spared (Some n) v0.number (sym number))) s.grows a0 a);
         }
 
 -- where nothing is known of a handle but a law, it holds of what it may be

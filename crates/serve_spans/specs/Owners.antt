@@ -34,10 +34,10 @@ abbrev pub IsWorkIf : Option Item → Type 0
 IsWorkIf None = Unit {0}
 IsWorkIf (Some i) = IsWork i
 
--- The item is a worker's: of a pass of one of these numbers; or of the pass of that one number, where so many workers were asked for that
--- there is one.
-abbrev pub IsOfWorker : Option ℕ → ℕ → List ℕ → Logged → Type 0
-IsOfWorker number asked workers x = IsWork x.item × (In x.by workers ⊎ ((number ≡ Some x.by) × (0 < asked)))
+-- The item is a worker's: of a pass of one of the first numbers, each of which is a worker's that has a thread; or of one of the second, each of
+-- which is one's whose thread wasn't started; or of the pass of that one number, where so many have no thread that there is one.
+abbrev pub IsOfWorker : Option ℕ → ℕ → List ℕ → List ℕ → Logged → Type 0
+IsOfWorker number idle workers spared x = IsWork x.item × (In x.by workers ⊎ In x.by spared ⊎ ((number ≡ Some x.by) × (0 < idle)))
 
 -- each item of the pass m behind p is a worker's
 abbrev pub AreWork : ℕ → List Logged → List Logged → Type 0

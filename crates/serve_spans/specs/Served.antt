@@ -1,12 +1,13 @@
 -- All connections that were handed out were served and given back.
-use Rattle.std.specs.Prelude.{ℕ, ◌≡◌, ◌≤◌, ◌*◌, ◌^◌, ◌⊎◌, List, [], ◌∷◌, ◌++◌, length, map, Option, Some}
+use Rattle.std.specs.Prelude.{ℕ, ◌≡◌, ◌≤◌, ◌*◌, ◌+◌, ◌^◌, ◌⊎◌, List, [], ◌∷◌, ◌++◌, length, map, Option, Some}
 use mathlib.Core.List.{IsPrefix}
 use Rattle.api_calls.specs.Item.{Logged}
 use Rattle.edge_io.specs.Connections.{Origin, Ending}
+use Rattle.turn_cell.specs.Numbers.{In, Differ}
 use Rattle.turn_cell.specs.Views.{IsAlone, numbers_of}
 use Rattle.turn_cell.specs.declared.view.Share.{Share}
 use Rattle.turn_cell.specs.declared.view.View.{View}
-use Rattle.serve_spans.specs.Spans.{Service, Span, AllServed, AreApart, AreLate, AreOf}
+use Rattle.serve_spans.specs.Spans.{Service, Span, AllServed, AreApart, AreLate, AreNotOf, AreOf}
 use Rattle.serve_spans.specs.Owners.{At, Within, IsOfWorker}
 
 abbrev pub Among : {X : Type 0} → X → List X → Type 0
@@ -28,8 +29,15 @@ AddsAll before endings now = (xs : List Ending) → before ≡ Some xs → now �
 abbrev pub IsSamePart : Share → Share → Type 0
 IsSamePart a b = a.top * 2 ^ b.halves ≡ b.top * 2 ^ a.halves
 
--- So many connections were handed out, and all were given back, with so many workers asked for beside them. The pass was v0, and is v.
-pub record ServedAll {B : Type 0} (Serves : Service) (asked : ℕ) (v0 v : View B) (count : ℕ) (h0 handed : Option (List Origin)) (g0 given : Option (List Ending)) : Type 0 where
+-- Each of these numbers is that of a pass of its own, which came to those that are `now` behind those of `before`, and served no connection.
+pub record AreWorkers (before now : List ℕ) (spans : List Span) (workers : List ℕ) : Type 0 where
+  pub met : (m : ℕ) → In m workers → In m now × (¬ In m before)
+  pub differ : Differ workers
+  pub serve_none : AreNotOf workers spans
+
+-- So many connections were handed out, and all were given back. So many workers were asked for beside them, of whom so many have no thread. The
+-- pass was v0, and is v.
+pub record ServedAll {B : Type 0} (Serves : Service) (asked idle : ℕ) (v0 v : View B) (count : ℕ) (h0 handed : Option (List Origin)) (g0 given : Option (List Ending)) : Type 0 where
   pub origins : List (Option Origin)
   pub endings : List Ending
   pub spans : List Span
@@ -47,9 +55,13 @@ pub record ServedAll {B : Type 0} (Serves : Service) (asked : ℕ) (v0 v : View 
   pub apart : AreApart spans
   -- it was served by this pass, or by one that was met into it
   pub met : AreOf (numbers_of v) spans
-  -- the numbers of the workers' passes, which are no more than were asked for
+  -- the numbers of the passes of the workers that have a thread: each has its own
   pub workers : List ℕ
-  pub few : length workers ≤ asked
+  pub are_workers : AreWorkers (numbers_of v0) (numbers_of v) spans workers
+  pub hired : length workers + idle ≡ asked
+  -- and of the passes that were made for workers whose thread wasn't started
+  pub spared : List ℕ
+  pub few : length spared ≤ idle
   -- where the pass was alone it is alone again, and all that is new stands in a span of its pass, or is a worker's: of one of these passes, or of
   -- this pass, which takes the turns of workers without a thread
-  pub alone : IsAlone v0 → IsAlone v × ((i : ℕ) (x : Logged) → At v.seen i x → length v0.seen ≤ i → Within spans i x ⊎ IsOfWorker v0.number asked workers x)
+  pub alone : IsAlone v0 → IsAlone v × ((i : ℕ) (x : Logged) → At v.seen i x → length v0.seen ≤ i → Within spans i x ⊎ IsOfWorker v0.number idle workers spared x)

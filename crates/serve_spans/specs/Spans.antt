@@ -64,3 +64,8 @@ AreLate k (s ∷ ss) = (k ≤ s.from) × AreLate k ss
 abbrev pub AreOf : List ℕ → List Span → Type 0
 AreOf ns [] = Unit {0}
 AreOf ns (s ∷ ss) = In s.number ns × AreOf ns ss
+
+-- the number of none is one of these
+abbrev pub AreNotOf : List ℕ → List Span → Type 0
+AreNotOf ns [] = Unit {0}
+AreNotOf ns (s ∷ ss) = (¬ In s.number ns) × AreNotOf ns ss

@@ -6,6 +6,7 @@ ghost use Rattle.turn_cell.specs.Turns.{IsNew, Meets};
 ghost use Rattle.turn_cell.specs.Views.{opening_view, halved};
 ghost use Rattle.shared_api.specs.Passes.{IsOf};
 
+use crate::bell::Bell;
 use crate::cell::{CoreBase, CoreCell};
 use api_calls::Versions;
 use api_core::Core;
@@ -27,6 +28,7 @@ pub struct SharedApi<V: Versions + Drop> {
     pub(crate) versions: Arc<V>,
     pub(crate) limits: Limits,
     pub(crate) boot: u64,
+    pub(crate) bell: Bell,
 }
 
 impl<V: Versions + Drop> Model for SharedApi<V> {
@@ -98,6 +100,7 @@ impl<V: Versions + Drop> SharedApi<V> {
             versions,
             limits,
             boot,
+            bell: Bell::new(),
         };
         let pass = Pass {
             turn: pass,
@@ -151,6 +154,12 @@ impl<V: Versions + Drop> SharedApi<V> {
         ensures { result.now ≡ self.now.base.versions }
     {
         &*self.versions
+    }
+
+    /// What wakes workers that rest: each `set_versions` that isn't refused and each `start_migration` that starts one rings it
+    /// behind its turn.
+    pub fn bell(&self) -> &Bell {
+        &self.bell
     }
 
     // What no call changes, lent.

@@ -2,12 +2,14 @@
 //!
 //! The crate's one contract is `CallsOn`: what a pass had seen is a beginning of the list at which its call is decided,
 //! the list goes on by the one item that the call enters, if any, and the answer is that of the one-thread server at that
-//! list. Want of memory and a failing tool enter nothing. Objects are read, converted and written outside the turn, by
-//! `call_texts`. It knows nothing of connections, requests or schemas.
+//! list. Want of memory and a failing tool enter nothing. A call that may give workers something to do rings a bell for
+//! them. Objects are read, converted and written outside the turn, by `call_texts`. It knows nothing of connections,
+//! requests or schemas.
 #![tactic(auto)]
 
 // The core as the turn keeps it, and what a caller holds.
 mod api;
+mod bell;
 mod cell;
 
 // The turns.
@@ -37,5 +39,6 @@ mod trim;
 mod worker;
 
 pub use api::{Pass, SharedApi};
+pub use bell::Bell;
 pub use cell::{CoreBase, CoreCell};
 pub use step::{TurnStep, WorkFault};

@@ -78,6 +78,7 @@ impl<V: Versions + Drop> SharedApi<V> {
             }
         };
         let stored = set(rt, &self.turn, &mut pass.turn, flags);
+        self.bell.ring();
         Ok(showing(&lent, &flags, &stored, text))
     }
 }

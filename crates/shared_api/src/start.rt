@@ -15,6 +15,7 @@ ghost use Rattle.shared_api.specs.inner.StartTurns.{BeginsStart};
 ghost use Rattle.shared_api.specs.declared.cell.CoreBase.{CoreBase};
 
 use crate::api::{Pass, SharedApi};
+use crate::bell::Bell;
 use crate::cell::{CoreBase, CoreCell};
 use crate::enter::finish;
 use crate::settle::settle;
@@ -63,6 +64,13 @@ fn start<V: Versions + Drop, R: Wait>(
     end
 }
 
+// Wakes the workers, where a migration was started.
+fn tell(bell: &Bell, end: &StartEnd) {
+    if is_started(end) {
+        bell.ring();
+    }
+}
+
 impl<V: Versions + Drop> SharedApi<V> {
     /// Starts a migration of all objects to the storage version, as a body says (storagemigration.k8s.io/v1alpha1,
     /// StorageVersionMigration): 201 with its text. Refused with `BadRequest` or `Invalid` where the body starts none, then
@@ -88,6 +96,7 @@ impl<V: Versions + Drop> SharedApi<V> {
             }
         };
         let end = start(rt, &self.turn, &mut pass.turn, name, &copy);
+        tell(&self.bell, &end);
         plain(started(&lent, end, copy, texts))
     }
 }

@@ -8,7 +8,7 @@ use api_calls::{NoTool, Tools, Versions};
 use edge_io::{Clock, Ears, FixedClock, MemConnection, MemEars, MemSink, MemSource};
 use kj_value::{NoMemory, Stamp};
 use kube_meta::Limits;
-use serve_many::{ServeEnd, serve_all};
+use serve_many::{ServeEnd, Served, serve_all};
 use shared_api::{Pass, SharedApi};
 use std::alloc::Global;
 use std::process::Abort;
@@ -77,7 +77,8 @@ fn two<R: Abort>(rt: &R, alloc: Global) -> MemEars {
     MemEars::new(alloc, connections, Vec::new(alloc)).expect(rt, "ears")
 }
 
-// How serving two connections ends, with a worker. Nothing is said of it, so that the clauses of that end here.
+// How serving two connections ends, with a worker, and how often the bell was rung. Nothing is said of it, so that the clauses of that
+// end here.
 fn end_of<
     'x,
     V: Versions + Drop + Send + Sync,
@@ -93,12 +94,13 @@ fn end_of<
     tools: &mut M,
     ears: &mut A,
     clock: &'x C,
-) -> ServeEnd
+) -> (Served, u64)
 where
     V::Tool: Send,
     requires { IsOf V.meaning api.now pass.old }
 {
-    serve_all(rt, alloc, api, pass, tools, ears, clock, 1, Some(2))
+    let served = serve_all(rt, alloc, api, pass, tools, ears, clock, 1, Some(2));
+    (served, api.bell().rung())
 }
 
 // The same, over the small definition.
@@ -106,7 +108,7 @@ fn ended<A: Ears + Send, R: Threads + Wait + time::Clock + Sync>(
     rt: &R,
     alloc: Global,
     ears: &mut A,
-) -> Result<ServeEnd, NoMemory> {
+) -> Result<(Served, u64), NoMemory> {
     let (api, mut pass) = SharedApi::open(alloc, TwoNames::new(alloc)?, NoTool, ROOM, 0)?;
     let clock = FixedClock::new(STAMP);
     let end = end_of(rt, alloc, &api, &mut pass, &mut NoneLeft, ears, &clock);
@@ -119,7 +121,10 @@ fn ended<A: Ears + Send, R: Threads + Wait + time::Clock + Sync>(
 fn no_pass_but_the_first(rt: HostRuntime) {
     let alloc = rt.alloc();
     let mut ears = two(&rt, alloc);
-    let end = ended(&rt, alloc, &mut ears).expect(&rt, "an end");
-    assert!(rt; end == ServeEnd::Done);
+    let (served, rung) = ended(&rt, alloc, &mut ears).expect(&rt, "an end");
+    let end = ServeEnd::Done;
+    assert!(rt; served == Served { end, idle: 1 });
+    // Flags were set, a migration was started, and the workers were dismissed.
+    assert!(rt; rung == 3);
     assert!(rt; ears.last_written() == Some(SHOWN));
 }

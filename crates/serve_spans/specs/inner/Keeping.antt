@@ -9,7 +9,7 @@ use Rattle.turn_cell.specs.Views.{IsAlone, numbers_of}
 use Rattle.turn_cell.specs.declared.view.View.{View}
 use Rattle.serve_spans.specs.Spans.{Service, Span, AllServed, AreApart, AreLate}
 use Rattle.serve_spans.specs.Owners.{At, Within, IsOfWorker}
-use Rattle.serve_spans.specs.Served.{Among, origins_of, HandsOutAll, AddsAll}
+use Rattle.serve_spans.specs.Served.{Among, origins_of, HandsOutAll, AddsAll, AreWorkers}
 
 -- the number of each span is one of these, and each ends by k
 abbrev pub ArePast : List ℕ → ℕ → List Span → Type 0
@@ -72,8 +72,8 @@ module _ {B : Type 0} where
   AllBegun v0 [] = Unit {0}
   AllBegun v0 (p ∷ ps) = IsBegun v0 p × AllBegun v0 ps
 
--- So many connections were handed out since the pass was v0, whose number is n, and so many workers were asked for. `crew` are the passes of workers that work, and `jobs` the connections that are still being served. The pass is v
-pub record Going {B : Type 0} (Serves : Service) (n asked : ℕ) (v0 : View B) (h0 : Option (List Origin)) (g0 : Option (List Ending))
+-- So many connections were handed out since the pass was v0, whose number is n. So many workers were asked for, of whom so many have no thread. `crew` are the passes of workers that work, and `jobs` the connections that are still being served. The pass is v
+pub record Going {B : Type 0} (Serves : Service) (n asked idle : ℕ) (v0 : View B) (h0 : Option (List Origin)) (g0 : Option (List Ending))
     (crew : List (View B)) (jobs : List (Job B)) (v : View B) (count : ℕ) (handed : Option (List Origin)) (given : Option (List Ending)) : Type 0 where
   pub hs : List (Option Origin)
   pub cs : List Ending
@@ -82,9 +82,15 @@ pub record Going {B : Type 0} (Serves : Service) (n asked : ℕ) (v0 : View B) (
   pub given_back : AddsAll g0 cs given
   pub counted : length hs ≡ count
   pub serving : IsServing Serves n v0 (out_of jobs) v hs cs spans
-  -- the numbers of the passes of workers that are over
+  -- v has the number of v0, and all those that were met into it
+  pub first : v0.number ≡ Some n
+  pub since : (m : ℕ) → In m (numbers_of v0) → In m (numbers_of v)
+  -- the numbers of the passes of workers that are over, and of those whose thread wasn't started
   pub workers : List ℕ
-  pub few : length workers + length crew ≤ asked
-  pub covering : IsCovering (IsOfWorker (Some n) asked workers) v0 v spans
+  pub spared : List ℕ
+  pub are_workers : AreWorkers (numbers_of v0) (numbers_of v) spans workers
+  pub hired : (length workers + length crew) + idle ≡ asked
+  pub few : length spared ≤ idle
+  pub covering : IsCovering (IsOfWorker (Some n) idle workers spared) v0 v spans
   pub begun : AllBegun v0 (views_of jobs ++ crew)
   pub shared : IsShared v0 v (views_of jobs ++ crew)

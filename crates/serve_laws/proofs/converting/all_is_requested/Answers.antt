@@ -3,4 +3,4 @@ use Rattle.serve_laws.proofs.Moving.{none-works}
 use Rattle.serve_laws.proofs.converting.all_is_requested.Goals as goal
 
 pub returns : goal.returns
-returns g = λ crd hub start count h0 handed g0 given s i x at. none-works s.answered.spans (Some 0) s.answered.workers i x s.answered.few (s.answered.owned i x at)
+returns g = λ crd hub start count h0 handed g0 given s i x at. none-works s.answered.spans (Some 0) s.answered.idle s.answered.workers s.answered.spared i x s.answered.hired s.answered.few (s.answered.owned i x at)

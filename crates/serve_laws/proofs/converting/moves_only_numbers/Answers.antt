@@ -5,4 +5,4 @@ use Rattle.serve_laws.proofs.converting.moves_only_numbers.Goals as goal
 
 pub returns : goal.returns
 returns g = λ crd hub start asked count h0 handed g0 given s before after x is outside.
-    moves-in (converted_meaning s.definition) s.answered.log before after s.answered.spans x is outside (Some 0) asked s.answered.workers s.answered.owned
+    moves-in (converted_meaning s.definition) s.answered.log before after s.answered.spans x is outside (Some 0) s.answered.idle s.answered.workers s.answered.spared s.answered.owned

@@ -11,12 +11,12 @@ loop-init g c = record {
   room = c.requires.room.0;
   capacity = c.requires.room.1;
   later = omega arith;
-  going = λ n asked v0 h0 g0 crew few start. (0, left_first c.args.connections, start);
+  going = λ n asked v0 h0 g0 crew start. (0, left_first c.args.connections, start);
 }
 
 pub returns-then-is_done-clause-going : goal.returns-then-is_done-clause-going
-returns-then-is_done-clause-going g c n asked v0 h0 g0 crew few start =
-    let h = c.loop.invariant.going n asked v0 h0 g0 crew few start in
+returns-then-is_done-clause-going g c n asked v0 h0 g0 crew start =
+    let h = c.loop.invariant.going n asked v0 h0 g0 crew start in
     let none : c.loop.left ≡ Some 0 = search rules in
     (h.0, left_done c.args.connections c.loop.left h.0 h.1 none, h.2)
 
@@ -25,10 +25,10 @@ returns-then-is_err-clause-fault g c unfinished =
     rose_since (g.A.Ears.faults c.args.ears.now) (g.A.Ears.faults c.loop.ears) (g.A.Ears.faults c.accept_one.new.ears) c.loop.invariant.later (search rules)
 
 pub returns-then-is_err-clause-going : goal.returns-then-is_err-clause-going
-returns-then-is_err-clause-going g c n asked v0 h0 g0 crew few start =
-    let h = c.loop.invariant.going n asked v0 h0 g0 crew few start in
+returns-then-is_err-clause-going g c n asked v0 h0 g0 crew start =
+    let h = c.loop.invariant.going n asked v0 h0 g0 crew start in
     let some : c.loop.left ≢ Some 0 = search rules in
-    let next = c.accept_one.ensures.going n asked v0 h0 g0 crew h.0 h.2 in
+    let next = c.accept_one.ensures.going n asked c.args.idle v0 h0 g0 crew h.0 h.2 in
     (h.0, left_some c.args.connections c.loop.left h.0 h.1 some, (search rules))
 
 pub loop-preserved : goal.loop-preserved
@@ -38,13 +38,13 @@ loop-preserved g c = record {
   room = c.accept_one.ensures.room.0;
   capacity = search rules;
   later = (let a = c.loop.invariant.later in let b = c.accept_one.ensures.later in omega arith);
-  going = λ n asked v0 h0 g0 crew few start.
-      let h = c.loop.invariant.going n asked v0 h0 g0 crew few start in
+  going = λ n asked v0 h0 g0 crew start.
+      let h = c.loop.invariant.going n asked v0 h0 g0 crew start in
       let some : c.loop.left ≢ Some 0 = search rules in
-      let next = c.accept_one.ensures.going n asked v0 h0 g0 crew h.0 h.2 in (
+      let next = c.accept_one.ensures.going n asked c.args.idle v0 h0 g0 crew h.0 h.2 in (
         h.0 + 1,
         left_less c.args.connections c.loop.left c.one_less-left.result h.0 h.1 some c.one_less-left.ensures,
         c.help_out.ensures.going (g.C.Clock.told c.args.clock.now) n asked v0 h0 g0 crew (map (λ h. (h.handle.promise.job.value.pass.view, g.A.In.Source.origin h.handle.promise.job.value.input)) c.accept_one.new.running.items) (h.0 + 1) (g.A.Ears.origins c.accept_one.new.ears) (g.A.Ears.returned c.accept_one.new.ears)
-            few (search rules),
+            (search rules),
       );
 }

@@ -17,7 +17,7 @@ invariant-loop g l = record {
   capacity : most_running ≤ vec_capacity l.running;
   later : g.A.Ears.faults l.initial.ears ≤ g.A.Ears.faults l.ears;
   going : (n asked : ℕ) (v0 : View (CoreBase g.row.V.Denot)) (h0 : Option (List Origin)) (g0 : Option (List Ending)) (crew : List (View (CoreBase g.row.V.Denot)))
-      → l.idle ≤ asked → Going (IsAnswered g.V.Tool.Tool.faults (front_of g.V.Versions.meaning l.api.base (g.C.Clock.told l.clock))) n asked v0 h0 g0 crew (map (λ h. (h.handle.promise.job.value.pass.view, g.A.In.Source.origin h.handle.promise.job.value.input)) l.initial.running.items) l.initial.pass.view 0 (g.A.Ears.origins l.initial.ears) (g.A.Ears.returned l.initial.ears)
+      → Going (IsAnswered g.V.Tool.Tool.faults (front_of g.V.Versions.meaning l.api.base (g.C.Clock.told l.clock))) n asked l.idle v0 h0 g0 crew (map (λ h. (h.handle.promise.job.value.pass.view, g.A.In.Source.origin h.handle.promise.job.value.input)) l.initial.running.items) l.initial.pass.view 0 (g.A.Ears.origins l.initial.ears) (g.A.Ears.returned l.initial.ears)
       → (count : ℕ) × IsLeft l.fn.connections count l.left
-      × Going (IsAnswered g.V.Tool.Tool.faults (front_of g.V.Versions.meaning l.api.base (g.C.Clock.told l.clock))) n asked v0 h0 g0 crew (map (λ h. (h.handle.promise.job.value.pass.view, g.A.In.Source.origin h.handle.promise.job.value.input)) l.running.items) l.pass.view count (g.A.Ears.origins l.ears) (g.A.Ears.returned l.ears);
+      × Going (IsAnswered g.V.Tool.Tool.faults (front_of g.V.Versions.meaning l.api.base (g.C.Clock.told l.clock))) n asked l.idle v0 h0 g0 crew (map (λ h. (h.handle.promise.job.value.pass.view, g.A.In.Source.origin h.handle.promise.job.value.input)) l.running.items) l.pass.view count (g.A.Ears.origins l.ears) (g.A.Ears.returned l.ears);
 }

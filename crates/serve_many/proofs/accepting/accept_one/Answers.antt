@@ -22,24 +22,24 @@ take_in-requires-clause-untouched g c =
     search rules
 
 pub returns-clause-going : goal.returns-clause-going
-returns-clause-going g c n asked v0 h0 g0 crew count start =
+returns-clause-going g c n asked idle v0 h0 g0 crew count start =
     let f = front_of g.V.Versions.meaning c.args.api.now.base (g.C.Clock.told c.args.clock.now) in
     let handed = g.A.Ears.origins c.args.ears.now in
     let later = g.A.Ears.origins c.next.new.self in
     let o = g.A.In.Source.origin c.in_ok-input.input in
     let before : List (Job (CoreBase g.row.V.Denot)) = map (λ h. (h.handle.promise.job.value.pass.view, g.A.In.Source.origin h.handle.promise.job.value.input)) c.args.running.now.items in
     let after : List (Job (CoreBase g.row.V.Denot)) = map (λ h. (h.handle.promise.job.value.pass.view, g.A.In.Source.origin h.handle.promise.job.value.input)) c.take_in.new.running.items in
-    let heard : Going (IsAnswered g.V.Tool.Tool.faults f) n asked v0 h0 g0 crew before c.args.pass.now.view count handed (g.A.Ears.returned c.next.new.self) =
-    subst (λ (z : Option (List Ending)). Going (IsAnswered g.V.Tool.Tool.faults f) n asked v0 h0 g0 crew before c.args.pass.now.view count handed z) (sym c.next.ensures.returned) start in
-    let taken = c.take_in.ensures.going n asked v0 h0 g0 crew count handed later c.in_ok-input.ensures.origins (c.reap.ensures.going n asked v0 h0 g0 crew count handed heard) in
+    let heard : Going (IsAnswered g.V.Tool.Tool.faults f) n asked idle v0 h0 g0 crew before c.args.pass.now.view count handed (g.A.Ears.returned c.next.new.self) =
+    subst (λ (z : Option (List Ending)). Going (IsAnswered g.V.Tool.Tool.faults f) n asked idle v0 h0 g0 crew before c.args.pass.now.view count handed z) (sym c.next.ensures.returned) start in
+    let taken = c.take_in.ensures.going n asked idle v0 h0 g0 crew count handed later c.in_ok-input.ensures.origins (c.reap.ensures.going n asked idle v0 h0 g0 crew count handed heard) in
     let now : g.A.Ears.origins c.take_in.new.ears ≡ later = c.take_in.ensures.origins ∙ c.reap.ensures.origins in
-    subst (λ (z : Option (List Origin)). Going (IsAnswered g.V.Tool.Tool.faults f) n asked v0 h0 g0 crew after c.take_in.new.pass.view (count + 1) z (g.A.Ears.returned c.take_in.new.ears)) (sym now) taken
+    subst (λ (z : Option (List Origin)). Going (IsAnswered g.V.Tool.Tool.faults f) n asked idle v0 h0 g0 crew after c.take_in.new.pass.view (count + 1) z (g.A.Ears.returned c.take_in.new.ears)) (sym now) taken
 
 pub returns-in_err-input-clause-going : goal.returns-in_err-input-clause-going
-returns-in_err-input-clause-going g c n asked v0 h0 g0 crew count start =
+returns-in_err-input-clause-going g c n asked idle v0 h0 g0 crew count start =
     let f = front_of g.V.Versions.meaning c.args.api.now.base (g.C.Clock.told c.args.clock.now) in
     let before : List (Job (CoreBase g.row.V.Denot)) = map (λ h. (h.handle.promise.job.value.pass.view, g.A.In.Source.origin h.handle.promise.job.value.input)) c.args.running.now.items in
     let p = err_from_is_err_and c.from_residual.result c.from_residual.ensures.1 in
     at_err c.from_residual.result _ _ p.0 p.1
-    (subst (λ (z : Option (List Origin) × Option (List Ending)). Going (IsAnswered g.V.Tool.Tool.faults f) n asked v0 h0 g0 crew before c.args.pass.now.view count z.0 z.1)
+    (subst (λ (z : Option (List Origin) × Option (List Ending)). Going (IsAnswered g.V.Tool.Tool.faults f) n asked idle v0 h0 g0 crew before c.args.pass.now.view count z.0 z.1)
     (λ i. (sym c.in_err-input.ensures.origins i, sym c.next.ensures.returned i)) start)

@@ -11,6 +11,6 @@ abbrev pub invariant-loop-i : goal.invariant-loop-i
 invariant-loop-i g l = record {
   of : IsOf g.V.Versions.meaning l.api l.pass;
   going : (told : Option (List ℕ)) (n asked : ℕ) (v0 : View (CoreBase g.row.V.Denot)) (h0 : Option (List Origin)) (g0 : Option (List Ending)) (crew : List (View (CoreBase g.row.V.Denot))) (jobs : List (Job (CoreBase g.row.V.Denot))) (count : ℕ) (handed : Option (List Origin)) (given : Option (List Ending))
-      → l.idle ≤ asked → Going (IsAnswered g.V.Tool.Tool.faults (front_of g.V.Versions.meaning l.api.base told)) n asked v0 h0 g0 crew jobs l.initial.pass.view count handed given
-      → Going (IsAnswered g.V.Tool.Tool.faults (front_of g.V.Versions.meaning l.api.base told)) n asked v0 h0 g0 crew jobs l.pass.view count handed given;
+      → Going (IsAnswered g.V.Tool.Tool.faults (front_of g.V.Versions.meaning l.api.base told)) n asked l.idle v0 h0 g0 crew jobs l.initial.pass.view count handed given
+      → Going (IsAnswered g.V.Tool.Tool.faults (front_of g.V.Versions.meaning l.api.base told)) n asked l.idle v0 h0 g0 crew jobs l.pass.view count handed given;
 }

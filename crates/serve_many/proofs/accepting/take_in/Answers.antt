@@ -11,23 +11,23 @@ use Rattle.serve_many.proofs.Counting.{all_snoc, at_none}
 use Rattle.serve_many.proofs.accepting.take_in.Goals as goal
 
 pub returns-then-len-ge-MOST_RUNNING-clause-going : goal.returns-then-len-ge-MOST_RUNNING-clause-going
-returns-then-len-ge-MOST_RUNNING-clause-going g c n asked v0 h0 g0 crew count handed later out start =
+returns-then-len-ge-MOST_RUNNING-clause-going g c n asked idle v0 h0 g0 crew count handed later out start =
     let f = front_of g.V.Versions.meaning c.args.api.now.base (g.C.Clock.told c.args.clock.now) in
     let j : List (Job (CoreBase g.row.V.Denot)) = map (λ h. (h.handle.promise.job.value.pass.view, g.A.In.Source.origin h.handle.promise.job.value.input)) c.args.running.now.items in
     let s = c.serve_here.ensures.served in
-    going_here (IsAnswered g.V.Tool.Tool.faults f) (answered_grows g.V.Tool.Tool.faults f) n asked v0 h0 g0 crew j (g.A.In.Source.origin c.args.input) c.args.pass.now.view c.serve_here.new.pass.view count handed later
+    going_here (IsAnswered g.V.Tool.Tool.faults f) (answered_grows g.V.Tool.Tool.faults f) n asked idle v0 h0 g0 crew j (g.A.In.Source.origin c.args.input) c.args.pass.now.view c.serve_here.new.pass.view count handed later
     (g.A.Ears.returned c.args.ears.now) (g.A.Ears.returned c.serve_here.new.ears) s.0 start s.1 out s.2
 
 pub returns-in_default-clause-going : goal.returns-in_default-clause-going
-returns-in_default-clause-going g c n asked v0 h0 g0 crew count handed later out start =
+returns-in_default-clause-going g c n asked idle v0 h0 g0 crew count handed later out start =
     let f = front_of g.V.Versions.meaning c.args.api.now.base (g.C.Clock.told c.args.clock.now) in
     let j : List (Job (CoreBase g.row.V.Denot)) = map (λ h. (h.handle.promise.job.value.pass.view, g.A.In.Source.origin h.handle.promise.job.value.input)) c.args.running.now.items in
     let s = c.serve_here-in_default.ensures.served in
     let same : c.make_pass.new.pass ≡ c.args.pass.now = at_none c.make_pass.result _ _ c.in_default.is c.make_pass.ensures.made in
     let still : c.make_pass.new.pass.view ≡ c.args.pass.now.view = ap (λ q. q.view) same in
-    going_here (IsAnswered g.V.Tool.Tool.faults f) (answered_grows g.V.Tool.Tool.faults f) n asked v0 h0 g0 crew j (g.A.In.Source.origin c.args.input) c.make_pass.new.pass.view c.serve_here-in_default.new.pass.view count handed later
+    going_here (IsAnswered g.V.Tool.Tool.faults f) (answered_grows g.V.Tool.Tool.faults f) n asked idle v0 h0 g0 crew j (g.A.In.Source.origin c.args.input) c.make_pass.new.pass.view c.serve_here-in_default.new.pass.view count handed later
     (g.A.Ears.returned c.args.ears.now) (g.A.Ears.returned c.serve_here-in_default.new.ears) s.0
-    (subst (λ (v : View (CoreBase g.row.V.Denot)). Going (IsAnswered g.V.Tool.Tool.faults f) n asked v0 h0 g0 crew j v count handed (g.A.Ears.returned c.args.ears.now)) (sym still) start) s.1 out s.2
+    (subst (λ (v : View (CoreBase g.row.V.Denot)). Going (IsAnswered g.V.Tool.Tool.faults f) n asked idle v0 h0 g0 crew j v count handed (g.A.Ears.returned c.args.ears.now)) (sym still) start) s.1 out s.2
 
 pub returns-in-Ok-clause-links : goal.returns-in-Ok-clause-links
 returns-in-Ok-clause-links g c =
@@ -36,7 +36,7 @@ returns-in-Ok-clause-links g c =
     (subst (λ q. IsOf g.V.Versions.meaning c.args.api.now q.pass × (g.C.Clock.told q.clock.now ≡ g.C.Clock.told c.args.clock.now)) (sym c.in-Ok.ensures.begun) (c.in-Some.ensures.made.0, refl)))
 
 pub returns-in-Ok-clause-going : goal.returns-in-Ok-clause-going
-returns-in-Ok-clause-going g c n asked v0 h0 g0 crew count handed later out start =
+returns-in-Ok-clause-going g c n asked idle v0 h0 g0 crew count handed later out start =
     let f = front_of g.V.Versions.meaning c.args.api.now.base (g.C.Clock.told c.args.clock.now) in
     let j : List (Job (CoreBase g.row.V.Denot)) = map (λ h. (h.handle.promise.job.value.pass.view, g.A.In.Source.origin h.handle.promise.job.value.input)) c.args.running.now.items in
     let p = c.in-Some.own.view in
@@ -44,13 +44,13 @@ returns-in-Ok-clause-going g c n asked v0 h0 g0 crew count handed later out star
     let u = c.make_pass.new.pass.view in
     let given = g.A.Ears.returned c.args.ears.now in
     let made = c.in-Some.ensures.made in
-    let next : Going (IsAnswered g.V.Tool.Tool.faults f) n asked v0 h0 g0 crew (j ++ (p, o) ∷ []) u (count + 1) later given =
-    going_begun (IsAnswered g.V.Tool.Tool.faults f) (answered_grows g.V.Tool.Tool.faults f) n asked v0 h0 g0 crew j p o c.args.pass.now.view u count handed later given start made.1 made.2 out in
+    let next : Going (IsAnswered g.V.Tool.Tool.faults f) n asked idle v0 h0 g0 crew (j ++ (p, o) ∷ []) u (count + 1) later given =
+    going_begun (IsAnswered g.V.Tool.Tool.faults f) (answered_grows g.V.Tool.Tool.faults f) n asked idle v0 h0 g0 crew j p o c.args.pass.now.view u count handed later given start made.1 made.2 out in
     let parts : map (λ h. (h.handle.promise.job.value.pass.view, g.A.In.Source.origin h.handle.promise.job.value.input)) c.push_reserved.new.self.items ≡ j ++ (p, o) ∷ [] =
     ap (λ xs. map (λ h. (h.handle.promise.job.value.pass.view, g.A.In.Source.origin h.handle.promise.job.value.input)) xs) c.push_reserved.ensures.items
     ∙ (map_snoc (λ h. (h.handle.promise.job.value.pass.view, g.A.In.Source.origin h.handle.promise.job.value.input)) c.args.running.now.items c.in-Ok.link
     ∙ ap (λ q. j ++ (q.pass.view, g.A.In.Source.origin q.input) ∷ []) c.in-Ok.ensures.begun) in
-    subst (λ (js : List (Job (CoreBase g.row.V.Denot))). Going (IsAnswered g.V.Tool.Tool.faults f) n asked v0 h0 g0 crew js u (count + 1) later given) (sym parts) next
+    subst (λ (js : List (Job (CoreBase g.row.V.Denot))). Going (IsAnswered g.V.Tool.Tool.faults f) n asked idle v0 h0 g0 crew js u (count + 1) later given) (sym parts) next
 
 pub give_back-requires-clause-of : goal.give_back-requires-clause-of
 give_back-requires-clause-of g c =
@@ -59,7 +59,7 @@ give_back-requires-clause-of g c =
     search rules
 
 pub returns-in-Err-clause-going : goal.returns-in-Err-clause-going
-returns-in-Err-clause-going g c n asked v0 h0 g0 crew count handed later out start =
+returns-in-Err-clause-going g c n asked idle v0 h0 g0 crew count handed later out start =
     let f = front_of g.V.Versions.meaning c.args.api.now.base (g.C.Clock.told c.args.clock.now) in
     let j : List (Job (CoreBase g.row.V.Denot)) = map (λ h. (h.handle.promise.job.value.pass.view, g.A.In.Source.origin h.handle.promise.job.value.input)) c.args.running.now.items in
     let p = c.in-Some.own.view in
@@ -68,7 +68,7 @@ returns-in-Err-clause-going g c n asked v0 h0 g0 crew count handed later out sta
     let u = c.give_back.new.pass.view in
     let given = g.A.Ears.returned c.args.ears.now in
     let made = c.in-Some.ensures.made in
-    let next : Going (IsAnswered g.V.Tool.Tool.faults f) n asked v0 h0 g0 crew (j ++ (p, o) ∷ []) v (count + 1) later given =
-    going_begun (IsAnswered g.V.Tool.Tool.faults f) (answered_grows g.V.Tool.Tool.faults f) n asked v0 h0 g0 crew j p o c.args.pass.now.view v count handed later given start made.1 made.2 out in
-    going_last (IsAnswered g.V.Tool.Tool.faults f) (answered_grows g.V.Tool.Tool.faults f) n asked v0 h0 g0 crew j p o v c.in-Err.outcome.pass.view u (count + 1) later given (g.A.Ears.returned c.give_back.new.ears) (g.A.Ears.ending c.in-Err.outcome.ended)
+    let next : Going (IsAnswered g.V.Tool.Tool.faults f) n asked idle v0 h0 g0 crew (j ++ (p, o) ∷ []) v (count + 1) later given =
+    going_begun (IsAnswered g.V.Tool.Tool.faults f) (answered_grows g.V.Tool.Tool.faults f) n asked idle v0 h0 g0 crew j p o c.args.pass.now.view v count handed later given start made.1 made.2 out in
+    going_last (IsAnswered g.V.Tool.Tool.faults f) (answered_grows g.V.Tool.Tool.faults f) n asked idle v0 h0 g0 crew j p o v c.in-Err.outcome.pass.view u (count + 1) later given (g.A.Ears.returned c.give_back.new.ears) (g.A.Ears.ending c.in-Err.outcome.ended)
     next (c.in-Err.ensures.done c.args.api.now made.0).1 c.give_back.ensures.met c.give_back.ensures.returned

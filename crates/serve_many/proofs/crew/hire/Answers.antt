@@ -3,10 +3,10 @@ use Rattle.serve_many.proofs.crew.hire.Goals as goal
 
 pub loop-i-preserved : goal.loop-i-preserved
 loop-i-preserved g c = record {
-  of = c.hire_one.ensures.of;
+  of = c.hire_one-idle.ensures.of;
   room = search rules;
   idle = search rules;
   capacity = search rules;
-  crew = c.hire_one.ensures.crew;
-  going = λ told n v0 h0 g0 jobs count handed given start. c.hire_one.ensures.going told n c.loop-i._i v0 h0 g0 jobs count handed given (c.loop-i.invariant.going told n v0 h0 g0 jobs count handed given start);
+  crew = c.hire_one-idle.ensures.crew;
+  going = λ told n v0 h0 g0 jobs count handed given start. c.hire_one-idle.ensures.going told n c.loop-i._i c.loop-i.idle v0 h0 g0 jobs count handed given (c.loop-i.invariant.going told n v0 h0 g0 jobs count handed given start);
 }

@@ -15,6 +15,6 @@ invariant-loop-i g l = record {
   capacity : l.workers ≤ vec_capacity l.crew;
   crew : All (λ h. IsOf g.V.Versions.meaning l.api h.running.handle.promise.job.value.pass) l.crew.items;
   going : (told : Option (List ℕ)) (n : ℕ) (v0 : View (CoreBase g.row.V.Denot)) (h0 : Option (List Origin)) (g0 : Option (List Ending)) (jobs : List (Job (CoreBase g.row.V.Denot))) (count : ℕ) (handed : Option (List Origin)) (given : Option (List Ending))
-      → Going (IsAnswered g.V.Tool.Tool.faults (front_of g.V.Versions.meaning l.api.base told)) n 0 v0 h0 g0 [] jobs l.initial.pass.view count handed given
-      → Going (IsAnswered g.V.Tool.Tool.faults (front_of g.V.Versions.meaning l.api.base told)) n l._i v0 h0 g0 (map (λ h. h.running.handle.promise.job.value.pass.view) l.crew.items) jobs l.pass.view count handed given;
+      → Going (IsAnswered g.V.Tool.Tool.faults (front_of g.V.Versions.meaning l.api.base told)) n 0 0 v0 h0 g0 [] jobs l.initial.pass.view count handed given
+      → Going (IsAnswered g.V.Tool.Tool.faults (front_of g.V.Versions.meaning l.api.base told)) n l._i l.idle v0 h0 g0 (map (λ h. h.running.handle.promise.job.value.pass.view) l.crew.items) jobs l.pass.view count handed given;
 }

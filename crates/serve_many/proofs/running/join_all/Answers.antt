@@ -26,9 +26,9 @@ loop-link-preserved g c = record {
       (subst (All (λ h. IsOf g.V.Versions.meaning c.args.api.now h.handle.promise.job.value.pass × (g.C.Clock.told h.handle.promise.job.value.clock.now ≡ g.C.Clock.told c.args.clock.now))) c.in-Some.ensures.items c.loop-link.invariant.links);
   faults = c.join_one.ensures.faults ∙ c.loop-link.invariant.faults;
   origins = c.join_one.ensures.origins ∙ c.loop-link.invariant.origins;
-  going = λ n asked v0 h0 g0 crew count handed start.
+  going = λ n asked idle v0 h0 g0 crew count handed start.
       let f = front_of g.V.Versions.meaning c.args.api.now.base (g.C.Clock.told c.args.clock.now) in
-      let now = c.loop-link.invariant.going n asked v0 h0 g0 crew count handed start in
+      let now = c.loop-link.invariant.going n asked idle v0 h0 g0 crew count handed start in
       let rest : List (Job (CoreBase g.row.V.Denot)) = map (λ h. (h.handle.promise.job.value.pass.view, g.A.In.Source.origin h.handle.promise.job.value.input)) c.pop.new.self.items in
       let p = c.in-Some.link.handle.promise.job.value.pass.view in
       let o = g.A.In.Source.origin c.in-Some.link.handle.promise.job.value.input in
@@ -43,15 +43,15 @@ loop-link-preserved g c = record {
       let told : g.C.Clock.told c.in-Some.link.handle.promise.job.value.clock.now ≡ g.C.Clock.told c.args.clock.now =
       (all_last (λ h. IsOf g.V.Versions.meaning c.args.api.now h.handle.promise.job.value.pass × (g.C.Clock.told h.handle.promise.job.value.clock.now ≡ g.C.Clock.told c.args.clock.now)) c.pop.new.self.items c.in-Some.link
       (subst (All (λ h. IsOf g.V.Versions.meaning c.args.api.now h.handle.promise.job.value.pass × (g.C.Clock.told h.handle.promise.job.value.clock.now ≡ g.C.Clock.told c.args.clock.now))) c.in-Some.ensures.items c.loop-link.invariant.links)).1 in
-      let all : Going (IsAnswered g.V.Tool.Tool.faults f) n asked v0 h0 g0 crew (rest ++ (p, o) ∷ []) v count handed given = subst (λ (js : List (Job (CoreBase g.row.V.Denot))). Going (IsAnswered g.V.Tool.Tool.faults f) n asked v0 h0 g0 crew js v count handed given) parts now in
-      going_last (IsAnswered g.V.Tool.Tool.faults f) (answered_grows g.V.Tool.Tool.faults f) n asked v0 h0 g0 crew rest p o v j.0.view u count handed given later j.1 all
+      let all : Going (IsAnswered g.V.Tool.Tool.faults f) n asked idle v0 h0 g0 crew (rest ++ (p, o) ∷ []) v count handed given = subst (λ (js : List (Job (CoreBase g.row.V.Denot))). Going (IsAnswered g.V.Tool.Tool.faults f) n asked idle v0 h0 g0 crew js v count handed given) parts now in
+      going_last (IsAnswered g.V.Tool.Tool.faults f) (answered_grows g.V.Tool.Tool.faults f) n asked idle v0 h0 g0 crew rest p o v j.0.view u count handed given later j.1 all
       (subst (λ (t : Option (List ℕ)). Serves g.V.Tool.Tool.faults g.V.Versions.meaning c.args.api.now.base t p o j.0.view j.1) told j.2) j.3 j.4;
 }
 
 pub returns-clause-going : goal.returns-clause-going
-returns-clause-going g c n asked v0 h0 g0 crew count handed start =
+returns-clause-going g c n asked idle v0 h0 g0 crew count handed start =
     let f = front_of g.V.Versions.meaning c.args.api.now.base (g.C.Clock.told c.args.clock.now) in
-    let now = c.loop-link.invariant.going n asked v0 h0 g0 crew count handed start in
+    let now = c.loop-link.invariant.going n asked idle v0 h0 g0 crew count handed start in
     let none : c.loop-link.running.items ≡ [] = search rules in
-    subst (λ (js : List (Job (CoreBase g.row.V.Denot))). Going (IsAnswered g.V.Tool.Tool.faults f) n asked v0 h0 g0 crew js c.loop-link.pass.view count handed (g.A.Ears.returned c.loop-link.ears))
+    subst (λ (js : List (Job (CoreBase g.row.V.Denot))). Going (IsAnswered g.V.Tool.Tool.faults f) n asked idle v0 h0 g0 crew js c.loop-link.pass.view count handed (g.A.Ears.returned c.loop-link.ears))
     (ap (λ xs. map (λ h. (h.handle.promise.job.value.pass.view, g.A.In.Source.origin h.handle.promise.job.value.input)) xs) none) now

@@ -13,9 +13,9 @@ invariant-loop-link g l = record {
   links : All (λ h. IsOf g.V.Versions.meaning l.api h.handle.promise.job.value.pass × (g.C.Clock.told h.handle.promise.job.value.clock.now ≡ g.C.Clock.told l.clock)) l.running.items;
   faults : g.A.Ears.faults l.ears ≡ g.A.Ears.faults l.initial.ears;
   origins : g.A.Ears.origins l.ears ≡ g.A.Ears.origins l.initial.ears;
-  going : (n asked : ℕ) (v0 : View (CoreBase g.row.V.Denot)) (h0 : Option (List Origin)) (g0 : Option (List Ending)) (crew : List (View (CoreBase g.row.V.Denot))) (count : ℕ) (handed : Option (List Origin))
-      → Going (IsAnswered g.V.Tool.Tool.faults (front_of g.V.Versions.meaning l.api.base (g.C.Clock.told l.clock))) n asked v0 h0 g0 crew (map (λ h. (h.handle.promise.job.value.pass.view, g.A.In.Source.origin h.handle.promise.job.value.input)) l.initial.running.items) l.initial.pass.view count handed (g.A.Ears.returned l.initial.ears)
-      → Going (IsAnswered g.V.Tool.Tool.faults (front_of g.V.Versions.meaning l.api.base (g.C.Clock.told l.clock))) n asked v0 h0 g0 crew (map (λ h. (h.handle.promise.job.value.pass.view, g.A.In.Source.origin h.handle.promise.job.value.input)) l.running.items) l.pass.view count handed (g.A.Ears.returned l.ears);
+  going : (n asked idle : ℕ) (v0 : View (CoreBase g.row.V.Denot)) (h0 : Option (List Origin)) (g0 : Option (List Ending)) (crew : List (View (CoreBase g.row.V.Denot))) (count : ℕ) (handed : Option (List Origin))
+      → Going (IsAnswered g.V.Tool.Tool.faults (front_of g.V.Versions.meaning l.api.base (g.C.Clock.told l.clock))) n asked idle v0 h0 g0 crew (map (λ h. (h.handle.promise.job.value.pass.view, g.A.In.Source.origin h.handle.promise.job.value.input)) l.initial.running.items) l.initial.pass.view count handed (g.A.Ears.returned l.initial.ears)
+      → Going (IsAnswered g.V.Tool.Tool.faults (front_of g.V.Versions.meaning l.api.base (g.C.Clock.told l.clock))) n asked idle v0 h0 g0 crew (map (λ h. (h.handle.promise.job.value.pass.view, g.A.In.Source.origin h.handle.promise.job.value.input)) l.running.items) l.pass.view count handed (g.A.Ears.returned l.ears);
 }
 
 abbrev pub decreases-loop-link : goal.decreases-loop-link

@@ -9,7 +9,7 @@ loop-at-preserved-then-not-reap_at g c = record {
   capacity = c.reap_at.ensures.capacity ∙ c.loop-at.invariant.capacity;
   faults = c.reap_at.ensures.faults ∙ c.loop-at.invariant.faults;
   origins = c.reap_at.ensures.origins ∙ c.loop-at.invariant.origins;
-  going = λ n asked v0 h0 g0 crew count handed start. c.reap_at.ensures.going n asked v0 h0 g0 crew count handed (c.loop-at.invariant.going n asked v0 h0 g0 crew count handed start);
+  going = λ n asked idle v0 h0 g0 crew count handed start. c.reap_at.ensures.going n asked idle v0 h0 g0 crew count handed (c.loop-at.invariant.going n asked idle v0 h0 g0 crew count handed start);
 }
 
 pub loop-at-preserved : goal.loop-at-preserved
@@ -20,5 +20,5 @@ loop-at-preserved g c = record {
   capacity = c.reap_at.ensures.capacity ∙ c.loop-at.invariant.capacity;
   faults = c.reap_at.ensures.faults ∙ c.loop-at.invariant.faults;
   origins = c.reap_at.ensures.origins ∙ c.loop-at.invariant.origins;
-  going = λ n asked v0 h0 g0 crew count handed start. c.reap_at.ensures.going n asked v0 h0 g0 crew count handed (c.loop-at.invariant.going n asked v0 h0 g0 crew count handed start);
+  going = λ n asked idle v0 h0 g0 crew count handed start. c.reap_at.ensures.going n asked idle v0 h0 g0 crew count handed (c.loop-at.invariant.going n asked idle v0 h0 g0 crew count handed start);
 }

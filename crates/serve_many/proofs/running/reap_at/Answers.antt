@@ -15,7 +15,7 @@ returns-clause-links g c =
     (all_removed (λ h. IsOf g.V.Versions.meaning c.args.api.now h.handle.promise.job.value.pass × (g.C.Clock.told h.handle.promise.job.value.clock.now ≡ g.C.Clock.told c.args.clock.now)) c.args.running.now.items c.args.at c.requires.links)
 
 pub returns-clause-going : goal.returns-clause-going
-returns-clause-going g c n asked v0 h0 g0 crew count handed start =
+returns-clause-going g c n asked idle v0 h0 g0 crew count handed start =
     let f = front_of g.V.Versions.meaning c.args.api.now.base (g.C.Clock.told c.args.clock.now) in
     let items = c.args.running.now.items in
     let at = c.args.at in
@@ -28,9 +28,9 @@ returns-clause-going g c n asked v0 h0 g0 crew count handed start =
     let lt : at < length items = search rules in
     let told : g.C.Clock.told c.remove-link.result.handle.promise.job.value.clock.now ≡ g.C.Clock.told c.args.clock.now =
     (all_at (λ h. IsOf g.V.Versions.meaning c.args.api.now h.handle.promise.job.value.pass × (g.C.Clock.told h.handle.promise.job.value.clock.now ≡ g.C.Clock.told c.args.clock.now)) items at c.remove-link.result c.requires.links lt c.remove-link.ensures.value).1 in
-    let next : Going (IsAnswered g.V.Tool.Tool.faults f) n asked v0 h0 g0 crew (map (λ h. (h.handle.promise.job.value.pass.view, g.A.In.Source.origin h.handle.promise.job.value.input)) (take at items ++ drop (suc at) items)) u count handed later =
-    going_removed (IsAnswered g.V.Tool.Tool.faults f) (answered_grows g.V.Tool.Tool.faults f) n asked v0 h0 g0 crew (λ h. (h.handle.promise.job.value.pass.view, g.A.In.Source.origin h.handle.promise.job.value.input)) items at c.remove-link.result c.args.pass.now.view j.0.view u count handed given later j.1
+    let next : Going (IsAnswered g.V.Tool.Tool.faults f) n asked idle v0 h0 g0 crew (map (λ h. (h.handle.promise.job.value.pass.view, g.A.In.Source.origin h.handle.promise.job.value.input)) (take at items ++ drop (suc at) items)) u count handed later =
+    going_removed (IsAnswered g.V.Tool.Tool.faults f) (answered_grows g.V.Tool.Tool.faults f) n asked idle v0 h0 g0 crew (λ h. (h.handle.promise.job.value.pass.view, g.A.In.Source.origin h.handle.promise.job.value.input)) items at c.remove-link.result c.args.pass.now.view j.0.view u count handed given later j.1
     lt c.remove-link.ensures.value start
     (subst (λ (t : Option (List ℕ)). Serves g.V.Tool.Tool.faults g.V.Versions.meaning c.args.api.now.base t p o j.0.view j.1) told j.2) j.3 j.4 in
-    subst (λ (js : List (Job (CoreBase g.row.V.Denot))). Going (IsAnswered g.V.Tool.Tool.faults f) n asked v0 h0 g0 crew js u count handed later)
+    subst (λ (js : List (Job (CoreBase g.row.V.Denot))). Going (IsAnswered g.V.Tool.Tool.faults f) n asked idle v0 h0 g0 crew js u count handed later)
     (ap (λ xs. map (λ h. (h.handle.promise.job.value.pass.view, g.A.In.Source.origin h.handle.promise.job.value.input)) xs) (sym c.remove-link.ensures.items)) next

@@ -20,13 +20,14 @@ returns-clause-served g c n named =
     let empty : c.in-Ok.running.items ≡ [] = search rules in
     let none : map (λ h. (h.handle.promise.job.value.pass.view, g.A.In.Source.origin h.handle.promise.job.value.input)) c.in-Ok.running.items ≡ [] = ap (λ xs. map (λ h. (h.handle.promise.job.value.pass.view, g.A.In.Source.origin h.handle.promise.job.value.input)) xs) empty in
     let asked = c.args.workers in
-    let hired = c.hire-idle.ensures.going told n v0 h0 g0 [] 0 h0 g0 (going_starts (IsAnswered g.V.Tool.Tool.faults f) n 0 v0 h0 g0 named) in
-    let begun = c.accept_all-done.ensures.going n asked v0 h0 g0 crew c.hire-idle.ensures.idle
-    (subst (λ (js : List (Job (CoreBase g.row.V.Denot))). Going (IsAnswered g.V.Tool.Tool.faults f) n asked v0 h0 g0 crew js c.hire-idle.new.pass.view 0 h0 g0) (sym none) hired) in
-    let joined = c.join_all.ensures.going n asked v0 h0 g0 crew begun.0 later begun.2 in
-    let last = c.dismiss.ensures.going told n asked v0 h0 g0 [] begun.0 later back joined in (
+    let idle = c.hire-idle.result in
+    let hired = c.hire-idle.ensures.going told n v0 h0 g0 [] 0 h0 g0 (going_starts (IsAnswered g.V.Tool.Tool.faults f) n 0 0 v0 h0 g0 named) in
+    let begun = c.accept_all-done.ensures.going n asked v0 h0 g0 crew
+    (subst (λ (js : List (Job (CoreBase g.row.V.Denot))). Going (IsAnswered g.V.Tool.Tool.faults f) n asked idle v0 h0 g0 crew js c.hire-idle.new.pass.view 0 h0 g0) (sym none) hired) in
+    let joined = c.join_all.ensures.going n asked idle v0 h0 g0 crew begun.0 later begun.2 in
+    let last = c.dismiss.ensures.going told n asked idle v0 h0 g0 [] begun.0 later back joined in (
       begun.0,
       begun.1,
-      going_ends (IsAnswered g.V.Tool.Tool.faults f) n asked v0 h0 g0 c.dismiss.new.pass.view begun.0 (g.A.Ears.origins c.join_all.new.ears) back named
-          (subst (λ (hs : Option (List Origin)). Going (IsAnswered g.V.Tool.Tool.faults f) n asked v0 h0 g0 [] [] c.dismiss.new.pass.view begun.0 hs back) (sym c.join_all.ensures.origins) last),
+      going_ends (IsAnswered g.V.Tool.Tool.faults f) n asked idle v0 h0 g0 c.dismiss.new.pass.view begun.0 (g.A.Ears.origins c.join_all.new.ears) back named
+          (subst (λ (hs : Option (List Origin)). Going (IsAnswered g.V.Tool.Tool.faults f) n asked idle v0 h0 g0 [] [] c.dismiss.new.pass.view begun.0 hs back) (sym c.join_all.ensures.origins) last),
     )
