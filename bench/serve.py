@@ -9,7 +9,8 @@
   requests at a time, while 1,000 and 16,000 objects stand; how many times as many that is as by one; and the processor time that
   a request takes of the server. The clients take processors too, so that more connections than half of the processors show less.
 - memory: what the process holds with as many objects as a server may hold.
-- idle: the part of a processor that the server takes with 2 and 15 workers while nobody asks.
+- idle: the part of a processor that the server takes with 2 and 15 workers while nobody asks, and how long behind its 201 a
+  migration that has nothing to move is marked then.
 
 What a request takes while more and more objects stand is timed by store.py, by one connection.
 Every answer is checked for its code. The program is the one in the folder of its crate, or that of --program."""
@@ -24,6 +25,7 @@ from programs import built, parser_with_runs
 from serving import (
     CREATED,
     GROUP,
+    MIGRATIONS,
     VERSIONS,
     Connection,
     Filled,
@@ -35,6 +37,8 @@ from serving import (
     creation,
     drawn_state,
     generator,
+    looked_at,
+    migration,
     number_of,
     path_of,
     request,
@@ -59,6 +63,8 @@ LINK_MB = 2 * 2**20 / 1e6
 # So many workers rest beside nobody's requests, for so many seconds behind those in which their rests grow.
 IDLE_WORKERS = 2, 15
 IDLE_SECONDS, GROWING_SECONDS = 20, 2
+# So many migrations are started then, each behind such a rest, and looked at so often.
+MARKS, RESTED_SECONDS, SHORT_PAUSE = 9, 2, 0.0003
 
 
 # ---- rates
@@ -267,6 +273,20 @@ def print_memory(program, options):
 # ---- idle
 
 
+def marked_after(server, name):
+    """So many milliseconds behind its 201 a migration is seen to be marked, where all workers had rested a while."""
+    connection = Connection(server.address)
+    time.sleep(RESTED_SECONDS)
+    ask(connection, 201, "POST", MIGRATIONS, migration(name))
+    start = seconds_now()
+    condition, shown = looked_at(connection, name, SHORT_PAUSE)
+    seconds = seconds_now() - start
+    connection.close()
+    if condition != "Succeeded":
+        sys.exit(f"{name} is {condition}: {shown}")
+    return seconds * 1_000
+
+
 def print_idle(program, _options):
     """What the workers take while there is nothing to do."""
     for workers in IDLE_WORKERS:
@@ -276,6 +296,8 @@ def print_idle(program, _options):
         time.sleep(IDLE_SECONDS)
         used, seconds = server.thread_seconds() - used, seconds_now() - start
         print(f"idle: {used / seconds:.2%} of a processor with {workers} workers", flush=True)
+        waits = sorted(marked_after(server, f"m{number}") for number in range(MARKS))
+        print(f"idle: a migration is marked {waits[0]:.1f} to {waits[-1]:.1f} ms behind its 201, {waits[MARKS // 2]:.1f} in the middle", flush=True)
         server.stop()
 
 
