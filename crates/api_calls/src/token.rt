@@ -14,10 +14,15 @@ use kube_meta::{Key, name_ok, namespace_ok};
 use std::alloc::Global;
 
 /// Where a list goes on: the revision of its first page, and the key of the last object shown.
-#[derive(Drop)]
 pub struct Token {
     pub rv: u64,
     pub key: Key,
+}
+
+impl Drop for Token {
+    fn drop(self) {
+        let Token { rv: _, key: _ } = self;
+    }
 }
 
 /// Why a text is read as no token.

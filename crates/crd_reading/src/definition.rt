@@ -9,12 +9,22 @@ use std::marker::Model;
 use struct_schema::Schema;
 
 /// A version of a definition.
-#[derive(Drop)]
 pub struct Version {
     pub name: Txt,
     pub served: bool,
     pub storage: bool,
     pub schema: Schema,
+}
+
+impl Drop for Version {
+    fn drop(self) {
+        let Version {
+            name: _,
+            served: _,
+            storage: _,
+            schema: _,
+        } = self;
+    }
 }
 
 /// A definition that was accepted. It has 2 to 8 versions, whose names differ; one of them is the storage

@@ -20,11 +20,20 @@ use std::alloc::Global;
 
 /// The text of a definition's document, cut where the flags and the stored versions stand, so that the definition is shown with
 /// no memory taken and each byte copied once. It doesn't hold the definition.
-#[derive(Drop)]
 pub struct Pieces {
     parts: Vec<Part>,
     names: Vec<Txt>,
     room: u64,
+}
+
+impl Drop for Pieces {
+    fn drop(self) {
+        let Pieces {
+            parts: _,
+            names: _,
+            room: _,
+        } = self;
+    }
 }
 
 // ---- texts that are always the same

@@ -14,13 +14,24 @@ use std::marker::Model;
 
 /// A sink in memory, which keeps what is written up to a room in bytes, and fails at the calls that it is told to fail
 /// at.
-#[derive(Drop)]
 pub struct MemSink {
     bytes: Vec<u8>,
     flushed: usize,
     room: usize,
     number: Option<u64>,
     calls: CallCount,
+}
+
+impl Drop for MemSink {
+    fn drop(self) {
+        let MemSink {
+            bytes: _,
+            flushed: _,
+            room: _,
+            number: _,
+            calls: _,
+        } = self;
+    }
 }
 
 impl Model for MemSink {

@@ -13,13 +13,24 @@ use std::marker::Model;
 
 /// A source in memory, which gives its bytes in pieces of at most a given size, and fails at the calls that it is told
 /// to fail at.
-#[derive(Drop)]
 pub struct MemSource {
     bytes: Vec<u8>,
     taken: usize,
     piece: usize,
     number: Option<u64>,
     calls: CallCount,
+}
+
+impl Drop for MemSource {
+    fn drop(self) {
+        let MemSource {
+            bytes: _,
+            taken: _,
+            piece: _,
+            number: _,
+            calls: _,
+        } = self;
+    }
 }
 
 impl Model for MemSource {

@@ -10,10 +10,15 @@ use crate::{Failed, Sink, Source};
 use std::marker::Model;
 
 /// A source in memory that never fails. It is seen as the bytes that are left.
-#[derive(Drop)]
 pub struct SureSource {
     bytes: Vec<u8>,
     taken: usize,
+}
+
+impl Drop for SureSource {
+    fn drop(self) {
+        let SureSource { bytes: _, taken: _ } = self;
+    }
 }
 
 impl Model for SureSource {

@@ -23,9 +23,14 @@ pub const TEXT_BYTES: usize = 16_384;
 ///
 /// Names are hashed with a fixed seed. A client that picks names which collide makes a call look at each of the forms that are
 /// held, and at no more.
-#[derive(Drop)]
 pub struct FormCache {
     forms: LruCache<FormName, Txt>,
+}
+
+impl Drop for FormCache {
+    fn drop(self) {
+        let FormCache { forms: _ } = self;
+    }
 }
 
 impl Model for FormCache {

@@ -12,11 +12,20 @@ use std::hash::{Hash, Hasher};
 
 /// The name of a form: the key of its object, the number at which the object stood, and the place of the version at which it
 /// is shown.
-#[derive(Drop)]
 pub struct FormName {
     pub(crate) key: Key,
     pub(crate) number: u64,
     pub(crate) version: u8,
+}
+
+impl Drop for FormName {
+    fn drop(self) {
+        let FormName {
+            key: _,
+            number: _,
+            version: _,
+        } = self;
+    }
 }
 
 impl PartialEq for FormName {

@@ -19,12 +19,22 @@ pub const ROOM: usize = MOST_HEAD_BYTES + MOST_BODY_BYTES as usize;
 
 /// Bytes that were read, in the order in which they came. The last request that was read stays at their front until it
 /// is used. Contracts see the bytes, and how many of them that request has: none before a read and after a fault.
-#[derive(Drop)]
 pub struct Inbox {
     bytes: Vec<u8>,
     start: usize,
     end: usize,
     request: usize,
+}
+
+impl Drop for Inbox {
+    fn drop(self) {
+        let Inbox {
+            bytes: _,
+            start: _,
+            end: _,
+            request: _,
+        } = self;
+    }
 }
 
 impl Model for Inbox {

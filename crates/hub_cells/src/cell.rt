@@ -61,11 +61,21 @@ pub enum Names {
 }
 
 /// Names of both sides that hold one thing.
-#[derive(Drop)]
 pub struct Cell {
     pub spoke: Names,
     pub hub: Names,
     pub kind: CellKind,
     /// How many names of objects lead to it.
     pub depth: u32,
+}
+
+impl Drop for Cell {
+    fn drop(self) {
+        let Cell {
+            spoke: _,
+            hub: _,
+            kind: _,
+            depth: _,
+        } = self;
+    }
 }

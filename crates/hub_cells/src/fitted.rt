@@ -14,7 +14,6 @@ use struct_schema::Schema;
 /// for: every name of either schema is in one cell or is one inner object's, and what a cell's side
 /// allows goes over to what the other side allows.
 #[cycle(fitted)]
-#[derive(Drop)]
 pub struct Fitted {
     spoke: Schema,
     hub: Schema,
@@ -23,9 +22,21 @@ pub struct Fitted {
     inner: Vec<Inner>,
 }
 
+impl Drop for Fitted {
+    #[cycle(fitted_drop)]
+    fn drop(self) {
+        let Fitted {
+            spoke: _,
+            hub: _,
+            depth: _,
+            cells: _,
+            inner: _,
+        } = self;
+    }
+}
+
 /// An object that both sides have or neither.
 #[cycle(fitted)]
-#[derive(Drop)]
 pub struct Inner {
     /// Its name on the spoke's side.
     pub spoke: Txt,
@@ -34,6 +45,18 @@ pub struct Inner {
     /// Whether both sides require it; else neither does.
     pub required: bool,
     pub fitted: Fitted,
+}
+
+impl Drop for Inner {
+    #[cycle(fitted_drop)]
+    fn drop(self) {
+        let Inner {
+            spoke: _,
+            hub: _,
+            required: _,
+            fitted: _,
+        } = self;
+    }
 }
 
 impl Model for Fitted {

@@ -23,11 +23,20 @@ pub struct Pair {
 
 /// The pairs of a table, in the order of its rule. Once they are indexed, the partner of a text or of a whole number is
 /// found without going over them.
-#[derive(Drop)]
 pub struct PairItems {
     pairs: Vec<Pair>,
     by_spoke: Option<Places>,
     by_hub: Option<Places>,
+}
+
+impl Drop for PairItems {
+    fn drop(self) {
+        let PairItems {
+            pairs: _,
+            by_spoke: _,
+            by_hub: _,
+        } = self;
+    }
 }
 
 impl Model for PairItems {
@@ -97,7 +106,11 @@ impl PairItems {
     pub fn indexed(self, alloc: Global) -> Result<PairItems, NoMemory>
         ensures { IfOk result (λ ps. ps ≡ self) }
     {
-        let PairItems { pairs, .. } = self;
+        let PairItems {
+            pairs,
+            by_spoke: _,
+            by_hub: _,
+        } = self;
         let items = pairs.as_slice();
         let by_spoke = column_places(alloc, items, Side::Spoke)?;
         let by_hub = column_places(alloc, items, Side::Hub)?;

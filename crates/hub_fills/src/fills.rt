@@ -11,18 +11,34 @@ use std::marker::Model;
 /// For the cells of a level in their order, what the hub's name becomes where it isn't there, if anything; and the
 /// same of the objects inside, in theirs.
 #[cycle(fills)]
-#[derive(Drop)]
 pub struct Fills {
     values: Vec<Option<JVal>>,
     inner: Vec<Deeper>,
     any: bool,
 }
 
+impl Drop for Fills {
+    #[cycle(fills_drop)]
+    fn drop(self) {
+        let Fills {
+            values: _,
+            inner: _,
+            any: _,
+        } = self;
+    }
+}
+
 /// The fills of an object inside.
 #[cycle(fills)]
-#[derive(Drop)]
 pub struct Deeper {
     pub fills: Fills,
+}
+
+impl Drop for Deeper {
+    #[cycle(fills_drop)]
+    fn drop(self) {
+        let Deeper { fills: _ } = self;
+    }
 }
 
 impl Model for Fills {

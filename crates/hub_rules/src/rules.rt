@@ -14,7 +14,6 @@ pub const MAX_OBJECTS: u32 = 8;
 
 /// One rule.
 #[cycle(rules)]
-#[derive(Drop)]
 pub enum Line {
     /// The spoke's name is the hub's.
     Same {
@@ -57,12 +56,51 @@ pub enum Line {
     },
 }
 
+impl Drop for Line {
+    #[cycle(rules_drop)]
+    fn drop(self) {
+        match self {
+            Line::Same { spoke: _, hub: _ } => {}
+            Line::Object {
+                spoke: _,
+                hub: _,
+                rules: _,
+            } => {}
+            Line::SpokeOnly { name: _ } => {}
+            Line::HubOnly { name: _ } => {}
+            Line::Split {
+                spoke: _,
+                first: _,
+                second: _,
+            } => {}
+            Line::Table {
+                spoke: _,
+                hub: _,
+                pairs: _,
+                spoke_blank: _,
+                hub_blank: _,
+            } => {}
+            Line::Scale {
+                spoke: _,
+                hub: _,
+                by: _,
+            } => {}
+        }
+    }
+}
+
 /// The rules of one level in the order of their document. A table's values are scalars, a factor is
 /// from 2 to 1,000,000,000, and no `object` rule stands inside eight others.
 #[cycle(rules)]
-#[derive(Drop)]
 pub struct Rules {
     lines: Vec<Line>,
+}
+
+impl Drop for Rules {
+    #[cycle(rules_drop)]
+    fn drop(self) {
+        let Rules { lines: _ } = self;
+    }
 }
 
 impl Model for Rules {

@@ -7,9 +7,14 @@ use std::alloc::Global;
 use std::marker::Model;
 
 /// Entries, in any order.
-#[derive(Drop)]
 pub struct Kept {
     entries: Vec<Entry>,
+}
+
+impl Drop for Kept {
+    fn drop(self) {
+        let Kept { entries: _ } = self;
+    }
 }
 
 impl Model for Kept {
@@ -67,7 +72,8 @@ impl Kept {
     pub fn into_vec(self) -> Vec<Entry>
         ensures { result.items ≡ self }
     {
-        self.entries
+        let Kept { entries } = self;
+        entries
     }
 
     /// Adds an entry at the end. After an error the list is as it was.

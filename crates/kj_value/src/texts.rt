@@ -10,9 +10,14 @@ use std::alloc::Global;
 use std::marker::Model;
 
 /// Texts in order.
-#[derive(Drop)]
 pub struct TextList {
     texts: Vec<Txt>,
+}
+
+impl Drop for TextList {
+    fn drop(self) {
+        let TextList { texts: _ } = self;
+    }
 }
 
 impl Model for TextList {
@@ -68,7 +73,8 @@ impl TextList {
     pub fn into_vec(self) -> Vec<Txt>
         ensures { map bytes_of result.items ≡ self }
     {
-        self.texts
+        let TextList { texts } = self;
+        texts
     }
 
     /// The same texts again, in memory of their own.
@@ -109,9 +115,14 @@ impl Named for TextField {
 }
 
 /// Texts by name, the names strictly rising by bytes.
-#[derive(Drop)]
 pub struct TextMap {
     fields: Vec<TextField>,
+}
+
+impl Drop for TextMap {
+    fn drop(self) {
+        let TextMap { fields: _ } = self;
+    }
 }
 
 impl Model for TextMap {
@@ -178,7 +189,8 @@ impl TextMap {
         ensures value { map text_pair result.items ≡ self }
         ensures order { AreInOrder self }
     {
-        self.fields
+        let TextMap { fields } = self;
+        fields
     }
 
     /// The same texts again, in memory of their own.

@@ -23,9 +23,14 @@ struct Parts {
 
 /// The namespace and the name of an object, each within its bound in bytes. It is as wide as a pointer, so that lists of things
 /// with keys move little. It never changes, and whoever shares it has the same memory.
-#[derive(Drop)]
 pub struct Key {
     parts: Arc<Parts>,
+}
+
+impl Drop for Key {
+    fn drop(self) {
+        let Key { parts: _ } = self;
+    }
 }
 
 impl Model for Key {

@@ -8,11 +8,20 @@ use std::alloc::Global;
 use std::marker::Model;
 
 /// A storage migration: its name, the version that objects are moved to, and how it stands.
-#[derive(Drop)]
 pub struct MigrationItem {
     name: Txt,
     target: u8,
     condition: Condition,
+}
+
+impl Drop for MigrationItem {
+    fn drop(self) {
+        let MigrationItem {
+            name: _,
+            target: _,
+            condition: _,
+        } = self;
+    }
 }
 
 impl Model for MigrationItem {
@@ -85,9 +94,14 @@ impl MigrationItem {
 }
 
 /// Migrations in the order of their starts.
-#[derive(Drop)]
 pub struct MigrationItems {
     items: Vec<MigrationItem>,
+}
+
+impl Drop for MigrationItems {
+    fn drop(self) {
+        let MigrationItems { items: _ } = self;
+    }
 }
 
 impl Model for MigrationItems {
@@ -128,6 +142,7 @@ impl MigrationItems {
     pub fn into_vec(self) -> Vec<MigrationItem>
         ensures { result.items ≡ self }
     {
-        self.items
+        let MigrationItems { items } = self;
+        items
     }
 }

@@ -24,13 +24,24 @@ use std::marker::Model;
 const SLOTS: usize = 16;
 
 /// The migrations in the order of their starts, and the plan of the one that runs.
-#[derive(Drop)]
 pub struct Migrations {
     items: Vec<MigrationItem>,
     limit: u64,
     cursor: KeyBound,
     slots: Vec<ClaimSlot>,
     last: u64,
+}
+
+impl Drop for Migrations {
+    fn drop(self) {
+        let Migrations {
+            items: _,
+            limit: _,
+            cursor: _,
+            slots: _,
+            last: _,
+        } = self;
+    }
 }
 
 impl Model for Migrations {

@@ -17,7 +17,6 @@ use paths::names_in;
 use std::alloc::Global;
 
 /// Where the objects of a resource are.
-#[derive(Drop)]
 pub struct Place {
     /// As a URL writes it: lower case, an IPv6 address in its brackets.
     pub host: Txt,
@@ -25,6 +24,18 @@ pub struct Place {
     pub group: Txt,
     pub version: Txt,
     pub plural: Txt,
+}
+
+impl Drop for Place {
+    fn drop(self) {
+        let Place {
+            host: _,
+            port: _,
+            group: _,
+            version: _,
+            plural: _,
+        } = self;
+    }
 }
 
 /// Why there is no place.

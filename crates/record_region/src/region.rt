@@ -12,7 +12,6 @@ use std::alloc::Global;
 use std::marker::Model;
 
 /// A region of chunks. It takes its memory when it is opened, and none later.
-#[derive(Drop)]
 pub struct Region {
     store: Vec<u8>,
     // The chunk that follows a chunk in its chain.
@@ -22,6 +21,18 @@ pub struct Region {
     // The first free chunk, and how many are free: the chain from it has so many.
     head: u32,
     free: u32,
+}
+
+impl Drop for Region {
+    fn drop(self) {
+        let Region {
+            store: _,
+            links: _,
+            marks: _,
+            head: _,
+            free: _,
+        } = self;
+    }
 }
 
 impl Model for Region {

@@ -32,7 +32,6 @@ struct Sought {
 }
 
 /// Records by key, and the window of those that were superseded. It takes its memory when it is opened.
-#[derive(Drop)]
 pub struct Store {
     limits: Limits,
     index: Index,
@@ -42,6 +41,19 @@ pub struct Store {
     live: u64,
     // The number of the last change.
     last: u64,
+}
+
+impl Drop for Store {
+    fn drop(self) {
+        let Store {
+            limits: _,
+            index: _,
+            window: _,
+            region: _,
+            live: _,
+            last: _,
+        } = self;
+    }
 }
 
 impl Model for Store {

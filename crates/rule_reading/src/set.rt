@@ -22,17 +22,27 @@ use std::cmp::Ordering;
 use std::marker::Model;
 
 /// A spoke, by the name of its version, with its rules.
-#[derive(Drop)]
 pub struct SpokeRules {
     /// Unlike every other name of its map.
     pub name: Txt,
     pub rules: Rules,
 }
 
+impl Drop for SpokeRules {
+    fn drop(self) {
+        let SpokeRules { name: _, rules: _ } = self;
+    }
+}
+
 /// The rules of each spoke, the names strictly rising by bytes.
-#[derive(Drop)]
 pub struct RuleMap {
     spokes: Vec<SpokeRules>,
+}
+
+impl Drop for RuleMap {
+    fn drop(self) {
+        let RuleMap { spokes: _ } = self;
+    }
 }
 
 impl Model for RuleMap {
@@ -87,11 +97,16 @@ impl RuleMap {
 }
 
 /// The rules by which each spoke goes over to the hub.
-#[derive(Drop)]
 pub struct RuleSet {
     /// The name of the hub's version.
     pub hub: Txt,
     pub spokes: RuleMap,
+}
+
+impl Drop for RuleSet {
+    fn drop(self) {
+        let RuleSet { hub: _, spokes: _ } = self;
+    }
 }
 
 /// Why a rule document is refused.

@@ -61,9 +61,14 @@ impl Listed {
 
 /// Values in the order of their document. Whether a text or a whole number is one of many is found without going
 /// over them. They never change, and whoever has a copy has the same memory.
-#[derive(Drop)]
 pub struct Choices {
     listed: Arc<Listed>,
+}
+
+impl Drop for Choices {
+    fn drop(self) {
+        let Choices { listed: _ } = self;
+    }
 }
 
 impl Model for Choices {

@@ -13,10 +13,18 @@ use std::collections::HashMap;
 const MANY: usize = 16;
 
 /// The first place of each text and of each whole number of a list. Other values have none.
-#[derive(Drop)]
 pub struct Places {
     texts: HashMap<String, usize>,
     wholes: HashMap<i64, usize>,
+}
+
+impl Drop for Places {
+    fn drop(self) {
+        let Places {
+            texts: _,
+            wholes: _,
+        } = self;
+    }
 }
 
 /// What places tell of a value.

@@ -10,10 +10,18 @@ use std::alloc::Global;
 use std::marker::Model;
 
 /// Names in the order of their document. Whether a name is one of many is found without going over them.
-#[derive(Drop)]
 pub struct Required {
     names: TextList,
     places: Option<Places>,
+}
+
+impl Drop for Required {
+    fn drop(self) {
+        let Required {
+            names: _,
+            places: _,
+        } = self;
+    }
 }
 
 impl Model for Required {

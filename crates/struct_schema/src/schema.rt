@@ -16,7 +16,6 @@ use std::marker::Model;
 /// A node of a structural schema with the nodes inside it (apiextensions.k8s.io/v1,
 /// `JSONSchemaProps`). Each field is the keyword of its name.
 #[cycle(schema)]
-#[derive(Drop)]
 pub struct Schema {
     /// `type`, or what stands for it.
     pub kind: NodeKind,
@@ -43,28 +42,73 @@ pub struct Schema {
     pub default_value: Option<JVal>,
 }
 
+impl Drop for Schema {
+    #[cycle(schema_drop)]
+    fn drop(self) {
+        let Schema {
+            kind: _,
+            preserve: _,
+            nullable: _,
+            choices: _,
+            minimum: _,
+            maximum: _,
+            format: _,
+            min_length: _,
+            max_length: _,
+            min_items: _,
+            max_items: _,
+            required: _,
+            properties: _,
+            additional: _,
+            items: _,
+            default_value: _,
+        } = self;
+    }
+}
+
 /// One name of `properties`, with its schema.
 #[cycle(schema)]
-#[derive(Drop)]
 pub struct SchemaField {
     /// Unlike every other name of its map.
     pub name: Txt,
     pub schema: Schema,
 }
 
+impl Drop for SchemaField {
+    #[cycle(schema_drop)]
+    fn drop(self) {
+        let SchemaField { name: _, schema: _ } = self;
+    }
+}
+
 /// Schemas by name, the names strictly rising by bytes. It knows whether one of them has a default.
 #[cycle(schema)]
-#[derive(Drop)]
 pub struct SchemaMap {
     fields: Vec<SchemaField>,
     defaults: bool,
 }
 
+impl Drop for SchemaMap {
+    #[cycle(schema_drop)]
+    fn drop(self) {
+        let SchemaMap {
+            fields: _,
+            defaults: _,
+        } = self;
+    }
+}
+
 /// A schema inside another.
 #[cycle(schema)]
-#[derive(Drop)]
 pub struct SchemaBox {
     node: Box<Schema>,
+}
+
+impl Drop for SchemaBox {
+    #[cycle(schema_drop)]
+    fn drop(self) {
+        let SchemaBox { node: _ } = self;
+    }
 }
 
 impl Model for SchemaMap {

@@ -127,10 +127,18 @@ impl Link for MemLent {
 }
 
 /// Links in memory, which are made in order, whatever the host and the port are. Where none is left, one without answers is made.
-#[derive(Drop)]
 pub struct MemLinks {
     waiting: IntoIter<MemReady>,
     returned: Returned,
+}
+
+impl Drop for MemLinks {
+    fn drop(self) {
+        let MemLinks {
+            waiting: _,
+            returned: _,
+        } = self;
+    }
 }
 
 impl Model for MemLinks {

@@ -16,9 +16,14 @@ use std::mem;
 pub const ANSWER_LEVELS: u32 = 66;
 
 /// The memory in which answers are read, one after the other: some 1 MiB, which is taken at the first one.
-#[derive(Drop)]
 pub struct ResponseBuffer {
     inbox: Option<Inbox>,
+}
+
+impl Drop for ResponseBuffer {
+    fn drop(self) {
+        let ResponseBuffer { inbox: _ } = self;
+    }
 }
 
 impl ResponseBuffer {

@@ -35,7 +35,7 @@ overflow_add-self c =
     let new = is-new c.self.inside.limits c.self.inside.index c.self.inside.window c.self.inside.region c.self.inside.live c.self.inside.last c.self.invariant c.args.new.key c.args.place c.args.new.weight c.args.self.now c.self.view_is c.requires.there c.requires.room in
     omega (arith, new.light, c.self.invariant.small)
 
-changed : (c : goal.After-drop-bytes-inside) → Changed c.self.inside.limits c.insert.new.self c.self.inside.window c.put.new.self (c.self.inside.live + c.args.new.weight) c.args.now (with_new c.args.now c.args.new c.args.self.now)
+changed : (c : goal.After-drop-bytes) → Changed c.self.inside.limits c.insert.new.self c.self.inside.window c.put.new.self (c.self.inside.live + c.args.new.weight) c.args.now (with_new c.args.now c.args.new c.args.self.now)
 changed c =
     let new = is-new c.self.inside.limits c.self.inside.index c.self.inside.window c.self.inside.region c.self.inside.live c.self.inside.last c.self.invariant c.args.new.key c.args.place c.args.new.weight c.args.self.now c.self.view_is c.requires.there c.requires.room in
     let last = ap (λ (v : StoreView). v.last) c.self.view_is in

@@ -95,7 +95,7 @@ overflow_add-self c =
     let small = c.self.invariant.small in
     omega (arith, weight, fits, small)
 
-changed : (c : goal.After-drop-bytes-inside) → Changed c.self.inside.limits c.set_piece.new.self c.trim.new.self c.put.new.self (c.self.inside.live - c.record_at-standing.result.weight + c.args.new.weight) c.args.now (with_new c.args.now c.args.new c.args.self.now)
+changed : (c : goal.After-drop-bytes) → Changed c.self.inside.limits c.set_piece.new.self c.trim.new.self c.put.new.self (c.self.inside.live - c.record_at-standing.result.weight + c.args.new.weight) c.args.now (with_new c.args.now c.args.new c.args.self.now)
 changed c =
     let last = ap (λ (v : StoreView). v.last) c.self.view_is in
     let asked = c.requires.later in
