@@ -3,14 +3,14 @@ use Rattle.std.proofs.Common.{◌≡◌, ◌⊎◌, ℕ, ◌+◌, ◌-◌, ◌<�
 use Rattle.std.proofs.lemmas.List.{append-nil, take-append-drop, take-append-le, take_all, take-take, drop-append-le}
 use Rattle.std.proofs.Math.Seq.{drop-append_seam, drop-append-add, take-append_seam}
 use Rattle.std.proofs.lemmas.Bool.{cases_lt}
-use Rattle.std.specs.Io.KnownBytes.{prepend_known, IsAtEnd}
+use Rattle.std.specs.Io.KnownBytes.{prepend_known}
 use Rattle.httparse.specs.Grammar.{ResponseHead, ReadsResponse, print_response, print_blank, print_version}
 use Rattle.httparse.proofs.GrammarLemmas.{response_unique, print_response-append}
 use Rattle.http_wire.specs.declared.limits.TheConstants.{MOST_HEAD_BYTES}
 use Rattle.http_wire.specs.Head.{window}
 use Rattle.http_wire.specs.Lines.{EndsInEmptyLine, HasEmptyLine}
 use Rattle.http_wire.specs.Inboxes.{Held, part_of}
-use Rattle.http_wire.specs.Received.{Response, Receives, IsStatusHead, LacksHead, LacksResponse, IsOpenStatus, FaultyResponse, IsPartOfResponse, IsStatusOf, response_of, response_at, length_after, AreResponseParts, IsLack, IsNextResponse, IsNextStatus, Received}
+use Rattle.http_wire.specs.Received.{Response, Receives, IsStatusHead, LacksHead, LacksResponse, IsOpenStatus, FaultyResponse, IsPartOfResponse, IsStatusOf, response_of, response_at, length_after, AreResponseParts, IsLack, IsNextResponse, Received}
 use Rattle.http_wire.specs.declared.WireFault.{WireFault}
 use Rattle.http_wire.specs.declared.WireFault.TheVariants.{Closed, Torn, ReadFault, BadHead, HeadTooLong, LengthRequired, BodyTooLong}
 use Rattle.http_wire.specs.declared.ResponseParts.{ResponseParts}
@@ -32,6 +32,10 @@ window_head b h tail head =
 -- an open head isn't whole
 pub open_no_head : (b : List ℕ) (h : ResponseHead) (tail : List ℕ) → IsOpenStatus (window b) → IsStatusHead b h tail → ⊥
 open_no_head b h tail open_ head = open_.0 h _ (window_head b h tail head)
+
+-- equal bytes are as open
+pub open_as : (held b : List ℕ) → held ≡ b → IsOpenStatus (window held) → IsOpenStatus (window b)
+open_as held b same open_ = subst (λ (xs : List ℕ). IsOpenStatus (window xs)) same open_
 
 pub no_head_yet : {A : Type 0} (now old : Held) → ((h : ResponseHead) (tail : List ℕ) → IsStatusHead old.bytes h tail → ⊥) ⊎ (A × (now ≡ old))
     → IsOpenStatus (window now.bytes) → (h : ResponseHead) (tail : List ℕ) → IsStatusHead old.bytes h tail → ⊥
@@ -175,21 +179,6 @@ no_head_grown old new front none no_line h tail head =
             short = head.short;
           })
     ]
-
-fault_at_end : (b : List ℕ) (left : Option (List ℕ)) (f : WireFault) → IsAtEnd left → IsLack b (Some []) f → IsLack b left f
-fault_at_end b left Closed at end = (end.0, at)
-fault_at_end b left (Torn n) at end = (end.0, end.1, end.2, at)
-fault_at_end b left ReadFault at end = tt
-fault_at_end b left BadHead at end = end
-fault_at_end b left HeadTooLong at end = end
-fault_at_end b left LengthRequired at end = end
-fault_at_end b left (BodyTooLong n) at end = end
-
--- what stands at the end of the input
-pub next_at_end : (b : List ℕ) (left : Option (List ℕ)) (result : Result StatusParts WireFault) → IsAtEnd left
-    → IsNextStatus b (Some []) result → IsNextStatus b left result
-next_at_end b left (Ok p) at next = next
-next_at_end b left (Err f) at next = fault_at_end b left f at next
 
 -- two readings of the same bytes are one
 pub response_one : (b : List ℕ) (r q : Response) (rest tail : List ℕ) → Receives b r rest → Receives b q tail → (r ≡ q) × (rest ≡ tail)
