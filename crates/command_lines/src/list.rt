@@ -6,9 +6,14 @@ use std::alloc::Global;
 use std::marker::Model;
 
 /// The words of the command line, without the program's name.
-#[derive(Drop)]
 pub struct Words {
     texts: Vec<String>,
+}
+
+impl Drop for Words {
+    fn drop(self) {
+        let Words { texts: _ } = self;
+    }
 }
 
 impl Model for Words {

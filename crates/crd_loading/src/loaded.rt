@@ -9,11 +9,20 @@ use std::marker::Model;
 /// A definition, which of its versions is the hub, and the fitted rules of each other version, in the order
 /// of the versions. Each `Fitted` stands for the schema of its version and the hub's, and no names of objects
 /// lead to it.
-#[derive(Drop)]
 pub struct Loaded {
     definition: Definition,
     hub: usize,
     spokes: Vec<Fitted>,
+}
+
+impl Drop for Loaded {
+    fn drop(self) {
+        let Loaded {
+            definition: _,
+            hub: _,
+            spokes: _,
+        } = self;
+    }
 }
 
 impl Model for Loaded {
@@ -87,6 +96,11 @@ impl Loaded {
         ensures spokes { result.2.items ≡ self.spokes }
         ensures together { IsTogether self }
     {
-        (self.definition, self.hub, self.spokes)
+        let Loaded {
+            definition,
+            hub,
+            spokes,
+        } = self;
+        (definition, hub, spokes)
     }
 }

@@ -21,7 +21,6 @@ use turn_cell::{PassOf, Turn};
 
 /// The server of a definition, which callers share. Contracts see the table of its turn, and what no call changes: the
 /// definition, the limits and the number of the server's start.
-#[derive(Drop)]
 pub struct SharedApi<V: Versions + Drop> {
     pub(crate) alloc: Global,
     pub(crate) turn: Turn<CoreCell<V>>,
@@ -29,6 +28,19 @@ pub struct SharedApi<V: Versions + Drop> {
     pub(crate) limits: Limits,
     pub(crate) boot: u64,
     pub(crate) bell: Bell,
+}
+
+impl<V: Versions + Drop> Drop for SharedApi<V> {
+    fn drop(self) {
+        let SharedApi {
+            alloc: _,
+            turn: _,
+            versions: _,
+            limits: _,
+            boot: _,
+            bell: _,
+        } = self;
+    }
 }
 
 impl<V: Versions + Drop> Model for SharedApi<V> {

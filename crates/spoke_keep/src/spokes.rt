@@ -7,11 +7,20 @@ use std::alloc::Global;
 use std::marker::Model;
 
 /// A version that isn't the hub, with its rules, fitted to its schema and the hub's.
-#[derive(Drop)]
 pub struct Spoke {
     name: Txt,
     key: Txt,
     fitted: Fitted,
+}
+
+impl Drop for Spoke {
+    fn drop(self) {
+        let Spoke {
+            name: _,
+            key: _,
+            fitted: _,
+        } = self;
+    }
 }
 
 impl Model for Spoke {
@@ -67,12 +76,22 @@ impl Spoke {
 /// names differ, that all rules are fitted from the root on to one schema of the hub, that each default is a value
 /// that its side allows, and that none comes too late for some spoke; and for each spoke what the hub's names
 /// become where they aren't there.
-#[derive(Drop)]
 pub struct Spokes {
     group: Txt,
     hub: Txt,
     items: Vec<Spoke>,
     fills: Vec<Fills>,
+}
+
+impl Drop for Spokes {
+    fn drop(self) {
+        let Spokes {
+            group: _,
+            hub: _,
+            items: _,
+            fills: _,
+        } = self;
+    }
 }
 
 impl Model for Spokes {

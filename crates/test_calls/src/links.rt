@@ -18,11 +18,20 @@ const CHUNK: &str =
     "xxxxxxxxxxxxxxxxxxxxxxxxxxxxxxxxxxxxxxxxxxxxxxxxxxxxxxxxxxxxxxxxxxxxxxxxxxxxxxxxxxxxxxxxxxxxxxxxxxxxxxxxxxxxxxxxxxxxxxxxxxxxxxxxxxxxxxxxxxxxxxxxxxxxxxxxxxxxxxxxxxxxxxxxxxxxxxxxxxxxxxxxxxxxxxxxxxxxxxxxxxxxxxxxxxxxxxxxxxxxxxxxxxxxxxxxxxxxxxxxxxxxxxxxxxxxxxxx";
 
 // The two ends of a connection, and whether it is told in short.
-#[derive(Drop)]
 struct Link {
     source: MemSource,
     sink: MemSink,
     is_short: bool,
+}
+
+impl Drop for Link {
+    fn drop(self) {
+        let Link {
+            source: _,
+            sink: _,
+            is_short: _,
+        } = self;
+    }
 }
 
 // The number of a call that fails, where one is named.

@@ -55,11 +55,20 @@ fn put(alloc: Global, place: &mut String, text: &str) -> bool {
 }
 
 /// What a script has: its first line, the input of its connections, and its orders.
-#[derive(Drop)]
 pub(crate) struct Case {
     pub(crate) head: String,
     input: String,
     lines: String,
+}
+
+impl Drop for Case {
+    fn drop(self) {
+        let Case {
+            head: _,
+            input: _,
+            lines: _,
+        } = self;
+    }
 }
 
 impl Case {
@@ -98,10 +107,18 @@ pub(crate) fn gathered(alloc: Global, lines: &str) -> Option<Case> {
 }
 
 // The workers of the two passes.
-#[derive(Drop)]
 struct Team {
     first: Worker,
     second: Worker,
+}
+
+impl Drop for Team {
+    fn drop(self) {
+        let Team {
+            first: _,
+            second: _,
+        } = self;
+    }
 }
 
 // Adds a line with its answer, where there is one, to what was told.

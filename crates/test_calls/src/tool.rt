@@ -28,12 +28,21 @@ fn place_of(word: &str) -> Option<Place> {
 }
 
 /// How far two threads have come, of which one waits inside a call until the other has its answer.
-#[derive(Drop)]
 pub struct Post {
     // Each is 0 until it is so.
     waits: AtomicU64,
     answered: AtomicU64,
     spent: AtomicU64,
+}
+
+impl Drop for Post {
+    fn drop(self) {
+        let Post {
+            waits: _,
+            answered: _,
+            spent: _,
+        } = self;
+    }
 }
 
 // Whether the word was set before the tries were spent.
@@ -84,12 +93,22 @@ impl Post {
 
 /// A tool that fails once, at the conversion of a chosen number, and counts that. It may also wait once, in one call of
 /// the definition.
-#[derive(Drop)]
 pub struct Chosen {
     left: u64,
     faults: u64,
     place: Place,
     post: Option<Arc<Post, Global>>,
+}
+
+impl Drop for Chosen {
+    fn drop(self) {
+        let Chosen {
+            left: _,
+            faults: _,
+            place: _,
+            post: _,
+        } = self;
+    }
 }
 
 impl Chosen {

@@ -31,7 +31,6 @@ pub fn name_of(alloc: Global, n: u64) -> Option<String> {
 // ---- which turn
 
 // What a number chooses: its low bits the turn, the next the object, and so on.
-#[derive(Drop)]
 struct Draw {
     turn: u64,
     object: u64,
@@ -39,6 +38,18 @@ struct Draw {
     // Once in eight turns.
     rare: bool,
     migration: u64,
+}
+
+impl Drop for Draw {
+    fn drop(self) {
+        let Draw {
+            turn: _,
+            object: _,
+            coin: _,
+            rare: _,
+            migration: _,
+        } = self;
+    }
 }
 
 fn drawn(n: u64) -> Draw {

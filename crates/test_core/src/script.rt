@@ -30,10 +30,18 @@ const SMALL: Limits = Limits {
 };
 
 /// Two workers.
-#[derive(Drop)]
 pub struct Team {
     pub first: Worker,
     pub second: Worker,
+}
+
+impl Drop for Team {
+    fn drop(self) {
+        let Team {
+            first: _,
+            second: _,
+        } = self;
+    }
 }
 
 impl Team {

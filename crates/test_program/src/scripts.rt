@@ -7,10 +7,18 @@ use std::time::Clock;
 use test_runs::{Case, take};
 
 /// The lines of a script, where lines are those of scripts.
-#[derive(Drop)]
 pub(crate) struct Script {
     is_open: bool,
     lines: String,
+}
+
+impl Drop for Script {
+    fn drop(self) {
+        let Script {
+            is_open: _,
+            lines: _,
+        } = self;
+    }
 }
 
 impl Script {

@@ -2,7 +2,6 @@
 use std::alloc::Global;
 
 /// The two files.
-#[derive(Drop)]
 pub(crate) struct Documents {
     pub(crate) base: String,
     pub(crate) crd: String,
@@ -10,13 +9,34 @@ pub(crate) struct Documents {
     pub(crate) old: String,
 }
 
+impl Drop for Documents {
+    fn drop(self) {
+        let Documents {
+            base: _,
+            crd: _,
+            rules: _,
+            old: _,
+        } = self;
+    }
+}
+
 /// The input, and a request that isn't whole yet.
-#[derive(Drop)]
 pub(crate) struct Asked {
     pub(crate) words: String,
     pub(crate) target: String,
     pub(crate) body: String,
     pub(crate) input: String,
+}
+
+impl Drop for Asked {
+    fn drop(self) {
+        let Asked {
+            words: _,
+            target: _,
+            body: _,
+            input: _,
+        } = self;
+    }
 }
 
 /// The connections that the ears have: how many, and which read and which write of each fails.
@@ -43,23 +63,40 @@ pub(crate) struct Outside {
 }
 
 /// With what a case is run again.
-#[derive(Drop)]
 pub(crate) struct Again {
     pub(crate) pieces: String,
     pub(crate) faults: bool,
     pub(crate) places: bool,
 }
 
+impl Drop for Again {
+    fn drop(self) {
+        let Again {
+            pieces: _,
+            faults: _,
+            places: _,
+        } = self;
+    }
+}
+
 /// Lines that stand once for each number from the first on and below the end; none are gathered where there is no such number.
-#[derive(Drop)]
 pub(crate) struct Block {
     pub(crate) first: usize,
     pub(crate) end: usize,
     pub(crate) lines: Vec<String>,
 }
 
+impl Drop for Block {
+    fn drop(self) {
+        let Block {
+            first: _,
+            end: _,
+            lines: _,
+        } = self;
+    }
+}
+
 /// A case.
-#[derive(Drop)]
 pub struct Case {
     pub(crate) documents: Documents,
     pub(crate) asked: Asked,
@@ -67,6 +104,19 @@ pub struct Case {
     pub(crate) again: Again,
     pub(crate) block: Block,
     pub(crate) times: usize,
+}
+
+impl Drop for Case {
+    fn drop(self) {
+        let Case {
+            documents: _,
+            asked: _,
+            outside: _,
+            again: _,
+            block: _,
+            times: _,
+        } = self;
+    }
 }
 
 impl Outside {

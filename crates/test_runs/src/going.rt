@@ -154,7 +154,6 @@ fn links_of(alloc: Global, case: &Case, outside: Outside) -> Option<MemLinks> {
 }
 
 /// What a run came to.
-#[derive(Drop)]
 pub(crate) struct Outcome {
     pub(crate) output: Vec<u8>,
     pub(crate) connection: Vec<u8>,
@@ -162,6 +161,19 @@ pub(crate) struct Outcome {
     pub(crate) status: u8,
     pub(crate) calls: u64,
     pub(crate) handed_out: usize,
+}
+
+impl Drop for Outcome {
+    fn drop(self) {
+        let Outcome {
+            output: _,
+            connection: _,
+            errors: _,
+            status: _,
+            calls: _,
+            handed_out: _,
+        } = self;
+    }
 }
 
 // What stands in the sinks behind a run, and what was written to the connection.

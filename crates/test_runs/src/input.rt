@@ -5,7 +5,6 @@ use edge_io::{Failed, Source};
 
 /// An input, of which a read gives so many bytes at most, and none behind a place together with one before it. The read with the number
 /// `fails` fails, counted from 0.
-#[derive(Drop)]
 pub(crate) struct Input {
     pub(crate) bytes: Vec<u8>,
     pub(crate) piece: usize,
@@ -14,6 +13,20 @@ pub(crate) struct Input {
     pub(crate) at: usize,
     pub(crate) reads: u64,
     pub(crate) faults: u64,
+}
+
+impl Drop for Input {
+    fn drop(self) {
+        let Input {
+            bytes: _,
+            piece: _,
+            place: _,
+            fails: _,
+            at: _,
+            reads: _,
+            faults: _,
+        } = self;
+    }
 }
 
 // The bytes that stand before a place, and from it on.

@@ -3,10 +3,18 @@ use std::alloc::Global;
 
 /// Lines that are told one behind the other. Each is added without a word of how that went: where one finds no memory, or something isn't as a
 /// case is to be, none are told.
-#[derive(Drop)]
 pub(crate) struct Lines {
     text: String,
     is_lost: bool,
+}
+
+impl Drop for Lines {
+    fn drop(self) {
+        let Lines {
+            text: _,
+            is_lost: _,
+        } = self;
+    }
 }
 
 impl Lines {

@@ -208,10 +208,18 @@ fn add_parts(alloc: Global, inbox: &Inbox, parts: ResponseParts, out: &mut Told)
 // ---- written
 
 // A sink that takes at most three bytes at a time.
-#[derive(Drop)]
 struct Narrow {
     bytes: Vec<u8>,
     faults: u64,
+}
+
+impl Drop for Narrow {
+    fn drop(self) {
+        let Narrow {
+            bytes: _,
+            faults: _,
+        } = self;
+    }
 }
 
 impl Sink for Narrow {

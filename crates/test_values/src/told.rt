@@ -5,10 +5,18 @@ use std::fmt::Debug;
 
 /// What a case is answered with. Words are added to it without a word of how that went: where one finds no memory, or something isn't as a
 /// case is to be, there is no answer.
-#[derive(Drop)]
 pub(crate) struct Told {
     text: String,
     is_lost: bool,
+}
+
+impl Drop for Told {
+    fn drop(self) {
+        let Told {
+            text: _,
+            is_lost: _,
+        } = self;
+    }
 }
 
 impl Told {
