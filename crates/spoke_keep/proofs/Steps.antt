@@ -1,5 +1,5 @@
 -- What was read, and what a fault says of the first annotation.
-use Rattle.std.proofs.Common.{◌≡◌, List, true, Option, Some, None, Result, Ok, Err, IfOk, refl, ap, sym, subst, ◌∙◌}
+use Rattle.std.proofs.Common.{◌≡◌, List, true, Option, Some, None, Result, Ok, Err, IfOk, OnOk, refl, ap, sym, subst, ◌∙◌}
 use Rattle.std.specs.Prelude.{is_some}
 use Rattle.kj_value.specs.Fields.{Pairs, field}
 use Rattle.kube_meta.specs.View.{Texts, MetaView, ObjectView}
@@ -51,6 +51,10 @@ hub_fault all n k ns NoMemory q bad = tt
 pub if_ok : {A E : Type 0} (P Q : A → Type 0) (r : Result A E) → ((x : A) → P x → Q x) → IfOk r P → IfOk r Q
 if_ok P Q (Ok x) f h = f x h
 if_ok P Q (Err e) f h = h
+
+pub on_ok : {A E P Q : Type 0} (r : Result A E) → (P → Q) → OnOk r P → OnOk r Q
+on_ok (Ok x) f h = f h
+on_ok (Err e) f h = h
 
 -- a fact of an object that was made of its parts
 pub made_of : (P : ObjectView → Type 0) (o : ObjectView) (v w kind : Name) (m : MetaView) (b : Pairs) → o ≡ record { api_version = v; kind = kind; meta = m; body = b } → v ≡ w → P (record { api_version = w; kind = kind; meta = m; body = b }) → P o

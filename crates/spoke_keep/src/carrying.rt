@@ -45,9 +45,20 @@ fn judged(
     let fitted = s.fitted();
     let _ = fitted.cells();
     let _ = body.len();
-    let kept = read_note(alloc, name, text)?;
-    let lives = living(alloc, fitted, Side::Hub, body, kept)?;
-    Ok(write_note(alloc, &lives)?)
+    let kept = match read_note(alloc, name, text) {
+        Ok(kept) => kept,
+        Err(fault) => return Err(fault),
+    };
+    let lives = match living(alloc, fitted, Side::Hub, body, kept) {
+        Ok(lives) => lives,
+        Err(NoMemory) => return Err(KeepFault::NoMemory),
+    };
+    let note = write_note(alloc, &lives);
+    drop(lives);
+    match note {
+        Ok(note) => Ok(note),
+        Err(NoMemory) => Err(KeepFault::NoMemory),
+    }
 }
 
 fn spoke_fate(
@@ -68,9 +79,10 @@ fn spoke_fate(
     if own_side {
         return Ok(Fate::Goes);
     }
-    match judged(alloc, s, body, name, text)? {
-        Some(left) => Ok(Fate::Becomes(left)),
-        None => Ok(Fate::Goes),
+    match judged(alloc, s, body, name, text) {
+        Ok(Some(left)) => Ok(Fate::Becomes(left)),
+        Ok(None) => Ok(Fate::Goes),
+        Err(fault) => Err(fault),
     }
 }
 

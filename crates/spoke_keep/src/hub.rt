@@ -1,28 +1,30 @@
 //! From a spoke to the hub.
-ghost use Rattle.std.specs.Prelude.{◌≡◌, ◌≤◌, ℕ, Some, true, slice_get, IfOk, IfErr};
+ghost use Rattle.std.specs.Prelude.{◌≡◌, ◌≤◌, ℕ, List, Some, true, slice_get, IfOk, IfErr};
 ghost use Rattle.kube_meta.specs.View.{ObjectView, object_of};
 ghost use Rattle.kj_value.specs.Fields.{field};
 ghost use Rattle.kj_value.specs.Json.{depth};
 ghost use Rattle.kept_entries.specs.Entry.{are_in_order};
+ghost use Rattle.kept_entries.specs.declared.entry.Entry.{Entry};
 ghost use Rattle.kept_entries.specs.Text.{kept_json};
 ghost use Rattle.hub_cells.specs.Side as sides;
 ghost use Rattle.keep_laws.specs.FittedBody.{IsBodyOf};
+ghost use Rattle.keep_laws.specs.Settle.{converted};
 ghost use Rattle.keep_laws.specs.Spokes as laws;
 ghost use Rattle.keep_laws.specs.Pair.{IsPairOf};
 ghost use Rattle.keep_laws.specs.Keys.{hub_key};
-ghost use Rattle.keep_laws.specs.Notes.{Spells};
+ghost use Rattle.keep_laws.specs.Notes.{Spells, with_entries};
 ghost use Rattle.keep_laws.specs.WholeHub.{IsSettledAt, IsWholeHub};
 ghost use Rattle.keep_laws.specs.Settling.{SettlesAtSpoke};
 ghost use Rattle.keep_laws.specs.Over.{GoesOver};
 ghost use Rattle.keep_laws.specs.Place.{StandsAt};
 ghost use Rattle.spoke_keep.specs.Fault.{IsFaultOf};
-ghost use Rattle.spoke_keep.specs.inner.Shaping.{IsShapeOf, ShapesOver};
+ghost use Rattle.spoke_keep.specs.inner.Shaping.{ComesOver, IsShapeOf, ShapesOver};
 
 use crate::carrying::carried_over;
 use crate::fault::KeepFault;
-use crate::form::reshaped;
-use crate::keys::{hub_key, version_text};
-use crate::notes::{kept_at, put_note, write_note};
+use crate::form::{reshaped, shape_named};
+use crate::keys::hub_key;
+use crate::notes::{kept_at, put_kept};
 use crate::spokes::{Spoke, Spokes};
 use hub_cells::Side;
 use hub_fills::Fills;
@@ -69,8 +71,52 @@ pub(crate) fn over(
 {
     let mut hub = x;
     let annotations = mem::replace(&mut hub.meta.annotations, TextMap::new(alloc));
-    let made = shape_over(alloc, all, s, fills, &hub.body, annotations)?;
-    Ok(reshaped(hub, made))
+    match shape_over(alloc, all, s, fills, &hub.body, annotations) {
+        Ok(made) => Ok(reshaped(hub, made)),
+        Err(fault) => {
+            drop(hub);
+            Err(fault)
+        }
+    }
+}
+
+// The body at the hub of an object of a spoke, where this is kept of the hub: what comes over, completed, and what the hub can't
+// hold beside it.
+fn full_over(
+    alloc: Global,
+    all: &Spokes,
+    s: &Spoke,
+    fills: &Fills,
+    body: &JFields,
+    kept: &Kept,
+) -> Result<KeptBody, NoMemory>
+    requires place { (v : ℕ) × (slice_get all.now.items v ≡ Some s.now) }
+    requires fills { fills.now ≡ laws.fills_at all.now s.now }
+    requires body { IsBodyOf sides.spoke s.now.fit body.now }
+    requires order { are_in_order kept.now ≡ true }
+    ensures { IfOk result (λ m. ComesOver all.now s.now body.now kept.now m.fields m.kept) }
+{
+    given();
+    let _ = all.items();
+    let _ = body.len();
+    let fitted = s.fitted();
+    let KeptBody { fields, kept: left } = match convert(alloc, fitted, Side::Spoke, body, kept) {
+        Ok(made) => made,
+        Err(refused) => return Err(refused),
+    };
+    match complete(alloc, fitted, fills, fields) {
+        Ok(full) => {
+            let _ = full.len();
+            Ok(KeptBody {
+                fields: full,
+                kept: left,
+            })
+        }
+        Err(refused) => {
+            drop(left);
+            Err(refused)
+        }
+    }
 }
 
 // What an object of a spoke with this body and these annotations becomes at the hub.
@@ -90,15 +136,39 @@ fn shape_over(
 {
     given();
     let _ = all.items();
-    let _ = body.len();
-    let kept = kept_at(alloc, &annotations, hub_key())?;
-    let made = convert(alloc, s.fitted(), Side::Spoke, body, &kept)?;
-    let KeptBody { fields, kept: left } = made;
-    let full = complete(alloc, s.fitted(), fills, fields)?;
-    let _ = full.len();
-    let notes = carried_over(alloc, all, Some(s), &full, annotations)?;
-    let shape = shape_with(alloc, all, s, full, &left, notes)?;
-    Ok(shape)
+    let kept = match kept_at(alloc, &annotations, hub_key()) {
+        Ok(kept) => kept,
+        Err(fault) => {
+            drop(annotations);
+            return Err(fault);
+        }
+    };
+    let made = full_over(alloc, all, s, fills, body, &kept);
+    drop(kept);
+    let KeptBody {
+        fields: full,
+        kept: left,
+    } = match made {
+        Ok(made) => made,
+        Err(NoMemory) => {
+            drop(annotations);
+            return Err(KeepFault::NoMemory);
+        }
+    };
+    let notes = match carried_over(alloc, all, Some(s), &full, annotations) {
+        Ok(notes) => notes,
+        Err(fault) => {
+            drop(full);
+            drop(left);
+            return Err(fault);
+        }
+    };
+    let shape = shape_with(alloc, all, s, full, &left, notes);
+    drop(left);
+    match shape {
+        Ok(shape) => Ok(shape),
+        Err(NoMemory) => Err(KeepFault::NoMemory),
+    }
 }
 
 // The shape at the hub of a body, where this is kept of the spoke, and these annotations beside.
@@ -115,16 +185,14 @@ fn shape_with(
     ensures { IfOk result (IsShapeOf all.now s.now body left.now annotations) }
 {
     let mut notes = annotations;
-    let own = write_note(alloc, left)?;
-    put_note(alloc, s.key(), own, &mut notes)?;
-    let _ = notes.len();
-    let _ = body.len();
-    let version = version_text(alloc, all.group(), all.hub())?;
-    Ok(Shape {
-        version,
-        notes,
-        body,
-    })
+    match put_kept(alloc, s.key(), left, &mut notes) {
+        Ok(()) => shape_named(alloc, all.group(), all.hub(), notes, body),
+        Err(refused) => {
+            drop(notes);
+            drop(body);
+            Err(refused)
+        }
+    }
 }
 
 /// The object of the hub that a settled object of the spoke at place `v` becomes. Its metadata are moved. What its
@@ -157,8 +225,39 @@ fn back(alloc: Global, all: &Spokes, s: &Spoke, x: Object) -> Result<Object, NoM
 {
     let mut hub = x;
     let annotations = mem::replace(&mut hub.meta.annotations, TextMap::new(alloc));
-    let made = shape_back(alloc, all, s, &hub.body, annotations)?;
-    Ok(reshaped(hub, made))
+    match shape_back(alloc, all, s, &hub.body, annotations) {
+        Ok(made) => Ok(reshaped(hub, made)),
+        Err(refused) => {
+            drop(hub);
+            Err(refused)
+        }
+    }
+}
+
+// The body at the hub of a settled object of a spoke with these annotations, and what the hub can't hold beside it.
+fn body_back(
+    alloc: Global,
+    all: &Spokes,
+    s: &Spoke,
+    body: &JFields,
+    annotations: &TextMap,
+) -> Result<KeptBody, NoMemory>
+    requires place { (v : ℕ) × (slice_get all.now.items v ≡ Some s.now) }
+    requires settled { (x : ObjectView) × (x.body ≡ body.now) × (x.meta.annotations ≡ annotations.now) × IsSettledAt all.now s.now x }
+    ensures { IfOk result (λ m. (es : List Entry) × Spells (field hub_key annotations.now) es
+        × (with_entries m.fields m.kept ≡ converted sides.spoke s.now.fit.level (with_entries body.now es))) }
+{
+    given();
+    let _ = all.items();
+    let _ = body.len();
+    match hub_kept(alloc, annotations) {
+        Ok(kept) => {
+            let made = convert(alloc, s.fitted(), Side::Spoke, body, &kept);
+            drop(kept);
+            made
+        }
+        Err(refused) => Err(refused),
+    }
 }
 
 // What a settled object of a spoke with this body and these annotations becomes at the hub.
@@ -177,9 +276,17 @@ fn shape_back(
     let _ = all.items();
     let _ = body.len();
     let mut notes = annotations;
-    let kept = hub_kept(alloc, &notes)?;
-    let made = convert(alloc, s.fitted(), Side::Spoke, body, &kept)?;
-    let KeptBody { fields, kept: left } = made;
-    let _ = notes.remove(hub_key());
-    shape_with(alloc, all, s, fields, &left, notes)
+    match body_back(alloc, all, s, body, &notes) {
+        Ok(made) => {
+            let KeptBody { fields, kept: left } = made;
+            drop(notes.remove(hub_key()));
+            let shape = shape_with(alloc, all, s, fields, &left, notes);
+            drop(left);
+            shape
+        }
+        Err(refused) => {
+            drop(notes);
+            Err(refused)
+        }
+    }
 }

@@ -1,10 +1,11 @@
 //! Annotations read and written.
-ghost use Rattle.std.specs.Prelude.{◌≡◌, ◌≤◌, true, IfOk, IfErr, OnOk, option_map};
+ghost use Rattle.std.specs.Prelude.{◌≡◌, ◌≤◌, true, Option, IfOk, IfErr, OnOk, option_map};
 ghost use Rattle.kj_value.specs.Json.{depth};
 ghost use Rattle.kj_value.specs.Fields.{field};
 ghost use Rattle.kj_value.specs.Texts.{bytes_of};
 ghost use Rattle.kept_entries.specs.Entry.{are_in_order};
 ghost use Rattle.kept_entries.specs.Text.{IsKept, kept_json};
+ghost use Rattle.hub_cells.specs.Level.{Name};
 ghost use Rattle.keep_laws.specs.Notes.{Spells, IsNoteOf, with_note};
 ghost use Rattle.spoke_keep.specs.Fault.{IsBadText, IsBadAt};
 
@@ -19,9 +20,10 @@ pub(crate) fn read_note(alloc: Global, key: &str, text: &str) -> Result<Kept, Ke
 {
     match read_kept(alloc, text) {
         Ok(kept) => Ok(kept),
-        Err(KeptFault::BadKept) => Err(KeepFault::BadKept {
-            annotation: Txt::of(alloc, key)?,
-        }),
+        Err(KeptFault::BadKept) => match Txt::of(alloc, key) {
+            Ok(annotation) => Err(KeepFault::BadKept { annotation }),
+            Err(NoMemory) => Err(KeepFault::NoMemory),
+        },
         Err(KeptFault::NoMemory) => Err(KeepFault::NoMemory),
     }
 }
@@ -45,10 +47,13 @@ pub(crate) fn write_note(alloc: Global, kept: &Kept) -> Result<Option<Txt>, NoMe
     if kept.len() == 0 {
         return Ok(None);
     }
-    Ok(Some(write_kept(alloc, kept)?))
+    match write_kept(alloc, kept) {
+        Ok(text) => Ok(Some(text)),
+        Err(refused) => Err(refused),
+    }
 }
 
-pub(crate) fn put_note(
+fn put_note(
     alloc: Global,
     key: &str,
     note: Option<Txt>,
@@ -56,8 +61,31 @@ pub(crate) fn put_note(
 ) -> Result<(), NoMemory>
     ensures { OnOk result (notes.new ≡ with_note key.now (option_map bytes_of note) notes.old) }
 {
-    match note {
-        Some(text) => notes.set(Txt::of(alloc, key)?, text),
-        None => Ok(()),
+    let Some(text) = note else {
+        return Ok(());
+    };
+    match Txt::of(alloc, key) {
+        Ok(name) => notes.set(name, text),
+        Err(refused) => {
+            drop(text);
+            Err(refused)
+        }
+    }
+}
+
+// Annotations with what is kept at the key. Where nothing is, they stay.
+pub(crate) fn put_kept(
+    alloc: Global,
+    key: &str,
+    kept: &Kept,
+    notes: &mut TextMap,
+) -> Result<(), NoMemory>
+    requires order { are_in_order kept.now ≡ true }
+    requires levels { depth (kept_json kept.now) ≤ KEPT_LEVELS }
+    ensures { OnOk result ((o : Option Name) × IsNoteOf kept.now o × (notes.new ≡ with_note key.now o notes.old)) }
+{
+    match write_note(alloc, kept) {
+        Ok(note) => put_note(alloc, key, note, notes),
+        Err(refused) => Err(refused),
     }
 }

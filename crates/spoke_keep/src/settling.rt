@@ -61,14 +61,28 @@ fn settle_hub(alloc: Global, all: &Spokes, x: Object) -> Result<Object, KeepFaul
     let mut settled = x;
     let _ = settled.body.len();
     let body = mem::replace(&mut settled.body, JFields::new(alloc));
-    let full = complete_first(alloc, all, body)?;
+    let full = match complete_first(alloc, all, body) {
+        Ok(full) => full,
+        Err(NoMemory) => {
+            drop(settled);
+            return Err(KeepFault::NoMemory);
+        }
+    };
     let _ = full.len();
     let annotations = mem::replace(&mut settled.meta.annotations, TextMap::new(alloc));
-    let notes = carried_over(alloc, all, None, &full, annotations)?;
-    let _ = notes.len();
-    settled.meta.annotations = notes;
-    settled.body = full;
-    Ok(settled)
+    match carried_over(alloc, all, None, &full, annotations) {
+        Ok(notes) => {
+            let _ = notes.len();
+            settled.meta.annotations = notes;
+            settled.body = full;
+            Ok(settled)
+        }
+        Err(fault) => {
+            drop(full);
+            drop(settled);
+            Err(fault)
+        }
+    }
 }
 
 fn settle_spoke(
@@ -87,7 +101,11 @@ fn settle_spoke(
     going_over();
     let _ = all.items();
     let _ = x.body.len();
-    let hub = over(alloc, all, s, fills, x)?;
-    let form = formed(alloc, all, s, hub)?;
-    Ok(form)
+    match over(alloc, all, s, fills, x) {
+        Ok(hub) => match formed(alloc, all, s, hub) {
+            Ok(form) => Ok(form),
+            Err(NoMemory) => Err(KeepFault::NoMemory),
+        },
+        Err(fault) => Err(fault),
+    }
 }

@@ -46,8 +46,14 @@ impl Spoke {
     pub fn new(alloc: Global, name: Txt, fitted: Fitted) -> Result<Spoke, NoMemory>
         ensures { IfOk result (λ s. s ≡ record { name = name.bytes; fit = fitted }) }
     {
-        let key = spoke_key(alloc, name.as_str())?;
-        Ok(Spoke { name, key, fitted })
+        match spoke_key(alloc, name.as_str()) {
+            Ok(key) => Ok(Spoke { name, key, fitted }),
+            Err(refused) => {
+                drop(name);
+                drop(fitted);
+                Err(refused)
+            }
+        }
     }
 
     /// The version's name.

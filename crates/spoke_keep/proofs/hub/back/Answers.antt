@@ -6,6 +6,6 @@ use Rattle.spoke_keep.proofs.hub.back.Goals as goal
 pub shape_back-requires-clause-settled : goal.shape_back-requires-clause-settled
 shape_back-requires-clause-settled c = (object_of c.args.x, refl, sym c.replace-annotations.ensures.value, c.requires.settled)
 
-pub returns : goal.returns
-returns c =
-    subst (GoesOver c.args.all.now c.args.s.now (object_of c.args.x)) (sym c.reshaped.ensures) (c.in_ok-made.ensures (object_of c.args.x) refl (sym c.replace-annotations.ensures.value))
+pub returns-in-Ok : goal.returns-in-Ok
+returns-in-Ok c =
+    subst (GoesOver c.args.all.now c.args.s.now (object_of c.args.x)) (sym c.reshaped.ensures) (c.in-Ok.ensures (object_of c.args.x) refl (sym c.replace-annotations.ensures.value))
