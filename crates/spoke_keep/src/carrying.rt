@@ -8,7 +8,7 @@ ghost use Rattle.keep_laws.specs.Notes.{with_note};
 ghost use Rattle.keep_laws.specs.WholeHub.{IsHubBody};
 ghost use Rattle.keep_laws.specs.Judging.{IsJudged, is_own, SpokeNote, OtherNote, Carries};
 ghost use Rattle.keep_laws.specs.Over.{HubIsRead};
-ghost use Rattle.spoke_keep.specs.inner.Seen.{own_name, fate_note};
+ghost use Rattle.spoke_keep.specs.inner.Seen.{own_name, fate_note, IsCarried};
 ghost use Rattle.spoke_keep.specs.Fault.{IsBadText, IsBadOther, IsBadRead, IsFaultOf};
 
 use crate::fault::KeepFault;
@@ -119,6 +119,32 @@ fn move_one(t: TextField, fate: Fate, notes: &mut TextMap) -> Result<(), NoMemor
     }
 }
 
+// One annotation, carried along beside those that are there.
+fn carry_one(
+    alloc: Global,
+    all: &Spokes,
+    own: Option<&Spoke>,
+    body: &JFields,
+    t: TextField,
+    notes: &mut TextMap,
+) -> Result<(), KeepFault>
+    requires { IsHubBody all.now.items body.now }
+    ensures ok { OnOk result (IsCarried all.entry.now (own_name own.entry) body.entry.now t.name.bytes t.value.bytes notes.old notes.new) }
+    ensures err { IfErr result (IsBadRead (own_name own.entry)
+        (key_kind all.entry.now t.name.bytes) t.name.bytes t.value.bytes) }
+{
+    match fate_of(alloc, all, own, body, t.name.as_str(), t.value.as_str()) {
+        Ok(fate) => match move_one(t, fate, notes) {
+            Ok(()) => Ok(()),
+            Err(NoMemory) => Err(KeepFault::NoMemory),
+        },
+        Err(fault) => {
+            drop(t);
+            Err(fault)
+        }
+    }
+}
+
 /// The annotations that an object of the side `own` keeps at the hub, where its body is this one. They are moved.
 pub(crate) fn carried_over(
     alloc: Global,
@@ -134,8 +160,13 @@ pub(crate) fn carried_over(
 {
     let mut notes = TextMap::new(alloc);
     for t in annotations.into_vec() {
-        let fate = fate_of(alloc, all, own, body, t.name.as_str(), t.value.as_str())?;
-        move_one(t, fate, &mut notes)?;
+        match carry_one(alloc, all, own, body, t, &mut notes) {
+            Ok(()) => {}
+            Err(fault) => {
+                drop(notes);
+                return Err(fault);
+            }
+        }
     }
     Ok(notes)
 }

@@ -1,5 +1,5 @@
 //! Keys of annotations.
-ghost use Rattle.std.specs.Prelude.{◌≡◌, ◌++◌, nat_eq, IfOk};
+ghost use Rattle.std.specs.Prelude.{◌≡◌, ◌++◌, [], nat_eq, string_bytes, IfOk, OnOk};
 ghost use Rattle.std.specs.List.{starts_with};
 ghost use Rattle.keep_laws.specs.Spokes.{api_version};
 ghost use Rattle.keep_laws.specs.Keys.{hub_key, spoke_prefix, spoke_key, kind_among, key_kind};
@@ -41,16 +41,33 @@ pub fn spoke_key(alloc: Global, name: &str) -> Result<Txt, NoMemory>
     Ok(Txt::of_string(key))
 }
 
+// Both names, behind an empty text, with a slash between them.
+fn join(text: &mut String, group: &str, version: &str) -> Result<(), NoMemory>
+    requires { string_bytes text.old ≡ [] }
+    ensures { OnOk result (string_bytes text.new ≡ api_version group.now version.now) }
+{
+    text.push_str(group)?;
+    text.push_str("/")?;
+    text.push_str(version)?;
+    Ok(())
+}
+
 // GROUP/VERSION
 pub(crate) fn version_text(alloc: Global, group: &Txt, version: &Txt) -> Result<Txt, NoMemory>
     ensures { IfOk result (λ t. t.bytes ≡ api_version group.now.bytes version.now.bytes) }
 {
     let bytes = group.len().saturating_add(version.len()).saturating_add(1);
-    let mut text = String::with_capacity(alloc, bytes)?;
-    text.push_str(group.as_str())?;
-    text.push_str("/")?;
-    text.push_str(version.as_str())?;
-    Ok(Txt::of_string(text))
+    let Ok(room) = String::with_capacity(alloc, bytes) else {
+        return Err(NoMemory);
+    };
+    let mut text = room;
+    match join(&mut text, group.as_str(), version.as_str()) {
+        Ok(()) => Ok(Txt::of_string(text)),
+        Err(refused) => {
+            drop(text);
+            Err(refused)
+        }
+    }
 }
 
 fn has_prefix(key: &str) -> bool

@@ -1,22 +1,20 @@
 use Rattle.std.proofs.Common.{◌≡◌, ◌∷◌, [], map, ap, ◌∙◌, rules, arith}
-use Rattle.std.proofs.lemmas.Result.{err_from_is_err_and}
 use Rattle.std.proofs.lemmas.List.{nil_from_length}
 use Rattle.std.specs.Vec.Iter.{into_iter_items}
 use Rattle.kj_value.specs.Texts.{text_pair}
-use Rattle.spoke_keep.specs.inner.Seen.{own_name, fate_note}
+use Rattle.spoke_keep.specs.inner.Seen.{own_name}
 use Rattle.spoke_keep.proofs.Loops.{move_start, move_next, move_all, move_bad}
 use Rattle.spoke_keep.proofs.carrying.carried_over.Goals as goal
 
 pub loop-t-preserved : goal.loop-t-preserved
 loop-t-preserved c =
     let step : into_iter_items c.loop-t.t-iterator ≡ c.in-Some.t ∷ into_iter_items c.next.new.self = c.in-Some.ensures.steps.0 in
-    move_next c.args.all.now (own_name c.args.own) c.args.body.now (into_iter_items c.loop-t.t-iterator) (into_iter_items c.next.new.self) c.in-Some.t c.args.annotations c.loop-t.notes c.move_one.new.notes c.as_str.result.now c.as_str-in-loop-t.result.now (λ u. fate_note u c.in_ok-fate.fate) step c.into_vec-t-items.ensures.order c.as_str.ensures c.as_str-in-loop-t.ensures c.loop-t.invariant c.in_ok-fate.ensures.ok c.in_ok-move_one.ensures
+    move_next c.args.all.now (own_name c.args.own) c.args.body.now (into_iter_items c.loop-t.t-iterator) (into_iter_items c.next.new.self) c.in-Some.t c.args.annotations c.loop-t.notes c.carry_one.new.notes step c.into_vec-t-items.ensures.order c.loop-t.invariant c.in-Ok.ensures.ok
 
-pub returns-in_err-fate-clause-err : goal.returns-in_err-fate-clause-err
-returns-in_err-fate-clause-err c =
-    let p = err_from_is_err_and c.from_residual.result c.from_residual.ensures.1 in
+pub returns-in-Err-clause-err : goal.returns-in-Err-clause-err
+returns-in-Err-clause-err c =
     let step : into_iter_items c.loop-t.t-iterator ≡ c.in-Some.t ∷ into_iter_items c.next.new.self = c.in-Some.ensures.steps.0 in
-    rw (p.1, p.2) (move_bad c.args.all.now (own_name c.args.own) c.args.body.now (into_iter_items c.loop-t.t-iterator) (into_iter_items c.next.new.self) c.in-Some.t c.args.annotations c.loop-t.notes c.as_str.result.now c.as_str-in-loop-t.result.now _ step c.into_vec-t-items.ensures.order c.as_str.ensures c.as_str-in-loop-t.ensures c.loop-t.invariant c.requires.hub c.in_err-fate.ensures.err)
+    move_bad c.args.all.now (own_name c.args.own) c.args.body.now (into_iter_items c.loop-t.t-iterator) (into_iter_items c.next.new.self) c.in-Some.t c.args.annotations c.loop-t.notes _ step c.into_vec-t-items.ensures.order c.loop-t.invariant c.requires.hub c.in-Err.ensures.err
 
 pub loop-t-init : goal.loop-t-init
 loop-t-init c =

@@ -1,4 +1,4 @@
-use Rattle.std.proofs.Common.{◌≡◌, None, ap, sym, subst, ◌∙◌}
+use Rattle.std.proofs.Common.{◌≡◌, None, ap, subst, ◌∙◌}
 use Rattle.kube_meta.specs.View.{Texts, object_of}
 use Rattle.keep_laws.specs.Judging.{Carries}
 use Rattle.keep_laws.specs.Settling.{completed_hub}
