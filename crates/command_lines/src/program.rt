@@ -1,7 +1,7 @@
 //! The command that the words are read by.
-ghost use Rattle.std.specs.Prelude.{◌≡◌, [], IfOk, codes, false};
-ghost use Rattle.clap.specs.Words.{app_of, rule_of};
-ghost use Rattle.command_lines.specs.inner.Parsing.{IsLocal, address_command, drill_command, new_option, new_place, new_top, option_command, program, with_addresses, with_options};
+ghost use Rattle.std.specs.Prelude.{◌≡◌, codes, true, false};
+ghost use Rattle.clap.specs.Words.{App, Shape, app_of, rule_of, with_rule, with_subcommand};
+ghost use Rattle.command_lines.specs.inner.Parsing.{Builds, address_command, alone, drill_command, new_option, new_place, new_top, option_command, program, with_addresses, with_options};
 
 use clap::builder::ValueParser;
 use clap::{Arg, ArgAction, Command};
@@ -32,66 +32,123 @@ fn place<'a>(alloc: Global, name: &'a str) -> Arg<'a>
     valued(alloc, name).required(true)
 }
 
+// A command so far, with one more option.
+fn with_option<'a>(
+    alloc: Global,
+    command: Result<Command<'a>, AllocError>,
+    name: &'a str,
+) -> Result<Command<'a>, AllocError>
+    ensures { (app : App) → Builds app command.entry → Builds (with_rule app (new_option name.entry.now)) result }
+{
+    match command {
+        Ok(command) => command.arg(option(alloc, name)),
+        Err(error) => Err(error),
+    }
+}
+
+// A command so far, with one more word without a name.
+fn with_place<'a>(
+    alloc: Global,
+    command: Result<Command<'a>, AllocError>,
+    name: &'a str,
+) -> Result<Command<'a>, AllocError>
+    ensures { (app : App) → Builds app command.entry → Builds (with_rule app (new_place name.entry.now)) result }
+{
+    match command {
+        Ok(command) => command.arg(place(alloc, name)),
+        Err(error) => Err(error),
+    }
+}
+
+// A command with one more subcommand.
+fn with_added<'a>(
+    command: Command<'a>,
+    added: Result<Command<'a>, AllocError>,
+) -> Result<Command<'a>, AllocError>
+    ensures { (app : App) (shape : Shape) → shape.is_plain ≡ true → app_of command.entry ≡ app → Builds (alone shape) added.entry
+        → Builds (with_subcommand app shape) result }
+{
+    match added {
+        Ok(added) => command.subcommand(added),
+        Err(error) => {
+            drop(command);
+            Err(error)
+        }
+    }
+}
+
+// A command so far, with one more subcommand.
+fn with_command<'a>(
+    command: Result<Command<'a>, AllocError>,
+    added: Result<Command<'a>, AllocError>,
+) -> Result<Command<'a>, AllocError>
+    ensures { (app : App) (shape : Shape) → shape.is_plain ≡ true → Builds app command.entry → Builds (alone shape) added.entry
+        → Builds (with_subcommand app shape) result }
+{
+    match command {
+        Ok(command) => with_added(command, added),
+        Err(error) => {
+            drop(added);
+            Err(error)
+        }
+    }
+}
+
 // A command with all the options.
 fn optioned<'a>(alloc: Global, name: &'a str) -> Result<Command<'a>, AllocError>
-    ensures { IfOk result (λ c. (app_of c ≡ record { top = option_command name.entry.now; subs = [] }) × IsLocal c) }
+    ensures { Builds (alone (option_command name.entry.now)) result }
 {
-    Ok(
-        Command::new(alloc, name)
-            .arg(option(alloc, "crd"))?
-            .arg(option(alloc, "rules"))?
-            .arg(option(alloc, "hub"))?
-            .arg(option(alloc, "converter"))?
-            .arg(option(alloc, "to"))?
-            .arg(option(alloc, "turns"))?
-            .arg(option(alloc, "listen"))?
-            .arg(option(alloc, "workers"))?
-            .arg(option(alloc, "connections"))?,
-    )
+    let command = Ok(Command::new(alloc, name));
+    let command = with_option(alloc, command, "crd");
+    let command = with_option(alloc, command, "rules");
+    let command = with_option(alloc, command, "hub");
+    let command = with_option(alloc, command, "converter");
+    let command = with_option(alloc, command, "to");
+    let command = with_option(alloc, command, "turns");
+    let command = with_option(alloc, command, "listen");
+    let command = with_option(alloc, command, "workers");
+    with_option(alloc, command, "connections")
 }
 
 fn addressed<'a>(alloc: Global, name: &'a str) -> Result<Command<'a>, AllocError>
-    ensures { IfOk result (λ c. (app_of c ≡ record { top = address_command name.entry.now; subs = [] }) × IsLocal c) }
+    ensures { Builds (alone (address_command name.entry.now)) result }
 {
-    Ok(Command::new(alloc, name).arg(place(alloc, "url"))?)
+    with_place(alloc, Ok(Command::new(alloc, name)), "url")
 }
 
 fn drill<'a>(alloc: Global) -> Result<Command<'a>, AllocError>
-    ensures { IfOk result (λ c. (app_of c ≡ record { top = drill_command; subs = [] }) × IsLocal c) }
+    ensures { Builds (alone drill_command) result }
 {
-    Ok(
-        Command::new(alloc, "drill")
-            .arg(place(alloc, "start"))?
-            .arg(place(alloc, "count"))?,
-    )
+    let command = with_place(alloc, Ok(Command::new(alloc, "drill")), "start");
+    with_place(alloc, command, "count")
 }
 
-fn add_options<'a>(alloc: Global, command: Command<'a>) -> Result<Command<'a>, AllocError>
-    ensures { IfOk result (λ c. app_of c ≡ with_options (app_of command.entry)) }
+fn add_options<'a>(
+    alloc: Global,
+    command: Result<Command<'a>, AllocError>,
+) -> Result<Command<'a>, AllocError>
+    ensures { (app : App) → Builds app command.entry → Builds (with_options app) result }
 {
-    Ok(
-        command
-            .subcommand(optioned(alloc, "pipe")?)?
-            .subcommand(optioned(alloc, "convert")?)?
-            .subcommand(optioned(alloc, "review")?)?
-            .subcommand(optioned(alloc, "serve")?)?,
-    )
+    let command = with_command(command, optioned(alloc, "pipe"));
+    let command = with_command(command, optioned(alloc, "convert"));
+    let command = with_command(command, optioned(alloc, "review"));
+    with_command(command, optioned(alloc, "serve"))
 }
 
-fn add_addresses<'a>(alloc: Global, command: Command<'a>) -> Result<Command<'a>, AllocError>
-    ensures { IfOk result (λ c. app_of c ≡ with_addresses (app_of command.entry)) }
+fn add_addresses<'a>(
+    alloc: Global,
+    command: Result<Command<'a>, AllocError>,
+) -> Result<Command<'a>, AllocError>
+    ensures { (app : App) → Builds app command.entry → Builds (with_addresses app) result }
 {
-    Ok(
-        command
-            .subcommand(addressed(alloc, "migrate")?)?
-            .subcommand(addressed(alloc, "dump")?)?
-            .subcommand(addressed(alloc, "load")?)?,
-    )
+    let command = with_command(command, addressed(alloc, "migrate"));
+    let command = with_command(command, addressed(alloc, "dump"));
+    with_command(command, addressed(alloc, "load"))
 }
 
 // The command without its subcommands: it has no help or version words.
 fn top<'a>(alloc: Global) -> Command<'a>
-    ensures { app_of result ≡ record { top = new_top; subs = [] } }
+    ensures { app_of result ≡ alone new_top }
 {
     Command::new(alloc, "kubeconv")
         .no_binary_name(true)
@@ -102,8 +159,8 @@ fn top<'a>(alloc: Global) -> Command<'a>
 
 /// The whole command, with one level of subcommands.
 pub(crate) fn program<'a>(alloc: Global) -> Result<Command<'a>, AllocError>
-    ensures { IfOk result (λ c. app_of c ≡ program) }
+    ensures { Builds program result }
 {
-    let optioned = add_options(alloc, top(alloc))?;
-    Ok(add_addresses(alloc, optioned)?.subcommand(drill(alloc)?)?)
+    let command = add_options(alloc, Ok(top(alloc)));
+    with_command(add_addresses(alloc, command), drill(alloc))
 }

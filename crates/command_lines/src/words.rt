@@ -1,5 +1,5 @@
 //! The words of the command line.
-ghost use Rattle.std.specs.Prelude.{◌≡◌, ◌≢◌, ◌≤◌, ◌<◌, ◌↔◌, ◌++◌, ◌∷◌, [], ℕ, List, None, IfSome, IsTrue, MatchOption, codes, map, length, string_bytes};
+ghost use Rattle.std.specs.Prelude.{◌≡◌, ◌≢◌, ◌≤◌, ◌<◌, ◌↔◌, ◌++◌, ◌∷◌, [], ℕ, List, None, IfSome, IsTrue, MatchOption, codes, map, length, option_map, string_bytes};
 ghost use Rattle.command_lines.specs.Lines.{Line, Remote as RemoteView, remote, remote_word, Flag as FlagView, HasAddress, HasOptions, IsLine, IsUnconverted, IsUnserved, IsValue, SpellsTurns, crd_flag, rules_flag, hub_flag, converter_flag, to_flag, listen_flag, workers_flag, connections_flag, flag_text, value_at, with_value};
 ghost use Rattle.command_lines.specs.Given.{Within, line_of, remote_in, flag_in, values_in, TakesFirst, GivesOne, IsCommand};
 
@@ -282,75 +282,49 @@ fn take_option<'a>(words: &'a [String]) -> Option<Taken<'a>>
 }
 
 impl<'a> Given<'a> {
+    // What is given of an option.
+    fn at(self, flag: Flag) -> Option<&'a str>
+        ensures { option_map (λ x. x.now) result ≡ value_at (flag_in flag) (values_in self.entry) }
+    {
+        match flag {
+            Flag::Crd => self.crd,
+            Flag::Rules => self.rules,
+            Flag::Hub => self.hub,
+            Flag::Converter => self.converter,
+            Flag::To => self.to,
+            Flag::Turns => self.turns,
+            Flag::Listen => self.listen,
+            Flag::Workers => self.workers,
+            Flag::Connections => self.connections,
+        }
+    }
+
+    // The options, of which one has this value.
+    fn filled(mut self, flag: Flag, value: &'a str) -> Given<'a>
+        ensures { values_in result ≡ with_value (flag_in flag) value.now (values_in self.entry) }
+    {
+        match flag {
+            Flag::Crd => self.crd = Some(value),
+            Flag::Rules => self.rules = Some(value),
+            Flag::Hub => self.hub = Some(value),
+            Flag::Converter => self.converter = Some(value),
+            Flag::To => self.to = Some(value),
+            Flag::Turns => self.turns = Some(value),
+            Flag::Listen => self.listen = Some(value),
+            Flag::Workers => self.workers = Some(value),
+            Flag::Connections => self.connections = Some(value),
+        }
+        self
+    }
+
     // One more option, or `None` exactly where it is given already.
     fn with(self, flag: Flag, value: &'a str) -> Option<Given<'a>>
         ensures { MatchOption result (value_at (flag_in flag) (values_in self.entry) ≢ None)
             (λ g. (value_at (flag_in flag) (values_in self.entry) ≡ None) × (values_in g ≡ with_value (flag_in flag) value.now (values_in self.entry))) }
     {
-        match flag {
-            Flag::Crd => match self.crd {
-                Some(_) => None,
-                None => Some(Given {
-                    crd: Some(value),
-                    ..self
-                }),
-            },
-            Flag::Rules => match self.rules {
-                Some(_) => None,
-                None => Some(Given {
-                    rules: Some(value),
-                    ..self
-                }),
-            },
-            Flag::Hub => match self.hub {
-                Some(_) => None,
-                None => Some(Given {
-                    hub: Some(value),
-                    ..self
-                }),
-            },
-            Flag::Converter => match self.converter {
-                Some(_) => None,
-                None => Some(Given {
-                    converter: Some(value),
-                    ..self
-                }),
-            },
-            Flag::To => match self.to {
-                Some(_) => None,
-                None => Some(Given {
-                    to: Some(value),
-                    ..self
-                }),
-            },
-            Flag::Turns => match self.turns {
-                Some(_) => None,
-                None => Some(Given {
-                    turns: Some(value),
-                    ..self
-                }),
-            },
-            Flag::Listen => match self.listen {
-                Some(_) => None,
-                None => Some(Given {
-                    listen: Some(value),
-                    ..self
-                }),
-            },
-            Flag::Workers => match self.workers {
-                Some(_) => None,
-                None => Some(Given {
-                    workers: Some(value),
-                    ..self
-                }),
-            },
-            Flag::Connections => match self.connections {
-                Some(_) => None,
-                None => Some(Given {
-                    connections: Some(value),
-                    ..self
-                }),
-            },
+        match self.at(flag) {
+            Some(_) => None,
+            None => Some(self.filled(flag, value)),
         }
     }
 }

@@ -1,7 +1,7 @@
 -- The command that `clap` reads the words by, and what it matches.
-use Rattle.std.specs.Prelude.{◌≡◌, ℕ, true, List, [], ◌∷◌, map, Option, Some, MatchOption, codes, decimal}
+use Rattle.std.specs.Prelude.{◌≡◌, ℕ, true, List, [], ◌∷◌, map, Option, Some, Result, IfOk, MatchOption, codes, decimal}
 use mathlib.Core.Logic.{inl, inr}
-use Rattle.clap.specs.Words.{AddsSubcommand, App, Row, Rule, Shape, Text, app_of, first_of, new_rule, shape_of, with_subcommand}
+use Rattle.clap.specs.Words.{App, Row, Rule, Shape, Text, app_of, first_of, new_rule, with_subcommand}
 use Rattle.clap.specs.Simple.{new_shape}
 use Rattle.clap.specs.declared.builder.value_parser.ValueParser.TheVariants as vp
 use Rattle.clap.specs.declared.builder.action.ArgAction.TheVariants as action
@@ -29,6 +29,10 @@ address_command name = record (new_shape name) { rules = new_place (codes "url")
 abbrev pub drill_command : Shape
 drill_command = record (new_shape (codes "drill")) { rules = new_place (codes "start") ∷ new_place (codes "count") ∷ [] }
 
+-- a command without subcommands
+abbrev pub alone : Shape → App
+alone shape = record { top = shape; subs = [] }
+
 abbrev pub new_top : Shape
 new_top = record (new_shape (codes "kubeconv")) {
   no_binary_name = true;
@@ -48,11 +52,11 @@ with_addresses a = with_subcommand (with_subcommand (with_subcommand a
     (address_command (codes "migrate"))) (address_command (codes "dump"))) (address_command (codes "load"))
 
 abbrev pub program : App
-program = with_subcommand (with_addresses (with_options (record { top = new_top; subs = [] }))) drill_command
+program = with_subcommand (with_addresses (with_options (alone new_top))) drill_command
 
--- the command has no argument that its subcommands take over, so what it is added to has it as it is
-abbrev pub IsLocal : Builder → Type 0
-IsLocal c = (old new : Builder) → AddsSubcommand old c new → app_of new ≡ with_subcommand (app_of old) (shape_of c)
+-- what was built so far, if there was memory for it, stands for that
+abbrev pub Builds : {E : Type 0} → App → Result Builder E → Type 0
+Builds app built = IfOk built (λ c. app_of c ≡ app)
 
 -- the first value of each option
 abbrev pub values_of : List Row → Values

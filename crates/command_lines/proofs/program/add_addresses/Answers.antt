@@ -1,10 +1,7 @@
-use Rattle.std.proofs.Common.{◌∙◌, ap, ap₂}
-use Rattle.clap.specs.Words.{app_of, with_subcommand}
-use Rattle.command_lines.proofs.Building.{top_of}
+use Rattle.std.proofs.Common.{refl}
 use Rattle.command_lines.proofs.program.add_addresses.Goals as goal
 
 pub returns : goal.returns
-returns c =
-    let s1 = c.in_ok-addressed.ensures.1 _ _ c.in_ok-subcommand.ensures ∙ ap (with_subcommand (app_of c.args.command)) (ap top_of c.in_ok-addressed.ensures.0) in
-    let s2 = c.in_ok-addressed-2.ensures.1 _ _ c.in_ok-subcommand-2.ensures ∙ ap₂ with_subcommand s1 (ap top_of c.in_ok-addressed-2.ensures.0) in
-    c.in_ok-addressed-3.ensures.1 _ _ c.in_ok-subcommand-3.ensures ∙ ap₂ with_subcommand s2 (ap top_of c.in_ok-addressed-3.ensures.0)
+returns c = λ app is.
+    c.with_command.ensures _ _ refl (c.with_command-command-2.ensures _ _ refl (c.with_command-command.ensures _ _ refl is c.addressed.ensures)
+    c.addressed-2.ensures) c.addressed-3.ensures
