@@ -1,7 +1,10 @@
 //! What a look at a core sees, and what is prepared for a turn.
+ghost use Rattle.std.specs.Prelude.{◌≡◌};
+
 use api_calls::Flags;
 use kj_value::Txt;
 use kube_meta::Key;
+use record_store::NewRecord;
 
 /// An object as it is stored: the text at a version, the number of its last write, that of its creation, and its
 /// weight in chunks of 256 bytes.
@@ -25,10 +28,40 @@ pub struct Peeked {
 }
 
 /// A value that is ready to be stored: its key, its text at a version, and its weight in chunks of 256 bytes.
-#[derive(Drop)]
 pub struct Prepared {
     pub key: Key,
     pub at: u8,
     pub bytes: Txt,
     pub weight: u64,
+}
+
+impl Drop for Prepared {
+    fn drop(self) {
+        let Prepared {
+            key: _,
+            at: _,
+            bytes: _,
+            weight: _,
+        } = self;
+    }
+}
+
+impl Prepared {
+    /// A record for the store.
+    pub(crate) fn into_record(self) -> NewRecord
+        ensures { result ≡ record { key = self.key; at = self.at; weight = self.weight; bytes = self.bytes } }
+    {
+        let Prepared {
+            key,
+            at,
+            bytes,
+            weight,
+        } = self;
+        NewRecord {
+            key,
+            at,
+            weight,
+            bytes,
+        }
+    }
 }

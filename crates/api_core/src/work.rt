@@ -24,7 +24,6 @@ use api_calls::laws::finished;
 use kj_value::NoMemory;
 use kube_meta::Key;
 use migrate_core::{Advance, MigrationItems, Worker};
-use record_store::NewRecord;
 use std::alloc::Global;
 
 impl<V: Versions> Core<V> {
@@ -155,21 +154,9 @@ impl<V: Versions> Core<V> {
         if !self.is_ready(&new.key, rv, new.at, target) {
             return TurnEnd::Moved;
         }
-        let Prepared {
-            key,
-            at,
-            bytes,
-            weight,
-        } = new;
-        let spot = key.spot();
+        let spot = new.key.spot();
         let number = self.revision + 1;
-        let record = NewRecord {
-            key,
-            at,
-            weight,
-            bytes,
-        };
-        let _done = self.store.touch_if(rv, number, record);
+        let _done = self.store.touch_if(rv, number, new.into_record());
         self.migrations.pass_key(w, &spot);
         self.revision = number;
         TurnEnd::Touched { rv: number }

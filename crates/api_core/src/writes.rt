@@ -19,25 +19,7 @@ use crate::present::Core;
 use crate::seen::Prepared;
 use api_calls::{Versions, is_served};
 use kube_meta::Key;
-use record_store::{NewRecord, PutEnd};
-
-// A record for the store.
-fn record_of(new: Prepared) -> NewRecord
-    ensures { result ≡ record { key = new.key; at = new.at; weight = new.weight; bytes = new.bytes } }
-{
-    let Prepared {
-        key,
-        at,
-        bytes,
-        weight,
-    } = new;
-    NewRecord {
-        key,
-        at,
-        weight,
-        bytes,
-    }
-}
+use record_store::PutEnd;
 
 impl<V: Versions> Core<V> {
     /// Stores a new object, by its place the version of the request. The refusals are tried in the order of `CreateEnd`.
@@ -65,7 +47,7 @@ impl<V: Versions> Core<V> {
             return CreateEnd::AlreadyExists;
         }
         let number = self.revision + 1;
-        match self.store.put_if(None, number, record_of(new)) {
+        match self.store.put_if(None, number, new.into_record()) {
             PutEnd::Done => {
                 self.revision = number;
                 CreateEnd::Done { rv: number }
@@ -105,7 +87,7 @@ impl<V: Versions> Core<V> {
             return ReplaceEnd::StorageMoved { now };
         }
         let rv = self.revision + 1;
-        match self.store.put_if(Some(expected), rv, record_of(new)) {
+        match self.store.put_if(Some(expected), rv, new.into_record()) {
             PutEnd::Done => {
                 self.revision = rv;
                 ReplaceEnd::Done { rv, born: old.born }
@@ -145,12 +127,15 @@ impl<V: Versions> Core<V> {
         ensures base { SameBase self.old self.new }
     {
         if !is_served(&self.flags, v) {
+            drop(ready);
             return DeleteEnd::Unserved;
         }
         let Some(standing) = self.store.look(key) else {
+            drop(ready);
             return DeleteEnd::NotFound;
         };
         if standing.rv != expected {
+            drop(ready);
             return DeleteEnd::Moved { newer: standing.rv };
         }
         let born = standing.born;
@@ -164,7 +149,7 @@ impl<V: Versions> Core<V> {
         if marked.at != now {
             return DeleteEnd::StorageMoved { now };
         }
-        match self.store.touch_if(expected, rv, record_of(marked)) {
+        match self.store.touch_if(expected, rv, marked.into_record()) {
             PutEnd::Done => {
                 self.revision = rv;
                 DeleteEnd::Kept { rv, born }

@@ -22,21 +22,21 @@ returns-then-new-now-clause-turn g c =
 pub returns-in-Present-clause-turn : goal.returns-in-Present-clause-turn
 returns-in-Present-clause-turn g c =
     let may = sym c.is_served.ensures.served ∙ c.if-not-is_served.false in
-    let end = ap (λ (n : NewRecord). put_end None n.weight (find item_key n.key c.self.inside.store.items) c.self.inside.store) (sym c.record_of.ensures) ∙ sym c.put_if.ensures.end ∙ c.in-Present.is in
+    let end = ap (λ (n : NewRecord). put_end None n.weight (find item_key n.key c.self.inside.store.items) c.self.inside.store) (sym c.into_record.ensures) ∙ sym c.put_if.ensures.end ∙ c.in-Present.is in
     rw (← c.self.view_is) (λ log h stands prepares new.
     create-refused_present _ _ log stands c.args.v c.args.new h c.put_if.new.self may end c.in-Present.ensures.store)
 
 pub returns-in-Full-clause-turn : goal.returns-in-Full-clause-turn
 returns-in-Full-clause-turn g c =
     let may = sym c.is_served.ensures.served ∙ c.if-not-is_served.false in
-    let end = ap (λ (n : NewRecord). put_end None n.weight (find item_key n.key c.self.inside.store.items) c.self.inside.store) (sym c.record_of.ensures) ∙ sym c.put_if.ensures.end ∙ c.in-Full.is in
+    let end = ap (λ (n : NewRecord). put_end None n.weight (find item_key n.key c.self.inside.store.items) c.self.inside.store) (sym c.into_record.ensures) ∙ sym c.put_if.ensures.end ∙ c.in-Full.is in
     rw (← c.self.view_is) (λ log h stands prepares new.
     create-refused_full _ _ log stands c.args.v c.args.new h c.in-Full.room c.put_if.new.self may c.if-new-now.false end c.in-Full.ensures.store)
 
 pub returns-in-Done-clause-turn : goal.returns-in-Done-clause-turn
 returns-in-Done-clause-turn g c =
     let may = sym c.is_served.ensures.served ∙ c.if-not-is_served.false in
-    let end = ap (λ (n : NewRecord). put_end None n.weight (find item_key n.key c.self.inside.store.items) c.self.inside.store) (sym c.record_of.ensures) ∙ sym c.put_if.ensures.end ∙ c.in-Done.is in
-    let store = c.in-Done.ensures.store ∙ ap (λ (n : NewRecord). with_new (c.self.inside.revision + 1) n c.self.inside.store) c.record_of.ensures in
+    let end = ap (λ (n : NewRecord). put_end None n.weight (find item_key n.key c.self.inside.store.items) c.self.inside.store) (sym c.into_record.ensures) ∙ sym c.put_if.ensures.end ∙ c.in-Done.is in
+    let store = c.in-Done.ensures.store ∙ ap (λ (n : NewRecord). with_new (c.self.inside.revision + 1) n c.self.inside.store) c.into_record.ensures in
     rw (← c.self.view_is) (λ log h stands prepares new.
     create-written _ _ log stands c.args.v c.args.new h c.put_if.new.self prepares new may c.if-new-now.false end store)

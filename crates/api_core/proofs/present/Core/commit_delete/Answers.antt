@@ -51,7 +51,7 @@ pub returns-clause-marks : goal.returns-clause-marks
 returns-clause-marks g c =
     let may = sym c.is_served.ensures.served ∙ c.if-not-is_served.false in
     let fits = rw (← c.self.view_is) at c.requires.fits in
-    let store = c.in-Done.ensures.store ∙ ap (λ (n : NewRecord). with_new (c.self.inside.revision + 1) n c.self.inside.store) c.record_of.ensures in
+    let store = c.in-Done.ensures.store ∙ ap (λ (n : NewRecord). with_new (c.self.inside.revision + 1) n c.self.inside.store) c.into_record.ensures in
     rw (← c.self.view_is) (λ p is log h stamp stands prepares known.
     let one = one_some c.args.ready c.in-Some-ready.marked p c.in-Some-ready.is is in
     mark-written _ _ log stands c.args.v p c.args.key.now c.args.expected h stamp c.in-Some.standing c.touch_if.new.self

@@ -28,7 +28,7 @@ returns-then-new-now-clause-turn g c =
 pub returns-in-Full-clause-turn : goal.returns-in-Full-clause-turn
 returns-in-Full-clause-turn g c =
     let may = sym c.is_served.ensures.served ∙ c.if-not-is_served.false in
-    let end = ap (λ (n : NewRecord). put_end (Some c.args.expected) n.weight (find item_key n.key c.self.inside.store.items) c.self.inside.store) (sym c.record_of.ensures) ∙ sym c.put_if.ensures.end ∙ c.in-Full.is in
+    let end = ap (λ (n : NewRecord). put_end (Some c.args.expected) n.weight (find item_key n.key c.self.inside.store.items) c.self.inside.store) (sym c.into_record.ensures) ∙ sym c.put_if.ensures.end ∙ c.in-Full.is in
     rw (← c.self.view_is) (λ log h stands prepares known.
     replace-refused_full _ _ log stands c.args.v c.args.new c.args.expected h c.in-Some.old c.in-Full.room c.put_if.new.self may
     (sym c.look.ensures ∙ c.in-Some.is) c.if-old-expected.false c.if-new-now.false end c.in-Full.ensures.store)
@@ -36,8 +36,8 @@ returns-in-Full-clause-turn g c =
 pub returns-in-Done-clause-turn : goal.returns-in-Done-clause-turn
 returns-in-Done-clause-turn g c =
     let may = sym c.is_served.ensures.served ∙ c.if-not-is_served.false in
-    let end = ap (λ (n : NewRecord). put_end (Some c.args.expected) n.weight (find item_key n.key c.self.inside.store.items) c.self.inside.store) (sym c.record_of.ensures) ∙ sym c.put_if.ensures.end ∙ c.in-Done.is in
-    let store = c.in-Done.ensures.store ∙ ap (λ (n : NewRecord). with_new (c.self.inside.revision + 1) n c.self.inside.store) c.record_of.ensures in
+    let end = ap (λ (n : NewRecord). put_end (Some c.args.expected) n.weight (find item_key n.key c.self.inside.store.items) c.self.inside.store) (sym c.into_record.ensures) ∙ sym c.put_if.ensures.end ∙ c.in-Done.is in
+    let store = c.in-Done.ensures.store ∙ ap (λ (n : NewRecord). with_new (c.self.inside.revision + 1) n c.self.inside.store) c.into_record.ensures in
     rw (← c.self.view_is) (λ log h stands prepares known.
     replace-written _ _ log stands c.args.v c.args.new c.args.expected h c.in-Some.old c.put_if.new.self prepares known may
     (sym c.look.ensures ∙ c.in-Some.is) c.if-old-expected.false c.if-new-now.false end store)

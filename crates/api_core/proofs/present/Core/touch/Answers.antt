@@ -20,5 +20,5 @@ pub returns-clause-turn : goal.returns-clause-turn
 returns-clause-turn g c =
     let x = shown (arc_value c.self.inside.versions) c.self.inside.limits c.self.inside.boot c.self.inside.flags c.self.inside.stored c.self.inside.revision c.self.inside.store c.self.inside.migrations in
     touch-done_turn g.V.Versions.meaning c.args.self.now x c.args.w.now.claim c.in-Some.target c.args.new c.args.rv c.is_ready.result c.touch_if-done.result c.touch_if-done.new.self c.pass_key.new.self
-    c.self.view_is c.in-Some.ensures c.is_ready.ensures c.if-not-is_ready.false c.requires.fits c.requires.next c.touch_if-done.ensures.end c.touch_if-done.ensures.store
+    c.self.view_is c.in-Some.ensures c.is_ready.ensures c.if-not-is_ready.false c.requires.fits c.requires.next (rw c.into_record.ensures at c.touch_if-done.ensures.end) (rw c.into_record.ensures at c.touch_if-done.ensures.store)
     (rw (← c.spot-spot.ensures) c.pass_key.ensures)
