@@ -4,3 +4,4 @@ pub mod Calling
 pub mod Talking
 pub mod Failures
 pub mod Pacing
+pub mod Ending

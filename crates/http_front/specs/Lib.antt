@@ -6,3 +6,4 @@ pub mod Link
 pub mod Going
 pub mod Paced
 pub mod Failures
+pub mod inner

@@ -7,6 +7,7 @@ ghost use Rattle.shared_api.specs.Passes.{IsOf};
 ghost use Rattle.http_front.specs.Steps.{StepAnswers, IsSameBut, Quiet, point_of};
 ghost use Rattle.http_front.specs.Link.{LinkBlames, Links, UnlessUnwritten};
 ghost use Rattle.http_front.specs.Paced.{Paced};
+ghost use Rattle.http_front.specs.inner.Ends.{end_by};
 
 use crate::one::{OneEnd, serve_one};
 use crate::reply::refuse_link;
@@ -32,6 +33,21 @@ pub enum End {
     Spent,
     /// There is no memory for the connection: nothing was read, and the one response to that was written.
     NoMemory,
+}
+
+// How the connection ends by a step of it, if it does.
+fn end_of(one: OneEnd) -> Option<End>
+    ensures { result ≡ end_by one }
+{
+    match one {
+        OneEnd::Answered => None,
+        OneEnd::Last => Some(End::Closed),
+        OneEnd::Closed => Some(End::Closed),
+        OneEnd::Torn { held } => Some(End::Torn { held }),
+        OneEnd::Refused(fault) => Some(End::Refused(fault)),
+        OneEnd::ReadFault => Some(End::ReadFault),
+        OneEnd::WriteFault => Some(End::WriteFault),
+    }
 }
 
 /// Serves one connection on a pass as `serve_link` does, over an inbox that holds nothing. It is never `NoMemory`.
@@ -63,14 +79,9 @@ pub fn serve_requests<V: Versions + Drop, S: Source, K: Sink, C: Clock, R: Wait>
     ensures number { K.number output.new ≡ K.number output.old }
 {
     for count in 0..MOST_REQUESTS {
-        match serve_one(rt, alloc, api, pass, inbox, input, output, clock) {
-            OneEnd::Answered => {}
-            OneEnd::Last => return End::Closed,
-            OneEnd::Closed => return End::Closed,
-            OneEnd::Torn { held } => return End::Torn { held },
-            OneEnd::Refused(fault) => return End::Refused(fault),
-            OneEnd::ReadFault => return End::ReadFault,
-            OneEnd::WriteFault => return End::WriteFault,
+        let one = serve_one(rt, alloc, api, pass, inbox, input, output, clock);
+        if let Some(end) = end_of(one) {
+            return end;
         }
     }
     End::Spent

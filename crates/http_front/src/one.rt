@@ -1,17 +1,21 @@
 //! One request of a connection.
-ghost use Rattle.std.specs.Prelude.{◌≡◌, ◌≤◌, ◌<◌, ℕ, List, Some, length};
+ghost use Rattle.std.specs.Prelude.{◌≡◌, ◌≤◌, ◌<◌, ℕ, List, Some, length, IsUtf8};
 ghost use Rattle.std.specs.Io.KnownBytes.{prepend_known};
 ghost use Rattle.edge_io.specs.Causes.{Rose};
 ghost use Rattle.http_wire.specs.Head.{Request, Reads, HasNoWhole};
+ghost use Rattle.http_wire.specs.Response.{HasPhrase, says};
+ghost use Rattle.http_wire.specs.declared.WireFault.TheVariants.{ReadFault};
 ghost use Rattle.shared_api.specs.Base.{server_of};
 ghost use Rattle.shared_api.specs.Passes.{IsOf};
 ghost use Rattle.http_front.specs.Faults.{IsHeadFault};
 ghost use Rattle.http_front.specs.Steps.{StepAnswers, IsSameBut, Quiet, point_of};
+ghost use Rattle.http_front.specs.Going.{answer_of};
 ghost use Rattle.http_front.specs.One.{Blames, Did, HandsOn, IfAnswered, IsRefused, RefusesHead, step_of as step_for};
+ghost use Rattle.http_front.specs.inner.Ends.{Handed, Stopped};
 
 use crate::answer::answer_request;
 use crate::fault::refuse_head;
-use crate::reply::hand_on;
+use crate::reply::{Answer, hand_on};
 use api_calls::Versions;
 use edge_io::{Clock, Sink, Source};
 use http_wire::{Inbox, WireFault, read_request};
@@ -61,6 +65,38 @@ fn refused<K: Sink>(output: &mut K, fault: WireFault) -> OneEnd
     }
 }
 
+// The step where no request is read: how the input ended, or the end of a head that is refused.
+fn stopped<K: Sink>(output: &mut K, fault: WireFault) -> OneEnd
+    ensures stops { Stopped fault (K.written output.old) (K.written output.new) result }
+    ensures flushed { HandsOn result (K.flushed output.new ≡ K.written output.new) (output.new ≡ output.old) }
+    ensures blame { Blames result (fault ≡ ReadFault) (Rose (K.faults output.old) (K.faults output.new)) }
+    ensures later { K.faults output.old ≤ K.faults output.new }
+    ensures number { K.number output.new ≡ K.number output.old }
+{
+    match fault {
+        WireFault::Closed => OneEnd::Closed,
+        WireFault::Torn { held } => OneEnd::Torn { held },
+        WireFault::ReadFault => OneEnd::ReadFault,
+        _ => refused(output, fault),
+    }
+}
+
+// The step of an answer that is handed on.
+fn handed<K: Sink>(output: &mut K, answer: &Answer, closing: bool) -> OneEnd
+    requires { HasPhrase (answer_of answer.now).code }
+    ensures wrote { Handed closing (says (answer_of answer.now).code (answer_of answer.now).text closing) (K.written output.old) (K.written output.new) result }
+    ensures flushed { HandsOn result (K.flushed output.new ≡ K.written output.new) (output.new ≡ output.old) }
+    ensures blame { Blames result ⊥ (Rose (K.faults output.old) (K.faults output.new)) }
+    ensures later { K.faults output.old ≤ K.faults output.new }
+    ensures number { K.number output.new ≡ K.number output.old }
+    ensures utf8 { IsUtf8 (answer_of answer.now).text }
+{
+    match hand_on(output, answer, closing) {
+        Ok(()) => step_of(closing),
+        Err(_) => OneEnd::WriteFault,
+    }
+}
+
 /// Reads one request, makes its call on the pass and hands the answer on: it is written whole and flushed. A head that is
 /// refused has one response, which asks for closing. `ReadFault` comes only where the count of faults of `input` rose, and
 /// `WriteFault` only where that of `output` did. What the request entered stands also where its response wasn't written.
@@ -101,19 +137,8 @@ pub fn serve_one<V: Versions + Drop, S: Source, K: Sink, C: Clock, R: Wait>(
         Ok(parts) => {
             let answer = answer_request(rt, alloc, api, pass, clock, inbox, parts);
             inbox.used();
-            match hand_on(output, &answer, parts.closing) {
-                Ok(()) => step_of(parts.closing),
-                Err(_) => OneEnd::WriteFault,
-            }
+            handed(output, &answer, parts.closing)
         }
-        Err(WireFault::Closed) => OneEnd::Closed,
-        Err(WireFault::Torn { held }) => OneEnd::Torn { held },
-        Err(WireFault::ReadFault) => OneEnd::ReadFault,
-        Err(WireFault::BadHead) => refused(output, WireFault::BadHead),
-        Err(WireFault::HeadTooLong) => refused(output, WireFault::HeadTooLong),
-        Err(WireFault::LengthRequired) => refused(output, WireFault::LengthRequired),
-        Err(WireFault::BodyTooLong { length }) => {
-            refused(output, WireFault::BodyTooLong { length })
-        }
+        Err(fault) => stopped(output, fault),
     }
 }
