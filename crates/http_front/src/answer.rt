@@ -11,7 +11,7 @@ ghost use Rattle.http_front.specs.Steps.{StepAnswers, IsSameBut, Quiet, point_of
 ghost use Rattle.http_front.specs.Going.{answer_of, PassComes, MayRoute};
 
 use crate::call::make_call;
-use crate::reply::{Answer, refused, told};
+use crate::reply::{Answer, refused_by, told};
 use api_calls::{Refusal, Versions};
 use edge_io::Clock;
 use http_routes::{Call, Route, find_call};
@@ -68,15 +68,15 @@ fn answer_route<V: Versions + Drop, C: Clock, R: Wait>(
             told(alloc, api.versions(), about, came)
         }
         Route::NoResource => {
-            refused(alloc, api.versions(), About::Objects, &Refusal::NoResource)
+            refused_by(alloc, api.versions(), About::Objects, Refusal::NoResource)
         }
         Route::MethodNotAllowed => Answer::NoMethod,
         Route::BadRequest(why) => {
-            refused(
+            refused_by(
                 alloc,
                 api.versions(),
                 About::Objects,
-                &Refusal::BadRequest { why },
+                Refusal::BadRequest { why },
             )
         }
     }

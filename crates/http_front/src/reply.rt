@@ -81,9 +81,9 @@ fn refuse<V: Versions>(
     }
 }
 
-/// The answer to a refused request: its Status, where there is memory for the text.
+// The answer to a refused request: its Status, where there is memory for the text.
 #[tactic(auto, using(crate::proofs::Codes::codes))]
-pub fn refused<V: Versions>(alloc: Global, versions: &V, about: About, refusal: &Refusal) -> Answer
+fn refused<V: Versions>(alloc: Global, versions: &V, about: About, refusal: &Refusal) -> Answer
     ensures tells { (answer_of result ≡ refused_of (V.meaning versions.now) about (refusal_of refusal.now)) ⊎ (answer_of result ≡ wants_memory) }
     ensures phrase { HasPhrase (answer_of result).code }
 {
@@ -91,6 +91,19 @@ pub fn refused<V: Versions>(alloc: Global, versions: &V, about: About, refusal: 
         Ok(reply) => Answer::Reply(reply),
         Err(_) => Answer::NoMemory,
     }
+}
+
+/// The answer to a request that is refused so. It lets go of the refusal.
+pub fn refused_by<V: Versions>(
+    alloc: Global,
+    versions: &V,
+    about: About,
+    refusal: Refusal,
+) -> Answer
+    ensures tells { (answer_of result ≡ refused_of (V.meaning versions.now) about (refusal_of refusal)) ⊎ (answer_of result ≡ wants_memory) }
+    ensures phrase { HasPhrase (answer_of result).code }
+{
+    refused(alloc, versions, about, &refusal)
 }
 
 /// The answer of what a call came to, whose refusals are about this.
@@ -106,7 +119,7 @@ pub fn told<V: Versions>(
 {
     match came {
         Ok(reply) => Answer::Reply(reply),
-        Err(refusal) => refused(alloc, versions, about, &refusal),
+        Err(refusal) => refused_by(alloc, versions, about, refusal),
     }
 }
 

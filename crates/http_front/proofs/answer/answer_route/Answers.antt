@@ -19,7 +19,7 @@ returns-in-Calls-clause-comes g c = λ n named.
 
 pub returns-in-NoResource-clause-comes : goal.returns-in-NoResource-clause-comes
 returns-in-NoResource-clause-comes g c = λ n named.
-    rw c.in-NoResource.is (comes_nowhere _ _ n _ _ (rw c.versions-in-NoResource.ensures at c.refused.ensures.tells))
+    rw c.in-NoResource.is (comes_nowhere _ _ n _ _ (rw c.versions-in-NoResource.ensures at c.refused_by.ensures.tells))
 
 pub returns-in-MethodNotAllowed-clause-comes : goal.returns-in-MethodNotAllowed-clause-comes
 returns-in-MethodNotAllowed-clause-comes g c = λ n named.
@@ -30,4 +30,4 @@ returns-in-MethodNotAllowed-clause-phrase g c = phrase-405
 
 pub returns-in-BadRequest-clause-comes : goal.returns-in-BadRequest-clause-comes
 returns-in-BadRequest-clause-comes g c = λ n named.
-    rw c.in-BadRequest.is (comes_bad _ _ n _ _ (why_of c.in-BadRequest.why) (rw c.versions-in-BadRequest.ensures at c.refused-in-BadRequest.ensures.tells))
+    rw c.in-BadRequest.is (comes_bad _ _ n _ _ (why_of c.in-BadRequest.why) (rw c.versions-in-BadRequest.ensures at c.refused_by-in-BadRequest.ensures.tells))
