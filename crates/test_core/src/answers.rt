@@ -1,6 +1,7 @@
 //! The texts of answers.
 use api_calls::StoredList;
 use api_core::{Page, Seen, SetEnd, TrimEnd, TurnEnd};
+use kube_meta::{KeySpot, NameSpot};
 use migrate_core::StartEnd;
 use std::alloc::Global;
 use std::fmt::Debug;
@@ -66,50 +67,87 @@ pub fn set_text(alloc: Global, end: Option<SetEnd>) -> Option<String> {
     }
 }
 
-/// How a trim ended, if it was made.
-pub fn trim_text(alloc: Global, end: Option<TrimEnd>) -> Option<String> {
-    match end? {
+fn still_text(alloc: Global, v: u8, key: &Option<KeySpot>) -> Option<String> {
+    match key {
+        Some(key) => {
+            let name = key.name();
+            format!(in alloc; "StillStored @{v} {name}").ok()
+        }
+        None => format!(in alloc; "StillStored @{v}").ok(),
+    }
+}
+
+fn trimmed(alloc: Global, end: &TrimEnd) -> Option<String> {
+    match end {
         TrimEnd::Done {
             rv,
             flags: _,
             stored,
-        } => done(alloc, rv, &stored),
-        TrimEnd::Unchanged { flags: _, stored } => listed(alloc, "Unchanged", &stored),
+        } => done(alloc, *rv, stored),
+        TrimEnd::Unchanged { flags: _, stored } => listed(alloc, "Unchanged", stored),
         TrimEnd::Unknown { v } => format!(in alloc; "Unknown @{v}").ok(),
-        TrimEnd::StillStored { v, key: None } => format!(in alloc; "StillStored @{v}").ok(),
-        TrimEnd::StillStored { v, key: Some(key) } => {
-            let name = key.name();
-            format!(in alloc; "StillStored @{v} {name}").ok()
-        }
+        TrimEnd::StillStored { v, key } => still_text(alloc, *v, key),
+    }
+}
+
+/// How a trim ended, if it was made.
+pub fn trim_text(alloc: Global, end: Option<TrimEnd>) -> Option<String> {
+    match end {
+        Some(end) => trimmed(alloc, &end),
+        None => None,
+    }
+}
+
+fn running(alloc: Global, name: &NameSpot) -> Option<String> {
+    let name = name.as_str();
+    format!(in alloc; "Running {name}").ok()
+}
+
+fn started(alloc: Global, end: &StartEnd) -> Option<String> {
+    match end {
+        StartEnd::Done { target } => format!(in alloc; "Done @{target}").ok(),
+        StartEnd::AlreadyExists => String::from_str(alloc, "AlreadyExists").ok(),
+        StartEnd::Running { name } => running(alloc, name),
+        StartEnd::Full(room) => told(alloc, room),
     }
 }
 
 /// How the start of a migration ended, if it was made.
 pub fn start_text(alloc: Global, end: Option<StartEnd>) -> Option<String> {
-    match end? {
-        StartEnd::Done { target } => format!(in alloc; "Done @{target}").ok(),
-        StartEnd::AlreadyExists => String::from_str(alloc, "AlreadyExists").ok(),
-        StartEnd::Running { name } => {
-            let name = name.as_str();
-            format!(in alloc; "Running {name}").ok()
-        }
-        StartEnd::Full(room) => told(alloc, &room),
+    match end {
+        Some(end) => started(alloc, &end),
+        None => None,
     }
+}
+
+fn prepare(alloc: Global, key: &KeySpot, rv: u64) -> Option<String> {
+    let name = key.name();
+    format!(in alloc; "Prepare {name} #{rv}").ok()
+}
+
+// The number behind a word that tells it.
+fn numbered(alloc: Global, word: &str, rv: u64) -> Option<String> {
+    format!(in alloc; "{word} #{rv}").ok()
+}
+
+fn turned(alloc: Global, end: &TurnEnd) -> Option<String> {
+    let word = match end {
+        TurnEnd::Idle => "Idle",
+        TurnEnd::Claimed => "Claimed",
+        TurnEnd::Moved => "Moved",
+        TurnEnd::RangeDone => "RangeDone",
+        TurnEnd::Prepare { key, rv } => return prepare(alloc, key, *rv),
+        TurnEnd::Touched { rv } => return numbered(alloc, "Touched", *rv),
+        TurnEnd::Finished { rv } => return numbered(alloc, "Finished", *rv),
+    };
+    String::from_str(alloc, word).ok()
 }
 
 /// How a worker's turn ended, if it was made.
 pub fn turn_text(alloc: Global, end: Option<TurnEnd>) -> Option<String> {
-    match end? {
-        TurnEnd::Idle => String::from_str(alloc, "Idle").ok(),
-        TurnEnd::Claimed => String::from_str(alloc, "Claimed").ok(),
-        TurnEnd::Prepare { key, rv } => {
-            let name = key.name();
-            format!(in alloc; "Prepare {name} #{rv}").ok()
-        }
-        TurnEnd::Touched { rv } => format!(in alloc; "Touched #{rv}").ok(),
-        TurnEnd::Moved => String::from_str(alloc, "Moved").ok(),
-        TurnEnd::RangeDone => String::from_str(alloc, "RangeDone").ok(),
-        TurnEnd::Finished { rv } => format!(in alloc; "Finished #{rv}").ok(),
+    match end {
+        Some(end) => turned(alloc, &end),
+        None => None,
     }
 }
 

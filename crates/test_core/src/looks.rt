@@ -2,45 +2,40 @@
 use crate::answers::{listed, page_text, seen_text, told};
 use crate::order::{Order, code};
 use crate::turns::key_of;
-use api_calls::{Token, Versions};
+use api_calls::{StoredList, Token, Versions};
 use api_core::{Core, Seen};
-use kube_meta::Key;
 use migrate_core::MigrationItem;
 use std::alloc::Global;
 
-/// The object of a key.
-pub fn seen<V: Versions>(alloc: Global, core: &Core<V>, key: &Key) -> Option<Option<Seen>> {
-    match core.peek(alloc, key) {
-        Ok(peeked) => Some(peeked.found),
+fn found_text(alloc: Global, found: &Option<Seen>) -> Option<String> {
+    match found {
+        Some(seen) => seen_text(alloc, seen),
+        None => String::from_str(alloc, "none").ok(),
+    }
+}
+
+// The object of a name, told.
+fn object<V: Versions>(alloc: Global, core: &Core<V>, name: &str) -> Option<String> {
+    let Some(key) = key_of(alloc, name) else {
+        return None;
+    };
+    match core.peek(alloc, &key) {
+        Ok(peeked) => found_text(alloc, &peeked.found),
         Err(_) => None,
     }
 }
 
-// The object of a key, told.
-fn standing<V: Versions>(alloc: Global, core: &Core<V>, key: &Key) -> Option<String> {
-    match seen(alloc, core, key) {
-        Some(Some(seen)) => seen_text(alloc, &seen),
-        Some(None) => String::from_str(alloc, "none").ok(),
-        None => None,
-    }
-}
-
-// The object of a name.
-fn object<V: Versions>(alloc: Global, core: &Core<V>, name: &str) -> Option<String> {
-    match key_of(alloc, name) {
-        Some(key) => standing(alloc, core, &key),
-        None => None,
+fn settings_text(alloc: Global, storage: u8, stored: &StoredList, revision: u64) -> Option<String> {
+    match format!(in alloc; "#{revision} @{storage} of") {
+        Ok(text) => listed(alloc, text.as_str(), stored),
+        Err(_) => None,
     }
 }
 
 // The revision, the storage version and the stored list.
 fn settings<V: Versions>(alloc: Global, core: &Core<V>) -> Option<String> {
     let (flags, stored, revision) = core.settings();
-    let storage = flags.storage;
-    match format!(in alloc; "#{revision} @{storage} of") {
-        Ok(text) => listed(alloc, text.as_str(), &stored),
-        Err(_) => None,
-    }
+    settings_text(alloc, flags.storage, &stored, revision)
 }
 
 fn item_text(alloc: Global, item: Option<&MigrationItem>) -> Option<String> {
@@ -76,19 +71,24 @@ fn page_behind<V: Versions>(
     }
 }
 
+// The place behind the object of a name, as it stood at a number.
+fn token_of(alloc: Global, order: &Order<'_>) -> Option<Token> {
+    match key_of(alloc, order.name) {
+        Some(key) => Some(Token {
+            rv: order.number,
+            key,
+        }),
+        None => None,
+    }
+}
+
 // So many objects behind that of a name, as they stood at a number, or with no name the first ones as they stand.
 fn page<V: Versions>(alloc: Global, core: &Core<V>, order: &Order<'_>) -> Option<String> {
     if order.name.is_empty() {
         return page_behind(alloc, core, None, order.weight);
     }
-    match key_of(alloc, order.name) {
-        Some(key) => {
-            let token = Token {
-                rv: order.number,
-                key,
-            };
-            page_behind(alloc, core, Some(&token), order.weight)
-        }
+    match token_of(alloc, order) {
+        Some(token) => page_behind(alloc, core, Some(&token), order.weight),
         None => None,
     }
 }

@@ -31,62 +31,49 @@ pub fn bare(who: u8, word: &str) -> Order<'_> {
     }
 }
 
-// The order with one word more: the place of a version behind `@`, that of the request's version behind `?`, a number
-// behind `#`, a weight behind `+`, a name, or a text.
-fn with<'a>(order: Order<'a>, word: &'a str) -> Option<Order<'a>> {
+fn put_place(place: &mut u8, word: &str) -> bool {
+    match word.parse::<u8>() {
+        Ok(number) => {
+            *place = number;
+            true
+        }
+        Err(_) => false,
+    }
+}
+
+fn put_number(place: &mut u64, word: &str) -> bool {
+    match word.parse::<u64>() {
+        Ok(number) => {
+            *place = number;
+            true
+        }
+        Err(_) => false,
+    }
+}
+
+// A name, or where the order has one a text.
+fn put_text<'a>(order: &mut Order<'a>, word: &'a str) {
+    if order.name.is_empty() {
+        order.name = word;
+    } else {
+        order.text = word;
+    }
+}
+
+// The order gets one word more: the place of a version behind `@`, that of the request's version behind `?`, a number
+// behind `#`, a weight behind `+`, a name, or a text. Answers whether it is one.
+fn put<'a>(order: &mut Order<'a>, word: &'a str) -> bool {
     let rest = word.get(1..).unwrap_or("");
     match word.as_bytes().first() {
-        Some(b'@') => with_place(order, true, rest),
-        Some(b'?') => with_place(order, false, rest),
-        Some(b'#') => with_number(order, true, rest),
-        Some(b'+') => with_number(order, false, rest),
-        Some(_) => Some(with_text(order, word)),
-        None => None,
-    }
-}
-
-// The order with the place of a version, or of that of the request.
-fn with_place<'a>(order: Order<'a>, is_at: bool, word: &str) -> Option<Order<'a>> {
-    let Ok(place) = word.parse::<u8>() else {
-        return None;
-    };
-    if is_at {
-        Some(Order { at: place, ..order })
-    } else {
-        Some(Order {
-            asked: place,
-            ..order
-        })
-    }
-}
-
-// The order with a number, or with a weight.
-fn with_number<'a>(order: Order<'a>, is_number: bool, word: &str) -> Option<Order<'a>> {
-    let Ok(number) = word.parse::<u64>() else {
-        return None;
-    };
-    if is_number {
-        Some(Order { number, ..order })
-    } else {
-        Some(Order {
-            weight: number,
-            ..order
-        })
-    }
-}
-
-// The order with a name, or where it has one with a text.
-fn with_text<'a>(order: Order<'a>, word: &'a str) -> Order<'a> {
-    if order.name.is_empty() {
-        Order {
-            name: word,
-            ..order
+        Some(b'@') => put_place(&mut order.at, rest),
+        Some(b'?') => put_place(&mut order.asked, rest),
+        Some(b'#') => put_number(&mut order.number, rest),
+        Some(b'+') => put_number(&mut order.weight, rest),
+        Some(_) => {
+            put_text(order, word);
+            true
         }
-    } else {
-        Order {
-            text: word,
-            ..order
-        }
+        None => false,
     }
 }
 
@@ -106,8 +93,8 @@ pub fn order_of(line: &str) -> Option<Order<'_>> {
     for word in rest.split_whitespace() {
         if order.word.is_empty() {
             order.word = word;
-        } else {
-            order = with(order, word)?;
+        } else if !put(&mut order, word) {
+            return None;
         }
     }
     Some(order)

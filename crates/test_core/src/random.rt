@@ -1,11 +1,10 @@
 //! A long run of turns that a small generator chooses, with a look from outside after each.
-use crate::looks::seen;
 use crate::order::Order;
 use crate::script::{Team, answered, standing};
 use crate::turns::key_of;
 use api_calls::{StoredList, Versions};
 use api_core::{Core, Page, Seen};
-use kube_meta::{Condition, Key, Limits};
+use kube_meta::{Condition, Limits};
 use migrate_core::MigrationItems;
 use std::alloc::Global;
 use std::cmp::Ordering;
@@ -105,19 +104,35 @@ fn asked(turn: u64) -> u8 {
     }
 }
 
-fn number_under<V: Versions>(alloc: Global, core: &Core<V>, key: &Key) -> Option<u64> {
-    match seen(alloc, core, key) {
-        Some(Some(seen)) => Some(seen.rv),
-        Some(None) => Some(1),
-        None => None,
+fn number_in(found: &Option<Seen>) -> u64 {
+    match found {
+        Some(seen) => seen.rv,
+        None => 1,
     }
 }
 
 // The number at which the object of a name stands, or 1.
 fn number_of<V: Versions>(alloc: Global, core: &Core<V>, name: &str) -> Option<u64> {
-    match key_of(alloc, name) {
-        Some(key) => number_under(alloc, core, &key),
-        None => None,
+    let Some(key) = key_of(alloc, name) else {
+        return None;
+    };
+    match core.peek(alloc, &key) {
+        Ok(peeked) => Some(number_in(&peeked.found)),
+        Err(_) => None,
+    }
+}
+
+fn order_of<'a>(draw: &Draw, storage: u8, name: &'a str, number: u64) -> Order<'a> {
+    let (who, word) = order_at(draw.turn);
+    Order {
+        who,
+        word,
+        name,
+        text: "text",
+        at: place(draw, storage),
+        number,
+        asked: asked(draw.turn),
+        weight: if draw.coin { 1 } else { 2 },
     }
 }
 
@@ -130,21 +145,10 @@ fn takes_turn_on<V: Versions>(
     storage: u8,
     name: &str,
 ) -> Option<String> {
-    let Some(number) = number_of(alloc, core, name) else {
-        return None;
-    };
-    let (who, word) = order_at(draw.turn);
-    let order = Order {
-        who,
-        word,
-        name,
-        text: "text",
-        at: place(draw, storage),
-        number,
-        asked: asked(draw.turn),
-        weight: if draw.coin { 1 } else { 2 },
-    };
-    answered(alloc, core, team, &order)
+    match number_of(alloc, core, name) {
+        Some(number) => answered(alloc, core, team, &order_of(draw, storage, name, number)),
+        None => None,
+    }
 }
 
 // One turn, of a client or of one of two workers.
@@ -203,7 +207,23 @@ fn keys_rise(items: &[Seen]) -> bool {
 
 // How many objects have a number.
 fn objects_of(items: &[Seen], rv: u64) -> usize {
-    items.iter().filter(|seen| seen.rv == rv).count()
+    let mut count = 0usize;
+    for seen in items {
+        if seen.rv == rv {
+            count = count.wrapping_add(1);
+        }
+    }
+    count
+}
+
+// Each object fits, and no other has its number.
+fn each_fits(items: &[Seen], stored: &StoredList, now: u64) -> bool {
+    for seen in items {
+        if !object_fits(seen, stored, now) || objects_of(items, seen.rv) != 1 {
+            return false;
+        }
+    }
+    true
 }
 
 fn page_fits(page: &Page, stored: &StoredList, now: u64) -> bool {
@@ -212,13 +232,17 @@ fn page_fits(page: &Page, stored: &StoredList, now: u64) -> bool {
         && page.remaining == 0
         && items.len() <= 12
         && keys_rise(items)
-        && items.iter().all(|seen| object_fits(seen, stored, now)
-            && objects_of(items, seen.rv) == 1)
+        && each_fits(items, stored, now)
 }
 
 // Where a turn marks a migration, every object stands at its target.
 fn objects_moved(page: &Page, storage: u8) -> bool {
-    page.items.as_slice().iter().all(|seen| seen.at == storage)
+    for seen in page.items.as_slice() {
+        if seen.at != storage {
+            return false;
+        }
+    }
+    true
 }
 
 // What holds of the objects after each turn, and of a turn that marks a migration.
@@ -233,18 +257,27 @@ fn objects_fit<V: Versions>(alloc: Global, core: &Core<V>, is_marked: bool) -> b
 }
 
 fn stand_so(items: &MigrationItems, condition: Condition) -> usize {
-    items
-        .as_slice()
-        .iter()
-        .filter(|item| item.condition() == condition)
-        .count()
+    let mut count = 0usize;
+    for item in items.as_slice() {
+        if item.condition() == condition {
+            count = count.wrapping_add(1);
+        }
+    }
+    count
 }
 
 // At most one migration runs, to the storage version.
 fn are_few(items: &MigrationItems, storage: u8) -> bool {
-    stand_so(items, Condition::Running) <= 1
-        && items.as_slice().iter().all(|item| item.condition() != Condition::Running
-            || item.target() == storage)
+    let mut running = 0usize;
+    for item in items.as_slice() {
+        if item.condition() == Condition::Running {
+            running = running.wrapping_add(1);
+            if item.target() != storage {
+                return false;
+            }
+        }
+    }
+    running <= 1
 }
 
 fn migrations_fit<V: Versions>(alloc: Global, core: &Core<V>, storage: u8) -> bool {
@@ -262,15 +295,9 @@ fn numbers_fit(was: Look, now: Look) -> bool {
         && now.claims - was.claims <= 1
 }
 
-// One turn. Answers whether it marks a migration.
-fn marks<V: Versions>(
-    alloc: Global,
-    core: &mut Core<V>,
-    team: &mut Team,
-    draw: &Draw,
-    storage: u8,
-) -> Option<bool> {
-    match takes_turn(alloc, core, team, draw, storage) {
+// Whether a turn that answered so marks a migration.
+fn marks(answer: Option<String>) -> Option<bool> {
+    match answer {
         Some(answer) => Some(answer.as_str().starts_with("Finished")),
         None => None,
     }
@@ -279,7 +306,7 @@ fn marks<V: Versions>(
 // One turn. Answers whether what holds after each does.
 fn step<V: Versions>(alloc: Global, core: &mut Core<V>, team: &mut Team, n: u64) -> bool {
     let was = looked(core);
-    let Some(is_marked) = marks(alloc, core, team, &drawn(n), was.storage) else {
+    let Some(is_marked) = marks(takes_turn(alloc, core, team, &drawn(n), was.storage)) else {
         return false;
     };
     let now = looked(core);

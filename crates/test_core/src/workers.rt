@@ -8,7 +8,7 @@ ghost use Rattle.api_core.specs.Prepared.{FitsAt, IsSized, seen_item};
 ghost use Rattle.api_core.specs.Ready.{IfPrepare, IsNext};
 
 use crate::order::Order;
-use crate::turns::{again, value, young};
+use crate::turns::{again, prepared, value, young};
 use api_calls::Versions;
 use api_core::{Core, Prepared, Seen, TurnEnd};
 use kube_meta::Key;
@@ -72,19 +72,6 @@ fn touch<V: Versions>(
     Some(turned(core, w, rv, moved))
 }
 
-// What stands under a key, prepared for a version.
-fn moved_under<V: Versions>(alloc: Global, core: &Core<V>, key: &Key, at: u8) -> Option<Prepared>
-    ensures sized { IfSome result IsSized }
-    ensures key { IfSome result (λ p. p.key ≡ key.now) }
-    ensures weight { IfSome result (λ p. Some p.weight ≡ option_map (λ x. x.weight) (find item_key key.now core.now.view.store.items)) }
-{
-    let own = again(key)?;
-    match standing(alloc, core, key) {
-        Some(seen) => moved(own, at, seen),
-        None => None,
-    }
-}
-
 // What stands under a key.
 fn standing<V: Versions>(alloc: Global, core: &Core<V>, key: &Key) -> Option<Seen>
     ensures { IfSome result (λ s. Some (seen_item s) ≡ find item_key key.now core.now.view.store.items) }
@@ -95,21 +82,28 @@ fn standing<V: Versions>(alloc: Global, core: &Core<V>, key: &Key) -> Option<See
     }
 }
 
-// What was seen, prepared for a version.
-fn moved(key: Key, at: u8, seen: Seen) -> Option<Prepared>
+// What was seen under a key, prepared for a version.
+fn moved(alloc: Global, key: &Key, at: u8, seen: &Seen) -> Option<Prepared>
     ensures sized { IfSome result IsSized }
-    ensures key { IfSome result (λ p. p.key ≡ key) }
-    ensures weight { IfSome result (λ p. p.weight ≡ seen.weight) }
+    ensures key { IfSome result (λ p. p.key ≡ key.now) }
+    ensures weight { IfSome result (λ p. p.weight ≡ seen.now.weight) }
 {
-    if seen.weight < 1 || seen.bytes.len() > 256 {
-        return None;
+    match again(key) {
+        Some(key) => prepared(alloc, key, at, seen.bytes.as_str(), seen.weight),
+        None => None,
     }
-    Some(Prepared {
-        key,
-        at,
-        bytes: seen.bytes,
-        weight: seen.weight,
-    })
+}
+
+// What stands under a key, prepared for a version.
+fn moved_under<V: Versions>(alloc: Global, core: &Core<V>, key: &Key, at: u8) -> Option<Prepared>
+    ensures sized { IfSome result IsSized }
+    ensures key { IfSome result (λ p. p.key ≡ key.now) }
+    ensures weight { IfSome result (λ p. Some p.weight ≡ option_map (λ x. x.weight) (find item_key key.now core.now.view.store.items)) }
+{
+    match standing(alloc, core, key) {
+        Some(seen) => moved(alloc, key, at, &seen),
+        None => None,
+    }
 }
 
 // Whether nothing stands under a key, as far as there is memory to look.
