@@ -1,5 +1,5 @@
 //! Responses in chunks.
-use crate::spelling::{add_spelled, bytes_of, spelled};
+use crate::spelling::{add_spelled, spelled_bytes};
 use crate::told::Told;
 use chunked_bodies::{laws, with_length};
 use std::alloc::Global;
@@ -18,14 +18,7 @@ pub(crate) fn answer(alloc: Global, word: u8, text: &str, out: &mut Told) {
 }
 
 fn handed_on(alloc: Global, text: &str, out: &mut Told) {
-    match spelled(alloc, text) {
-        Some(text) => handed_on_of(alloc, text.as_str(), out),
-        None => out.lose(),
-    }
-}
-
-fn handed_on_of(alloc: Global, text: &str, out: &mut Told) {
-    match bytes_of(alloc, text) {
+    match spelled_bytes(alloc, text) {
         Some(response) => beside(alloc, text, &response, out),
         None => out.lose(),
     }
@@ -40,7 +33,7 @@ fn beside(alloc: Global, text: &str, response: &[u8], out: &mut Told) {
 }
 
 fn handed(alloc: Global, text: &str) -> Option<Vec<u8>> {
-    match bytes_of(alloc, text) {
+    match spelled_bytes(alloc, text) {
         Some(response) => with_length(alloc, response).ok(),
         None => None,
     }

@@ -23,7 +23,7 @@ pub(crate) fn answer(alloc: Global, word: u8, text: &str, out: &mut Told) {
     match word {
         b'l' => loaded(alloc, text, out),
         b'a' => admitted(alloc, text, out),
-        b's' => stored(alloc, text, out),
+        b's' => handed_on(alloc, text, out),
         _ => out.lose(),
     }
 }
@@ -149,80 +149,6 @@ fn add_turns(alloc: Global, converter: &ListConverter, out: &mut Told) {
     }
 }
 
-// ---- a create
-
-// Adds what a create at a version comes to.
-fn add_create<V: Versions>(
-    alloc: Global,
-    versions: &V,
-    tool: &mut V::Tool,
-    version: &str,
-    body: &str,
-    out: &mut Told,
-) {
-    let Some(version) = versions.find(version) else {
-        return out.lose();
-    };
-    if !namespace_ok("default") {
-        return out.lose();
-    }
-    let input = Incoming {
-        version,
-        creating: true,
-        ns: "default",
-        name: None,
-        bytes: body.as_bytes(),
-    };
-    match versions.admit(alloc, tool, &input, version) {
-        Ok(admitted) => add_admitted(alloc, &admitted, out),
-        Err(fault) => add_fault(out, &fault),
-    }
-}
-
-fn by_set(
-    alloc: Global,
-    set: &HookSet<ListConverter>,
-    version: &str,
-    body: &str,
-    given: &str,
-    out: &mut Told,
-) {
-    match converter(alloc, given) {
-        Some(mut tool) => {
-            add_create(alloc, set, &mut tool, version, body, out);
-            add_turns(alloc, &tool, out);
-        }
-        None => out.lose(),
-    }
-}
-
-fn with_body(alloc: Global, version: &str, body: &str, given: &str, out: &mut Told) {
-    match load_hook::<ListConverter>(alloc, CRD.as_bytes(), "v1") {
-        Ok(set) => by_set(alloc, &set, version, body, given, out),
-        Err(_) => out.lose(),
-    }
-}
-
-fn admitted_with(alloc: Global, version: &str, behind: &str, out: &mut Told) {
-    let Some((body, given)) = cut(behind, '~') else {
-        return out.lose();
-    };
-    match spelled(alloc, body) {
-        Some(body) => with_body(alloc, version, body.as_str(), given, out),
-        None => out.lose(),
-    }
-}
-
-// What a create is admitted with, by a converter with these answers.
-fn admitted(alloc: Global, text: &str, out: &mut Told) {
-    match cut(text, '~') {
-        Some((version, behind)) => admitted_with(alloc, version, behind, out),
-        None => out.lose(),
-    }
-}
-
-// ---- what is stored of a create
-
 fn add_shaped(alloc: Global, hub: &Object, shape: Shape, out: &mut Told) {
     match copy_shaped(alloc, hub, shape) {
         Ok(form) => add_object(alloc, &form, out),
@@ -240,88 +166,142 @@ fn add_form(alloc: Global, admitted: Admitted, out: &mut Told) {
     drop(admitted);
 }
 
-// Adds what is handed on of a create at a version, where another is stored, or why it is refused.
-fn add_stored<V: Versions>(
+// ---- a create
+
+// A create at a version where one is stored, by a converter with these answers; and whether what is handed on is told, or the hub value.
+#[derive(Clone, Copy, Drop)]
+struct Create<'a> {
+    stored: &'a str,
+    version: &'a str,
+    body: &'a str,
+    given: &'a str,
+    is_form: bool,
+}
+
+// What a create comes to, if the versions are known.
+fn came<V: Versions>(
     alloc: Global,
     versions: &V,
     tool: &mut V::Tool,
-    stored: &str,
-    version: &str,
-    body: &str,
-    out: &mut Told,
-) {
-    let Some(storage) = versions.find(stored) else {
-        return out.lose();
+    create: &Create<'_>,
+) -> Option<Result<Admitted, AdmitFault>> {
+    let Some(storage) = versions.find(create.stored) else {
+        return None;
     };
-    let Some(version) = versions.find(version) else {
-        return out.lose();
+    let Some(version) = versions.find(create.version) else {
+        return None;
     };
     if !namespace_ok("default") {
-        return out.lose();
+        return None;
     }
     let input = Incoming {
         version,
         creating: true,
         ns: "default",
         name: None,
-        bytes: body.as_bytes(),
+        bytes: create.body.as_bytes(),
     };
-    match versions.admit(alloc, tool, &input, storage) {
-        Ok(admitted) => add_form(alloc, admitted, out),
-        Err(fault) => add_fault(out, &fault),
+    Some(versions.admit(alloc, tool, &input, storage))
+}
+
+fn add_made(alloc: Global, admitted: Admitted, is_form: bool, out: &mut Told) {
+    if is_form {
+        add_form(alloc, admitted, out);
+    } else {
+        add_admitted(alloc, &admitted, out);
     }
 }
 
-fn stored_by(
+// Adds what a create comes to, or why it is refused.
+fn add_came(
     alloc: Global,
-    set: &HookSet<ListConverter>,
-    stored: &str,
-    version: &str,
-    body: &str,
-    given: &str,
+    came: Option<Result<Admitted, AdmitFault>>,
+    is_form: bool,
     out: &mut Told,
 ) {
-    match converter(alloc, given) {
+    match came {
+        Some(Ok(admitted)) => add_made(alloc, admitted, is_form, out),
+        Some(Err(fault)) => add_fault(out, &fault),
+        None => out.lose(),
+    }
+}
+
+// Adds the turns that were made, or how many these are.
+fn add_used(alloc: Global, tool: &ListConverter, is_form: bool, out: &mut Told) {
+    if is_form {
+        out.add("/");
+        out.add_number(alloc, tool.made().len() as u64);
+    } else {
+        add_turns(alloc, tool, out);
+    }
+}
+
+fn by_set(alloc: Global, set: &HookSet<ListConverter>, create: &Create<'_>, out: &mut Told) {
+    match converter(alloc, create.given) {
         Some(mut tool) => {
-            add_stored(alloc, set, &mut tool, stored, version, body, out);
-            out.add("/");
-            out.add_number(alloc, tool.made().len() as u64);
+            add_came(
+                alloc,
+                came(alloc, set, &mut tool, create),
+                create.is_form,
+                out,
+            );
+            add_used(alloc, &tool, create.is_form, out);
         }
         None => out.lose(),
     }
 }
 
-fn stored_body(
-    alloc: Global,
-    stored: &str,
-    version: &str,
-    body: &str,
-    given: &str,
-    out: &mut Told,
-) {
-    match load_hook::<ListConverter>(alloc, THREE.as_bytes(), "v1") {
-        Ok(set) => stored_by(alloc, &set, stored, version, body, given, out),
+fn made(alloc: Global, create: &Create<'_>, out: &mut Told) {
+    let crd = if create.is_form { THREE } else { CRD };
+    match load_hook::<ListConverter>(alloc, crd.as_bytes(), "v1") {
+        Ok(set) => by_set(alloc, &set, create, out),
         Err(_) => out.lose(),
     }
 }
 
-fn stored_with(alloc: Global, stored: &str, version: &str, behind: &str, out: &mut Told) {
+// Adds what `BODY~ANSWERS` comes to.
+fn created(
+    alloc: Global,
+    stored: &str,
+    version: &str,
+    behind: &str,
+    is_form: bool,
+    out: &mut Told,
+) {
     let Some((body, given)) = cut(behind, '~') else {
         return out.lose();
     };
     match spelled(alloc, body) {
-        Some(body) => stored_body(alloc, stored, version, body.as_str(), given, out),
+        Some(body) => {
+            let body = body.as_str();
+            let create = Create {
+                stored,
+                version,
+                body,
+                given,
+                is_form,
+            };
+            made(alloc, &create, out);
+        }
+        None => out.lose(),
+    }
+}
+
+// What a create is admitted with, by a converter with these answers.
+fn admitted(alloc: Global, text: &str, out: &mut Told) {
+    match cut(text, '~') {
+        Some((version, behind)) => created(alloc, version, version, behind, false, out),
         None => out.lose(),
     }
 }
 
 // What is handed on of a create where another version is stored, by a converter with these answers, and how many turns it takes.
-fn stored(alloc: Global, text: &str, out: &mut Told) {
+fn handed_on(alloc: Global, text: &str, out: &mut Told) {
     let Some((stored, behind)) = cut(text, '~') else {
         return out.lose();
     };
     match cut(behind, '~') {
-        Some((version, behind)) => stored_with(alloc, stored, version, behind, out),
+        Some((version, behind)) => created(alloc, stored, version, behind, true, out),
         None => out.lose(),
     }
 }

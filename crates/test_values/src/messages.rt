@@ -3,7 +3,7 @@ ghost use Rattle.std.specs.Prelude.{None, Some, length};
 ghost use Rattle.http_wire.specs.Inboxes.{LiesIn};
 
 use crate::chunks;
-use crate::spelling::{bytes_of, cut, spelled};
+use crate::spelling::{bytes_of, cut, spelled_bytes};
 use crate::told::Told;
 use edge_io::{Failed, MemSink, MemSource, Sink, Source};
 use http_wire::{
@@ -69,14 +69,7 @@ fn read(alloc: Global, is_request: bool, text: &str, out: &mut Told) {
 }
 
 fn read_spelled(alloc: Global, is_request: bool, pieces: Pieces, text: &str, out: &mut Told) {
-    match spelled(alloc, text) {
-        Some(text) => read_text(alloc, is_request, pieces, text.as_str(), out),
-        None => out.lose(),
-    }
-}
-
-fn read_text(alloc: Global, is_request: bool, pieces: Pieces, text: &str, out: &mut Told) {
-    match bytes_of(alloc, text) {
+    match spelled_bytes(alloc, text) {
         Some(bytes) => read_in(alloc, is_request, pieces, &bytes, out),
         None => out.lose(),
     }

@@ -75,6 +75,14 @@ pub(crate) fn bytes_of(alloc: Global, text: &str) -> Option<Vec<u8>> {
     }
 }
 
+/// The bytes of the text that is written out so.
+pub(crate) fn spelled_bytes(alloc: Global, short: &str) -> Option<Vec<u8>> {
+    match spelled(alloc, short) {
+        Some(text) => bytes_of(alloc, text.as_str()),
+        None => None,
+    }
+}
+
 fn add_bytes_of(bytes: &mut Vec<u8>, text: &str) -> bool {
     let mut is_control = false;
     for byte in text.as_bytes() {

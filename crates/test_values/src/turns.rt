@@ -1,5 +1,5 @@
 //! Objects that converters turn.
-use crate::spelling::{add_spelled, bytes_of, cut, spelled};
+use crate::spelling::{add_spelled, cut, spelled_bytes};
 use crate::told::Told;
 use api_calls::{OBJECT_LEVELS, Tool};
 use converters::{Converter, RenameConverter, TurnFault};
@@ -59,14 +59,7 @@ fn renamed(alloc: Global, text: &str, out: &mut Told) {
 }
 
 fn add_answer(alloc: Global, answers: &mut Vec<Vec<u8>>, answer: &str) -> bool {
-    match spelled(alloc, answer) {
-        Some(text) => add_bytes(alloc, answers, text.as_str()),
-        None => false,
-    }
-}
-
-fn add_bytes(alloc: Global, answers: &mut Vec<Vec<u8>>, text: &str) -> bool {
-    match bytes_of(alloc, text) {
+    match spelled_bytes(alloc, answer) {
         Some(bytes) => answers.push(bytes).is_ok(),
         None => false,
     }
