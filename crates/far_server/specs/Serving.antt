@@ -7,7 +7,7 @@ use Rattle.api_calls.specs.laws.ItemCode.{logged_code}
 use Rattle.shared_api.specs.Passes.{ApiOf, IsOf, Known}
 use Rattle.shared_api.specs.declared.cell.CoreBase.{CoreBase}
 use Rattle.wire_client.specs.Far.{Server}
-use Rattle.answer_laws.specs.Speaking.{front, speaker}
+use Rattle.far_laws.specs.Speaking.{front, speaker}
 
 pub record FarView (B : Type 0) : Type 0 where
   pub base : B

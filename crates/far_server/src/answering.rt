@@ -3,8 +3,8 @@ ghost use Rattle.std.specs.Prelude.{◌≡◌, ℕ, [], Some, IfErr, IfOk};
 ghost use Rattle.api_calls.specs.Item.{items};
 ghost use Rattle.shared_api.specs.Passes.{IsOf};
 ghost use Rattle.wire_client.specs.Far.{Served};
-ghost use Rattle.upgrade_laws.specs.Answering.{GoesOn};
-ghost use Rattle.answer_laws.specs.Speaking.{IsShort};
+ghost use Rattle.far_laws.specs.Answering.{GoesOn};
+ghost use Rattle.far_laws.specs.Speaking.{IsShort};
 ghost use Rattle.far_server.specs.Serving.{speaker_of};
 
 use api_calls::Versions;

@@ -3,14 +3,14 @@ ghost use Rattle.std.specs.Prelude.{◌≡◌};
 ghost use Rattle.api_calls.specs.Item.{items};
 ghost use Rattle.shared_api.specs.Base.{server_of};
 ghost use Rattle.place.specs.Place.{place_of};
-ghost use Rattle.answer_laws.specs.Speaking.{AreNames};
-ghost use Rattle.backup_laws.specs.Dumped.{IsDumpOf, IsKnown};
+ghost use Rattle.far_laws.specs.Speaking.{AreNames};
+ghost use Rattle.far_laws.specs.Dumped.{IsDumpOf, IsKnown};
 ghost use Rattle.far_server.specs.Ends.{Wrote};
 
 use crate::far::ServerFar;
 use api_calls::Versions;
-use backup_laws::all_dumped;
 use edge_io::Sink;
+use far_laws::all_dumped;
 use record_dump::laws::one_list;
 use record_dump::{DumpEnd, dump};
 use std::alloc::Global;

@@ -3,7 +3,7 @@ ghost use Rattle.std.specs.Prelude.{◌≡◌, None, Some, IfErr, IfOk, IsSome};
 ghost use Rattle.api_calls.specs.Item.{items};
 ghost use Rattle.shared_api.specs.Passes.{IsOf};
 ghost use Rattle.wire_client.specs.Far.{Served};
-ghost use Rattle.upgrade_laws.specs.Answering.{GoesOn};
+ghost use Rattle.far_laws.specs.Answering.{GoesOn};
 ghost use Rattle.far_server.specs.Serving.{speaker_of};
 
 use crate::answering::answer_on;

@@ -3,12 +3,12 @@ ghost use Rattle.std.specs.Prelude.{◌≡◌, IfOk};
 ghost use Rattle.api_calls.specs.Item.{items};
 ghost use Rattle.api_calls.specs.State.{state};
 ghost use Rattle.place.specs.Place.{place_of};
-ghost use Rattle.upgrade_laws.specs.Upgraded.{AreAtStorage, Meanwhile};
-ghost use Rattle.answer_laws.specs.Speaking.{AreNames};
+ghost use Rattle.far_laws.specs.Upgraded.{AreAtStorage, Meanwhile};
+ghost use Rattle.far_laws.specs.Speaking.{AreNames};
 
 use crate::far::ServerFar;
-use answer_laws::all_upgraded;
 use api_calls::Versions;
+use far_laws::all_upgraded;
 use far_migrate::{FarFault, Tally, migrate};
 use std::alloc::Global;
 use std::sync::Wait;

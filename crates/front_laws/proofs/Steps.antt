@@ -15,8 +15,8 @@ use Rattle.http_front.specs.Steps.{Point, StepAnswers, added}
 use Rattle.http_front.specs.declared.one.OneEnd.{OneEnd}
 use Rattle.http_front.specs.declared.one.OneEnd.TheVariants.{Answered, Closed, Last, ReadFault, Refused, Torn, WriteFault}
 use Rattle.wire_client.specs.Far.{Served}
-use Rattle.upgrade_laws.specs.Answering.{all_of}
-use Rattle.answer_laws.specs.Speaking.{IsShort, Speaks, speaker}
+use Rattle.far_laws.specs.Answering.{all_of}
+use Rattle.far_laws.specs.Speaking.{IsShort, Speaks, speaker}
 
 -- ---- whatever the tool's faults
 

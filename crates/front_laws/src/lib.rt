@@ -11,7 +11,7 @@ ghost use Rattle.http_front.specs.Steps.{Point, StepAnswers};
 ghost use Rattle.http_front.specs.declared.one.OneEnd.{OneEnd};
 ghost use Rattle.http_front.specs.declared.one.OneEnd.TheVariants.{Last};
 ghost use Rattle.wire_client.specs.Far.{Served};
-ghost use Rattle.answer_laws.specs.Speaking.{IsShort, front, speaker};
+ghost use Rattle.far_laws.specs.Speaking.{IsShort, front, speaker};
 
 use api_calls::Versions;
 

@@ -9,13 +9,13 @@ use Rattle.request_replies.specs.Replies.{Front}
 use Rattle.place.specs.Place.{Names}
 use Rattle.wire_client.specs.Answers.{Reply}
 use Rattle.wire_client.specs.Calls.{Call}
-use Rattle.upgrade_laws.specs.Answering.{Answered, IsBehind}
-use Rattle.upgrade_laws.proofs.PageForms.{OneReading, TextReads}
-use Rattle.upgrade_laws.proofs.Paging.{IsKnown}
-use Rattle.answer_laws.specs.Speaking.{AreNames, front, speaker}
-use Rattle.answer_laws.proofs.Behind.{is_behind}
-use Rattle.backup_laws.specs.Dumped as dumped
-use Rattle.backup_laws.proofs.Listed.{known_of}
+use Rattle.far_laws.specs.Answering.{Answered, IsBehind}
+use Rattle.far_laws.proofs.PageForms.{OneReading, TextReads}
+use Rattle.far_laws.proofs.Paging.{IsKnown}
+use Rattle.far_laws.specs.Speaking.{AreNames, front, speaker}
+use Rattle.far_laws.proofs.Behind.{is_behind}
+use Rattle.far_laws.specs.Dumped as dumped
+use Rattle.far_laws.proofs.Listed.{known_of}
 use Rattle.tally_laws.specs.Replying.{replying}
 
 speaks : (f : Front) (n : Names) (call : Call) (log own : List Item) (r : Reply) → Answered (replying f) n call log own r → Answered (speaker f) n call log own r

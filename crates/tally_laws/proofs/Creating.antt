@@ -39,7 +39,7 @@ use Rattle.http_routes.specs.Paths.{IsKey, IsResource, Resource}
 use Rattle.http_routes.specs.Routes as route
 use Rattle.http_routes.specs.Routes.{Route, Routes}
 use Rattle.request_replies.specs.Replies.{Front, Replies, RoutedReply}
-use Rattle.upgrade_laws.proofs.Replacing.{Accepts}
+use Rattle.far_laws.proofs.Replacing.{Accepts}
 
 -- what an entry creates has a namespace and a name, and what it stores is so
 abbrev entry_so : (ObjectView → Type 0) → Entry → Type 0

@@ -15,7 +15,7 @@ use Rattle.api_calls.specs.Uid.{uid}
 use Rattle.api_calls.specs.Versions.{Stand, StandsAt}
 use Rattle.api_calls.specs.declared.versions.TheConstants.{OBJECT_LEVELS}
 use Rattle.wire_client.specs.declared.buffer.TheConstants.{ANSWER_LEVELS}
-use Rattle.upgrade_laws.proofs.PageForms.{numbered_depth, numbered_sound}
+use Rattle.far_laws.proofs.PageForms.{numbered_depth, numbered_sound}
 use Rattle.tally_laws.proofs.Holding.{IsHeld}
 
 -- a sound value within the levels of an object

@@ -29,14 +29,14 @@ use Rattle.far_migrate.specs.Pages as pages
 use Rattle.far_migrate.specs.Pages.{Run, Runs, Step, Stop, at_first, first_limit, goes_on, objects_of, most_objects}
 use Rattle.far_migrate.specs.Puts as puts_of
 use Rattle.far_migrate.specs.Puts.{Handled, Outcome, PutBack, PutsBack, all, failed, fault, key_of, kind, most_puts}
-use Rattle.upgrade_laws.specs.Answering.{Answered, GoesOn}
-use Rattle.upgrade_laws.proofs.Histories.{chain_on, goes_further, goes_nowhere, legal_before, split, turned, IsAnswered, answered_at}
-use Rattle.upgrade_laws.proofs.Keyed.{given_valid}
-use Rattle.upgrade_laws.proofs.Paging.{Cut, IsKnown, ReadsAs, first_reads, front_of, next_reads, whole}
-use Rattle.upgrade_laws.proofs.Values.{each_back, each_front}
-use Rattle.answer_laws.specs.Speaking.{front}
+use Rattle.far_laws.specs.Answering.{Answered, GoesOn}
+use Rattle.far_laws.proofs.Histories.{chain_on, goes_further, goes_nowhere, legal_before, split, turned, IsAnswered, answered_at}
+use Rattle.far_laws.proofs.Keyed.{given_valid}
+use Rattle.far_laws.proofs.Paging.{Cut, IsKnown, ReadsAs, first_reads, front_of, next_reads, whole}
+use Rattle.far_laws.proofs.Values.{each_back, each_front}
+use Rattle.far_laws.specs.Speaking.{front}
 use Rattle.form_laws.specs.TakenBack.{TakesBack}
-use Rattle.value_laws.proofs.Shown.{AreForms, IsFormOf, all_later, get_form, later, page_forms}
+use Rattle.far_laws.proofs.Shown.{AreForms, IsFormOf, all_later, get_form, later, page_forms}
 use Rattle.tally_laws.specs.Ending.{MayEnd, MayFail}
 use Rattle.tally_laws.specs.Reached.{IsAt, begun, within}
 use Rattle.tally_laws.specs.Replying.{IsUnserved, MayReply, replying}

@@ -26,10 +26,10 @@ use Rattle.far_migrate.specs.Pages as pages
 use Rattle.far_migrate.specs.Pages.{Run, Step, after_page, at_first, first_limit, goes_on, goes_on_from, is_behind, is_empty, last_key, most_objects, objects_of, rise_behind, token_of, with_objects}
 use Rattle.far_migrate.specs.Puts as puts_of
 use Rattle.far_migrate.specs.Puts.{Handled, PutsBack, all, key_of}
-use Rattle.upgrade_laws.specs.Answering.{Answered, GoesOn}
-use Rattle.upgrade_laws.proofs.Histories.{answered_at, chain_on, ended, goes_further, legal_before, not_empty, split, turned}
-use Rattle.upgrade_laws.proofs.Paging.{Cut, IsKnown, ReadsAs, first_reads, front_of, next_reads, whole}
-use Rattle.upgrade_laws.proofs.Values.{each_front}
+use Rattle.far_laws.specs.Answering.{Answered, GoesOn}
+use Rattle.far_laws.proofs.Histories.{answered_at, chain_on, ended, goes_further, legal_before, not_empty, split, turned}
+use Rattle.far_laws.proofs.Paging.{Cut, IsKnown, ReadsAs, first_reads, front_of, next_reads, whole}
+use Rattle.far_laws.proofs.Values.{each_front}
 use Rattle.tally_laws.specs.Reached.{IsAt, IsBegun, IsWithin, Reaches, begun, here, step, within}
 
 -- ---- keys that rise

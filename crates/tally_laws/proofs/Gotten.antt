@@ -30,13 +30,13 @@ use Rattle.place.specs.Place.{Names}
 use Rattle.wire_client.specs.Answers.{Reply, code, given, gone}
 use Rattle.wire_client.specs.Calls.{at_key, gets}
 use Rattle.wire_client.specs.Forms.{api_version, object_fault, this_one}
-use Rattle.upgrade_laws.specs.Answering.{Answered, GoesOn}
-use Rattle.upgrade_laws.proofs.Decided.{get_request, replies as reply_of}
-use Rattle.upgrade_laws.proofs.Paging.{IsKnown}
-use Rattle.upgrade_laws.proofs.Values.{find_key}
-use Rattle.answer_laws.specs.Speaking.{front}
-use Rattle.answer_laws.proofs.Asked.{IsAddressed}
-use Rattle.answer_laws.proofs.Objects.{object_gets}
+use Rattle.far_laws.specs.Answering.{Answered, GoesOn}
+use Rattle.far_laws.proofs.Decided.{get_request, replies as reply_of}
+use Rattle.far_laws.proofs.Paging.{IsKnown}
+use Rattle.far_laws.proofs.Values.{find_key}
+use Rattle.far_laws.specs.Speaking.{front}
+use Rattle.far_laws.proofs.Asked.{IsAddressed}
+use Rattle.far_laws.proofs.Objects.{object_gets}
 use Rattle.tally_laws.specs.Replying.{MayReply, replying}
 use Rattle.tally_laws.proofs.Documents.{object_fit}
 use Rattle.tally_laws.proofs.Formed.{object_form}

@@ -23,11 +23,11 @@ use Rattle.api_calls.proofs.Tokens.{name_fits, namespace_fits}
 use Rattle.http_routes.specs.Paths.{IsKey}
 use Rattle.place.specs.Place.{Names}
 use Rattle.form_laws.specs.TakenBack.{IsLight}
-use Rattle.upgrade_laws.specs.Answering.{GoesOn}
-use Rattle.upgrade_laws.proofs.Histories.{few_before, legal_before}
-use Rattle.upgrade_laws.proofs.Paging.{IsKnown}
-use Rattle.upgrade_laws.proofs.Values.{find_key}
-use Rattle.answer_laws.specs.Speaking.{AreNames, front}
+use Rattle.far_laws.specs.Answering.{GoesOn}
+use Rattle.far_laws.proofs.Histories.{few_before, legal_before}
+use Rattle.far_laws.proofs.Paging.{IsKnown}
+use Rattle.far_laws.proofs.Values.{find_key}
+use Rattle.far_laws.specs.Speaking.{AreNames, front}
 use Rattle.tally_laws.specs.Light.{EntersLight, HasShortKind}
 use Rattle.tally_laws.specs.Placed.{IsNamed}
 use Rattle.tally_laws.specs.Replying.{CreatesNamed, IsPlaceOf, replying}

@@ -2,7 +2,7 @@
 use Rattle.tally_laws.proofs.Sizes.{shown_few}
 use Rattle.tally_laws.proofs.RefusalSizes.{expired_few, memory_few, unserved_few}
 use Rattle.tally_laws.proofs.PageSizes.{IsOneFew, floor_few, page_few}
-use Rattle.upgrade_laws.proofs.Keyed.{valid_token}
+use Rattle.far_laws.proofs.Keyed.{valid_token}
 use Rattle.http_wire.specs.declared.limits.TheConstants.{MOST_BODY_BYTES}
 use Rattle.kube_meta.specs.View.{ObjectView}
 use Rattle.api_calls.proofs.Tokens.{name_fits, namespace_fits}
@@ -42,14 +42,14 @@ use Rattle.wire_client.specs.Answers.{Reply, code, given}
 use Rattle.wire_client.specs.Calls.{lists, target_of}
 use Rattle.wire_client.specs.Forms.{api_version, page_fault}
 use Rattle.far_migrate.specs.Pages.{Run, first_limit, objects_of}
-use Rattle.upgrade_laws.specs.Answering.{Answered, GoesOn, IsTold}
-use Rattle.upgrade_laws.proofs.Decided.{IsRequest, replies as reply_of}
-use Rattle.upgrade_laws.proofs.Histories.{few_before, few_entries, first_from, goes_further, goes_nowhere, next_from, small_before}
-use Rattle.upgrade_laws.proofs.Listing.{snap_later}
-use Rattle.upgrade_laws.proofs.Paging.{IsKnown}
-use Rattle.answer_laws.specs.Speaking.{AreNames, front}
-use Rattle.answer_laws.proofs.Asked.{IsAddressed}
-use Rattle.answer_laws.proofs.Lists.{list_gets, small_token}
+use Rattle.far_laws.specs.Answering.{Answered, GoesOn, IsTold}
+use Rattle.far_laws.proofs.Decided.{IsRequest, replies as reply_of}
+use Rattle.far_laws.proofs.Histories.{few_before, few_entries, first_from, goes_further, goes_nowhere, next_from, small_before}
+use Rattle.far_laws.proofs.Listing.{snap_later}
+use Rattle.far_laws.proofs.Paging.{IsKnown}
+use Rattle.far_laws.specs.Speaking.{AreNames, front}
+use Rattle.far_laws.proofs.Asked.{IsAddressed}
+use Rattle.far_laws.proofs.Lists.{list_gets, small_token}
 use Rattle.tally_laws.specs.Reached.{IsAt, IsWithin, begun, within}
 use Rattle.tally_laws.specs.Replying.{IsPlaceOf, MayReply, replying}
 use Rattle.tally_laws.proofs.Documents.{page_readable}

@@ -9,7 +9,7 @@ use Rattle.api_calls.specs.Refusal.{not_found}
 use Rattle.api_calls.specs.Status.{details, message_of, reason_of, status, status_of}
 use Rattle.wire_client.specs.Answers.{IsValue, has_details}
 use Rattle.wire_client.specs.declared.buffer.TheConstants.{ANSWER_LEVELS}
-use Rattle.upgrade_laws.proofs.PageForms.{OneReading, TextReads}
+use Rattle.far_laws.proofs.PageForms.{OneReading, TextReads}
 use Rattle.tally_laws.proofs.Said.{value_is}
 
 fits : FitsSigned w64 (pos 404)

@@ -5,7 +5,7 @@ use Rattle.api_calls.specs.Item.{Item}
 use Rattle.api_calls.specs.Meaning.{Meaning}
 use Rattle.api_calls.specs.Versions.{IgnoresStamps, IsOneToOne, KeepsKey, Stand}
 use Rattle.place.specs.Place.{Names}
-use Rattle.upgrade_laws.proofs.PageForms.{OneReading, TextReads}
+use Rattle.far_laws.proofs.PageForms.{OneReading, TextReads}
 use Rattle.tally_laws.specs.Ending.{IsOpen}
 use Rattle.tally_laws.specs.Light.{HasShortKind}
 use Rattle.tally_laws.proofs.Behind.{known_to_reply}

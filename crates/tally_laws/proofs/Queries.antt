@@ -24,7 +24,7 @@ use Rattle.http_routes.specs.Queries.{GoesOn, HasNoToken, ListReads, Pairs, bad,
 use Rattle.http_routes.specs.Actions.{Paging}
 use Rattle.wire_client.specs.Calls.{token_query}
 use Rattle.wire_laws.proofs.Digits.{all_digits}
-use Rattle.upgrade_laws.specs.Answering.{IsTold}
+use Rattle.far_laws.specs.Answering.{IsTold}
 
 -- ---- tests of each byte
 

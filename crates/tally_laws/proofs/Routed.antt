@@ -21,11 +21,11 @@ use Rattle.http_routes.specs.Routes as route
 use Rattle.http_routes.specs.Routes.{IsPlain, Route, Routes, path_in, query_in, question_mark}
 use Rattle.place.specs.Place.{Names}
 use Rattle.wire_client.specs.Calls.{at_key, limit_query, lists, target_of, token_query, version_path}
-use Rattle.upgrade_laws.specs.Answering.{IsTold}
-use Rattle.answer_laws.specs.Speaking.{AreNames}
-use Rattle.answer_laws.proofs.Lists.{small_token}
-use Rattle.answer_laws.proofs.Objects.{object_segments}
-use Rattle.answer_laws.proofs.Segments.{name_of_names, namespace_of_names, plain_names, query_mark, query_slash, segments_mark, segments_slash}
+use Rattle.far_laws.specs.Answering.{IsTold}
+use Rattle.far_laws.specs.Speaking.{AreNames}
+use Rattle.far_laws.proofs.Lists.{small_token}
+use Rattle.far_laws.proofs.Objects.{object_segments}
+use Rattle.far_laws.proofs.Segments.{name_of_names, namespace_of_names, plain_names, query_mark, query_slash, segments_mark, segments_slash}
 use Rattle.tally_laws.specs.Replying.{IsPlaceOf}
 use Rattle.tally_laws.proofs.Queries.{is_paged, none_refused, not_bad}
 

@@ -22,9 +22,9 @@ use Rattle.wire_client.specs.Answers.{Answer, IsAnswer, IsOtherFault, IsValue, R
 use Rattle.wire_client.specs.Calls.{Call}
 use Rattle.wire_client.specs.Forms.{Path, api_version}
 use Rattle.wire_client.specs.declared.buffer.TheConstants.{ANSWER_LEVELS}
-use Rattle.upgrade_laws.proofs.PageForms.{OneReading, TextReads}
-use Rattle.answer_laws.specs.Speaking.{IsShort}
-use Rattle.answer_laws.proofs.Received.{received_is}
+use Rattle.far_laws.proofs.PageForms.{OneReading, TextReads}
+use Rattle.far_laws.specs.Speaking.{IsShort}
+use Rattle.far_laws.proofs.Received.{received_is}
 
 -- ---- why no response comes
 

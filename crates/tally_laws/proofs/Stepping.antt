@@ -13,8 +13,8 @@ use Rattle.http_front.specs.Steps.{Point, StepAnswers, added}
 use Rattle.http_front.specs.declared.one.OneEnd.TheVariants.{Last}
 use Rattle.http_front.proofs.Failures.{step_502}
 use Rattle.wire_client.specs.Far.{Served}
-use Rattle.upgrade_laws.specs.Answering.{all_of}
-use Rattle.answer_laws.specs.Speaking.{AnswersIt, IsShort}
+use Rattle.far_laws.specs.Answering.{all_of}
+use Rattle.far_laws.specs.Speaking.{AnswersIt, IsShort}
 use Rattle.tally_laws.specs.Replying.{replying}
 
 -- ---- what holds whatever the tool's faults

@@ -25,12 +25,12 @@ use Rattle.wire_client.specs.Answers.{Reply, code, form_fault, given, gone, succ
 use Rattle.wire_client.specs.Calls.{Call, body_of, method_of, request_of, target_of}
 use Rattle.wire_client.specs.Forms.{api_version}
 use Rattle.wire_client.specs.declared.buffer.TheConstants.{ANSWER_LEVELS}
-use Rattle.upgrade_laws.specs.Answering.{Answered}
-use Rattle.upgrade_laws.proofs.Decided.{IsRequest, decides_or}
-use Rattle.upgrade_laws.proofs.PageForms.{OneReading, TextReads}
-use Rattle.answer_laws.specs.Speaking.{AnswersIt}
-use Rattle.answer_laws.proofs.Asked.{IsAddressed, asked_is}
-use Rattle.answer_laws.proofs.Statuses.{no_details, refusal_not_ok, refusal_phrase}
+use Rattle.far_laws.specs.Answering.{Answered}
+use Rattle.far_laws.proofs.Decided.{IsRequest, decides_or}
+use Rattle.far_laws.proofs.PageForms.{OneReading, TextReads}
+use Rattle.far_laws.specs.Speaking.{AnswersIt}
+use Rattle.far_laws.proofs.Asked.{IsAddressed, asked_is}
+use Rattle.far_laws.proofs.Statuses.{no_details, refusal_not_ok, refusal_phrase}
 use Rattle.tally_laws.specs.Replying.{replying}
 use Rattle.tally_laws.proofs.Missing.{missing_details}
 use Rattle.tally_laws.proofs.Said.{TooMuch, said_code, said_given, said_gone, said_unfound}

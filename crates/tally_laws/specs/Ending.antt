@@ -10,9 +10,9 @@ use Rattle.far_migrate.specs.Puts.{Handled, all, failed}
 use Rattle.far_migrate.specs.declared.tally.Tally.{Tally}
 use Rattle.far_migrate.specs.declared.tally.FarFault.{FarFault}
 use Rattle.far_migrate.specs.declared.tally.FarFault.TheVariants as faults
-use Rattle.upgrade_laws.specs.Answering.{GoesOn}
-use Rattle.answer_laws.specs.Speaking.{AreNames}
-use Rattle.backup_laws.specs.Dumped.{IsKnown}
+use Rattle.far_laws.specs.Answering.{GoesOn}
+use Rattle.far_laws.specs.Speaking.{AreNames}
+use Rattle.far_laws.specs.Dumped.{IsKnown}
 use Rattle.tally_laws.specs.Light.{EntersLight}
 use Rattle.tally_laws.specs.Replying.{CreatesNamed, IsPlaceOf, IsUnserved}
 

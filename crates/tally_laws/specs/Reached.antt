@@ -8,7 +8,7 @@ use Rattle.api_calls.specs.State.{revision, state}
 use Rattle.api_calls.specs.Token.{IsToken, token_text}
 use Rattle.place.specs.Place.{Names}
 use Rattle.far_migrate.specs.Pages.{Run, Step, first_limit}
-use Rattle.upgrade_laws.specs.Answering.{GoesOn}
+use Rattle.far_laws.specs.Answering.{GoesOn}
 
 -- from the one run these exchanges lead to the other, page by page
 pub data Reaches (n : Names) : Run → List Exchange → Run → Type 0 where

@@ -10,7 +10,7 @@ use Rattle.request_replies.specs.Replies.{Front}
 use Rattle.wire_client.specs.Answers.{Reply, broken, code, given, gone, long, shape}
 use Rattle.wire_client.specs.Calls.{Call, gets, lists, posts, puts}
 use Rattle.wire_client.specs.Far.{Server}
-use Rattle.answer_laws.specs.Speaking.{AnswersIt}
+use Rattle.far_laws.specs.Speaking.{AnswersIt}
 
 -- ---- what is known of the server
 

@@ -12,7 +12,7 @@ use Rattle.api_calls.specs.Objects.{Stored, find}
 use Rattle.api_calls.specs.State.{state}
 use Rattle.http_routes.specs.Actions.{IsVersion}
 use Rattle.place.specs.Place.{Names}
-use Rattle.upgrade_laws.specs.Answering.{GoesOn}
+use Rattle.far_laws.specs.Answering.{GoesOn}
 
 -- the document was shown, at the version that the place names, of the object of that key at a history before
 pub record WasShown (m : Meaning) (boot : ℕ) (n : Names) (log : List Item) (key : KeyView) (j : Json) : Type 0 where

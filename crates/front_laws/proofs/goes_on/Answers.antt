@@ -1,4 +1,4 @@
-use Rattle.answer_laws.specs.Speaking.{front}
+use Rattle.far_laws.specs.Speaking.{front}
 use Rattle.front_laws.proofs.Steps.{goes_on}
 use Rattle.front_laws.proofs.goes_on.Goals as goal
 

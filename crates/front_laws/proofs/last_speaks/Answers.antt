@@ -1,4 +1,4 @@
-use Rattle.answer_laws.specs.Speaking.{front}
+use Rattle.far_laws.specs.Speaking.{front}
 use Rattle.front_laws.proofs.Steps.{last_speaks, served_untold}
 use Rattle.front_laws.proofs.last_speaks.Goals as goal
 

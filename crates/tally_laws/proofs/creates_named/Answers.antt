@@ -1,6 +1,6 @@
 use Rattle.std.proofs.Common.{Some}
 use Rattle.api_calls.specs.Item.{Create, Delete, Item, Mark, MarkSucceeded, Release, Replace, SetVersions, StartMigration, Touch, Trim, entry, note}
-use Rattle.answer_laws.specs.Speaking.{front}
+use Rattle.far_laws.specs.Speaking.{front}
 use Rattle.tally_laws.specs.Replying.{CreatesNamed}
 use Rattle.tally_laws.proofs.Creating.{IsSo, replies_so}
 use Rattle.tally_laws.proofs.creates_named.Goals as goal

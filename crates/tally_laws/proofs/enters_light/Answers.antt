@@ -8,7 +8,7 @@ use Rattle.crd_laws.specs.DefinitionLaws.{admits_whole, stand, unstamped}
 use Rattle.crd_laws.specs.Loaded.{loaded_meaning}
 use Rattle.crd_settings.specs.SettledLaws.{settings_of}
 use Rattle.form_laws.specs.TakenBack.{IsLight}
-use Rattle.answer_laws.specs.Speaking.{front}
+use Rattle.far_laws.specs.Speaking.{front}
 use Rattle.tally_laws.specs.Light.{EntersLight}
 use Rattle.tally_laws.proofs.Creating.{IsSo, replies_so}
 use Rattle.tally_laws.proofs.enters_light.Goals as goal

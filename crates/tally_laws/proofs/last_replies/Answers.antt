@@ -1,4 +1,4 @@
-use Rattle.answer_laws.specs.Speaking.{front}
+use Rattle.far_laws.specs.Speaking.{front}
 use Rattle.tally_laws.proofs.Stepping.{last_replies}
 use Rattle.tally_laws.proofs.last_replies.Goals as goal
 

@@ -1,5 +1,5 @@
 use Rattle.std.proofs.Common.{◌∙◌, sym}
-use Rattle.backup_laws.proofs.Listed.{known_of}
+use Rattle.far_laws.proofs.Listed.{known_of}
 use Rattle.tally_laws.proofs.Going.{page_on, reached_at}
 use Rattle.tally_laws.proofs.pages_go_on.Goals as goal
 

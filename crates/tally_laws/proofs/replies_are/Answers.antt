@@ -1,5 +1,5 @@
 use Rattle.std.proofs.Common.{◌∙◌, refl, sym}
-use Rattle.upgrade_laws.proofs.Histories.{goes_further}
+use Rattle.far_laws.proofs.Histories.{goes_further}
 use Rattle.tally_laws.proofs.Gotten.{get_law}
 use Rattle.tally_laws.proofs.Listed.{list_law, placed_at, small_at}
 use Rattle.tally_laws.proofs.Open.{facts_of}

@@ -1,9 +1,0 @@
-use Rattle.std.proofs.Common.{◌∙◌, sym}
-use Rattle.restore_laws.proofs.Again.{all_restored}
-use Rattle.restore_laws.proofs.all_restored.Goals as goal
-
-pub returns : goal.returns
-returns g c = λ it n names honest gives source boot before after written lines is_legal dump limits start told first last none r.
-    let known = sym (g.met.V.Versions.told it) ∙ honest in
-    all_restored (g.V.Versions.meaning it) n honest (g.met.V.Versions.stand it) (g.met.V.Versions.same_key it known) (g.met.V.Versions.names it) (g.met.V.Versions.unstamped it) c.text_reads.ensures
-    c.one_reading.ensures names gives source boot before after written lines is_legal dump limits start told first last none r

@@ -1,5 +1,0 @@
-use Rattle.restore_laws.proofs.Bare.{dumped_document}
-use Rattle.restore_laws.proofs.dumped_bare.Goals as goal
-
-pub returns : goal.returns
-returns g = λ x body. dumped_document x body.metadata
