@@ -9,3 +9,4 @@ pub mod MigrateLaws
 pub mod DumpLaws
 pub mod LoadLaws
 pub mod ConverterLaws
+pub mod Moving

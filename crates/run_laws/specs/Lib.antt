@@ -1,3 +1,4 @@
 pub mod Ran
 pub mod Backups
 pub mod Converting
+pub mod Moves

@@ -23,7 +23,7 @@ use Rattle.api_calls.proofs.Standing.{succeeded-all}
 use Rattle.serve_spans.specs.Owners.{At, IsOfWorker, IsWork, IsWorkIf, Within}
 use Rattle.serve_spans.specs.Spans.{Span}
 use Rattle.serve_input.specs.Conversed.{At as Place, TakesTurn, turn_at}
-use Rattle.serve_laws.specs.Moves.{AreMoved, MovesNumbers}
+use Rattle.run_laws.specs.Moves.{AreMoved, MovesNumbers}
 
 unmoved : (k : Option KeyView) (es : List Stored) → AreMoved k es es
 unmoved k [] = tt

@@ -1,7 +1,7 @@
 use Rattle.kube_meta.specs.declared.limits.TheConstants.Limits.{STANDING}
 use Rattle.kubeconv_cmd.specs.Serving.{served_meaning}
-use Rattle.serve_laws.proofs.Moving.{stands-in}
-use Rattle.serve_laws.proofs.pipe_stands_at_the_target.Goals as goal
+use Rattle.run_laws.proofs.Moving.{stands-in}
+use Rattle.run_laws.proofs.lists.pipe_stands_at_the_target.Goals as goal
 
 pub returns : goal.returns
 returns g = λ crd rules turns start input w0 written end c before after later is.

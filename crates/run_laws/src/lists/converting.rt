@@ -11,7 +11,7 @@ ghost use Rattle.serve_spans.specs.Owners.{At as StandsAt, Within};
 ghost use Rattle.kubeconv_cmd.specs.Converting.{ConversesBy, ServesAllBy, converted_meaning};
 ghost use Rattle.serve_input.specs.Conversed.{At, Start, TakesTurn, front_of};
 ghost use Rattle.serve_input.specs.declared.conversing.PipeEnd.{PipeEnd};
-ghost use Rattle.serve_laws.specs.Moves.{MovesNumbers};
+ghost use Rattle.run_laws.specs.Moves.{MovesNumbers};
 
 /// What is entered beside the connections of a line of `serve` moves the resource version of one object at most, with the version at which
 /// it is stored.

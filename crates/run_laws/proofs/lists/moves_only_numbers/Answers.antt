@@ -1,7 +1,7 @@
 use Rattle.std.proofs.Common.{Some}
 use Rattle.kubeconv_cmd.specs.Serving.{served_meaning}
-use Rattle.serve_laws.proofs.Moving.{moves-in}
-use Rattle.serve_laws.proofs.moves_only_numbers.Goals as goal
+use Rattle.run_laws.proofs.Moving.{moves-in}
+use Rattle.run_laws.proofs.lists.moves_only_numbers.Goals as goal
 
 pub returns : goal.returns
 returns g = λ crd rules start asked count h0 handed g0 given s before after x is outside.

@@ -3,7 +3,6 @@
 //! version changes.
 //!
 //! Each law is the contract of a function that does nothing. It knows nothing of how connections are served.
-#![tactic(auto)]
 
 ghost use Rattle.std.specs.Prelude.{◌≡◌, ◌∷◌, ◌++◌, [], List, Option, Some, ℕ, length};
 ghost use Rattle.kube_meta.specs.Plan.{Migration, running};
@@ -18,7 +17,7 @@ ghost use Rattle.kubeconv_cmd.specs.Beside.{ServesAll};
 ghost use Rattle.serve_input.specs.Conversed.{At, Start, TakesTurn, front_of};
 ghost use Rattle.kubeconv_cmd.specs.Serving.{Converses, served_meaning};
 ghost use Rattle.serve_input.specs.declared.conversing.PipeEnd.{PipeEnd};
-ghost use Rattle.serve_laws.specs.Moves.{MovesNumbers};
+ghost use Rattle.run_laws.specs.Moves.{MovesNumbers};
 
 pub mod converting;
 
