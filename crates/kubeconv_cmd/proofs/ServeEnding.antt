@@ -63,6 +63,10 @@ answered_from {V} faults meaning base start v asked idle count h0 handed g0 give
   owned = λ i x at. (all.alone (first_alone base (opening_view base) refl)).1 i x at (omega arith);
 }
 
+-- a base with the limits of a server that stands
+pub standing_base : {V : Type 0} (base : CoreBase V) → base.limits ≡ STANDING → base ≡ record { versions = base.versions; limits = STANDING; boot = base.boot }
+standing_base base is = ap (λ (l : Limits). record { versions = base.versions; limits = l; boot = base.boot }) is
+
 pub answered_all : {V A : Type 0} (faults : A → ℕ) (meaning : V → Meaning) (base : CoreBase V) (versions : V) (start : Start) (v0 v : View (CoreBase V)) (asked idle count : ℕ)
     (h0 heard handed : Option (List Origin)) (g0 taken given : Option (List Ending))
     → base ≡ record { versions = versions; limits = STANDING; boot = start.boot } → v0 ≡ opening_view base → heard ≡ h0 → taken ≡ g0

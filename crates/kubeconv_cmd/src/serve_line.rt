@@ -3,6 +3,9 @@ ghost use Rattle.std.specs.Prelude.{◌≡◌, ◌<◌, ◌≤◌, ◌⊎◌, �
 ghost use Rattle.std.specs.Io.KnownBytes.{append_known};
 ghost use Rattle.edge_io.specs.Causes.{HasCause, Rose};
 ghost use Rattle.edge_io.specs.Sends.{Sends};
+ghost use Rattle.kube_meta.specs.declared.limits.TheConstants.Limits.{STANDING};
+ghost use Rattle.turn_cell.specs.Views.{opening_view};
+ghost use Rattle.shared_api.specs.Passes.{IsOf};
 ghost use Rattle.crd_loading.specs.Load.{Loads};
 ghost use Rattle.crd_loading.specs.View.{LoadedView};
 ghost use Rattle.crd_loading.specs.Set.{set_of};
@@ -20,7 +23,7 @@ use crd_versions::VersionSet;
 use edge_io::{Clock, Ears, Failed, Sink, send};
 use kube_meta::Limits;
 use serve_many::{ServeEnd, serve_all};
-use shared_api::SharedApi;
+use shared_api::{Pass, SharedApi};
 use std::alloc::Global;
 use std::sync::Wait;
 use std::thread::Threads;
@@ -76,6 +79,68 @@ fn listen_at<K: Sink, A: Ears + Place>(
     }
 }
 
+// Listens at a place, and answers connections there by a server to which nothing has happened.
+fn serve_opened<
+    V: Versions + Drop + Send + Sync,
+    M: Tools<V::Tool>,
+    R: Threads + Wait + time::Clock + Sync,
+    K: Sink,
+    A: Ears + Place + Send,
+    C: Clock + Sync,
+>(
+    rt: &R,
+    alloc: Global,
+    api: &SharedApi<V>,
+    pass: &mut Pass<V>,
+    tools: &mut M,
+    place: &str,
+    workers: u64,
+    connections: Option<u64>,
+    output: &mut K,
+    ears: &mut A,
+    clock: &C,
+) -> Result<(), Unserved>
+where
+    V::Tool: Send,
+    requires of { IsOf V.meaning api.now pass.old }
+    requires new { pass.old.view ≡ opening_view api.now.base }
+    requires limits { api.now.base.limits ≡ STANDING }
+    requires workers { workers ≤ 15 }
+    ensures done { OnOk result ((count : ℕ) × (connections ≡ Some count)
+        × AnsweredAll V.Tool.faults (V.meaning api.now.base.versions) (record { boot = api.now.base.boot; told = C.told clock.now }) workers count (A.origins ears.old) (A.origins ears.new) (A.returned ears.old) (A.returned ears.new)) }
+    ensures place { NamesPlace (A.is_told place.now) (K.written output.old) (K.written output.new) }
+    ensures told { OnOk result (Announced (K.written output.old) (K.written output.new) (K.flushed output.new)) }
+    ensures silent { IfErr result (Silent (K.written output.new ≡ K.written output.old) (ToldSome (K.written output.old) (K.written output.new)) (Told (K.written output.old) (K.written output.new))) }
+    ensures unheard { IfErr result (OnUnheard (Rose (A.faults ears.old) (A.faults ears.new)
+        × (((A.origins ears.new ≡ A.origins ears.old) × (A.returned ears.new ≡ A.returned ears.old))
+        ⊎ ((count : ℕ) × IfSome connections (λ n. count < n)
+        × AnsweredAll V.Tool.faults (V.meaning api.now.base.versions) (record { boot = api.now.base.boot; told = C.told clock.now }) workers count (A.origins ears.old) (A.origins ears.new) (A.returned ears.old) (A.returned ears.new)
+        × Announced (K.written output.old) (K.written output.new) (K.flushed output.new))))) }
+    ensures untold { IfErr result (OnUntold (Rose (K.faults output.old) (K.faults output.new))) }
+    ensures untouched { IfErr result (UnlessUnheard ((A.origins ears.new ≡ A.origins ears.old) × (A.returned ears.new ≡ A.returned ears.old))) }
+{
+    match listen_at(alloc, place, output, ears) {
+        Ok(()) => {}
+        Err(why) => return Err(why),
+    }
+    let served = serve_all(
+        rt,
+        alloc,
+        api,
+        pass,
+        tools,
+        ears,
+        clock,
+        workers,
+        connections,
+    );
+    match served.end {
+        ServeEnd::Done => Ok(()),
+        ServeEnd::EarsFault => Err(Unserved::NotListening),
+        ServeEnd::NoMemory => Err(Unserved::NoMemory),
+    }
+}
+
 /// Answers connections by a definition, from a server that begins with nothing entered. Each pass has a tool of its own.
 pub(crate) fn serve_connections<
     V: Versions + Drop + Send + Sync,
@@ -119,26 +184,19 @@ where
     let Ok((api, mut pass)) = SharedApi::open(alloc, versions, tool, Limits::STANDING, boot) else {
         return Err(Unserved::NoMemory);
     };
-    match listen_at(alloc, place, output, ears) {
-        Ok(()) => {}
-        Err(why) => return Err(why),
-    }
-    let served = serve_all(
+    serve_opened(
         rt,
         alloc,
         &api,
         &mut pass,
         tools,
-        ears,
-        clock,
+        place,
         workers,
         connections,
-    );
-    match served.end {
-        ServeEnd::Done => Ok(()),
-        ServeEnd::EarsFault => Err(Unserved::NotListening),
-        ServeEnd::NoMemory => Err(Unserved::NoMemory),
-    }
+        output,
+        ears,
+        clock,
+    )
 }
 
 /// Answers connections by a loaded definition.

@@ -1,26 +1,28 @@
-use Rattle.std.proofs.Common.{inr}
-use Rattle.serve_input.proofs.Opened.{first_number}
-use Rattle.kubeconv_cmd.proofs.ServeEnding.{answered_all, fault_rose, rose_since, served_done, served_fewer}
+use Rattle.std.proofs.Common.{◌≡◌, ◌⊎◌, ◌<◌, ℕ, Some, ap, subst}
+use Rattle.std.specs.Prelude.{IfErr, IfSome, OnOk}
+use Rattle.edge_io.specs.Causes.{Rose}
+use Rattle.shared_api.specs.declared.cell.CoreBase.{CoreBase}
+use Rattle.kubeconv_cmd.specs.Beside.{AnsweredAll}
+use Rattle.kubeconv_cmd.specs.Listening.{Announced}
+use Rattle.kubeconv_cmd.specs.inner.Served.{OnUnheard}
 use Rattle.kubeconv_cmd.proofs.serve_line.serve_connections.Goals as goal
 
-pub returns-in-Done-clause-done : goal.returns-in-Done-clause-done
-returns-in-Done-clause-done g c =
-    let all = served_done _ _ _ _ c.in-Done.is c.serve_all-served.ensures.served 0 (first_number _ _ c.in-Ok-open.ensures.new) in (
-      all.0,
-      all.1,
-      answered_all g.V.Tool.Tool.faults g.V.Versions.meaning c.in-Ok-open.api.base c.args.versions (record { boot = c.args.boot; told = g.C.Clock.told c.args.clock.now }) _ _ c.args.workers _ all.0 _ _ _ _ _ _
-          c.in-Ok-open.ensures.base c.in-Ok-open.ensures.new c.listen_at.ensures.origins c.listen_at.ensures.returned c.serve_all-served.ensures.of.legal all.2,
-    )
+pub serve_opened-requires-clause-limits : goal.serve_opened-requires-clause-limits
+serve_opened-requires-clause-limits g c κs within = ap (λ (b : CoreBase g.row.V.Denot). b.limits) c.in-Ok-open.ensures.base
 
-pub returns-in-EarsFault-clause-unheard : goal.returns-in-EarsFault-clause-unheard
-returns-in-EarsFault-clause-unheard g c =
-    let all = served_fewer _ _ _ _ c.in-EarsFault.is c.serve_all-served.ensures.served 0 (first_number _ _ c.in-Ok-open.ensures.new) in (
-      rose_since _ _ _ c.listen_at.ensures.later (fault_rose _ _ _ c.in-EarsFault.is c.serve_all-served.ensures.blames),
-      inr (
-        all.0,
-        all.1,
-        answered_all g.V.Tool.Tool.faults g.V.Versions.meaning c.in-Ok-open.api.base c.args.versions (record { boot = c.args.boot; told = g.C.Clock.told c.args.clock.now }) _ _ c.args.workers _ all.0 _ _ _ _ _ _
-            c.in-Ok-open.ensures.base c.in-Ok-open.ensures.new c.listen_at.ensures.origins c.listen_at.ensures.returned c.serve_all-served.ensures.of.legal all.2,
-        c.in-Ok-listen_at.ensures.told,
-      ),
-    )
+pub returns-clause-done : goal.returns-clause-done
+returns-clause-done g c =
+    subst (λ (b : CoreBase g.row.V.Denot). OnOk c.serve_opened.result ((count : ℕ) × (c.args.connections ≡ Some count)
+    × AnsweredAll g.V.Tool.Tool.faults (g.V.Versions.meaning b.versions) (record { boot = b.boot; told = g.C.Clock.told c.args.clock.now }) c.args.workers count
+    (g.A.Ears.origins c.args.ears.now) (g.A.Ears.origins c.serve_opened.new.ears) (g.A.Ears.returned c.args.ears.now) (g.A.Ears.returned c.serve_opened.new.ears)))
+    c.in-Ok-open.ensures.base c.serve_opened.ensures.done
+
+pub returns-clause-unheard : goal.returns-clause-unheard
+returns-clause-unheard g c =
+    subst (λ (b : CoreBase g.row.V.Denot). IfErr c.serve_opened.result (OnUnheard (Rose (g.A.Ears.faults c.args.ears.now) (g.A.Ears.faults c.serve_opened.new.ears)
+    × (((g.A.Ears.origins c.serve_opened.new.ears ≡ g.A.Ears.origins c.args.ears.now) × (g.A.Ears.returned c.serve_opened.new.ears ≡ g.A.Ears.returned c.args.ears.now))
+    ⊎ ((count : ℕ) × IfSome c.args.connections (λ n. count < n)
+    × AnsweredAll g.V.Tool.Tool.faults (g.V.Versions.meaning b.versions) (record { boot = b.boot; told = g.C.Clock.told c.args.clock.now }) c.args.workers count
+    (g.A.Ears.origins c.args.ears.now) (g.A.Ears.origins c.serve_opened.new.ears) (g.A.Ears.returned c.args.ears.now) (g.A.Ears.returned c.serve_opened.new.ears)
+    × Announced (g.K.Sink.written c.args.output.now) (g.K.Sink.written c.serve_opened.new.output) (g.K.Sink.flushed c.serve_opened.new.output))))))
+    c.in-Ok-open.ensures.base c.serve_opened.ensures.unheard
