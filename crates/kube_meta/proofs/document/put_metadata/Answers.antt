@@ -1,4 +1,4 @@
-use Rattle.std.proofs.Common.{◌≡◌, ◌++◌, map}
+use Rattle.std.proofs.Common.{◌≡◌, ◌++◌, map, refl}
 use Rattle.std.specs.Prelude.{option_map, codes}
 use Rattle.kj_value.specs.Json.{text}
 use Rattle.kj_value.specs.Fields.{Pairs}
@@ -34,3 +34,33 @@ returns c =
     let p11 : Pairs = p10 ++ optional (codes "uid") (option_map text m.uid) in
     let e11 : c.put-11.new.fields ≡ p11 = put_next _ _ _ _ _ _ c.in_ok-put-11.ensures.fields c.take_given-2.ensures e10 in
     e11
+
+pub put-requires-2 : goal.put-requires-2
+put-requires-2 c = c.in_ok-put.ensures.later (codes "creationTimestamp") refl
+
+pub put-requires-3 : goal.put-requires-3
+put-requires-3 c = c.in_ok-put-2.ensures.later (codes "deletionTimestamp") refl
+
+pub put-requires-4 : goal.put-requires-4
+put-requires-4 c = c.in_ok-put-3.ensures.later (codes "finalizers") refl
+
+pub put-requires-5 : goal.put-requires-5
+put-requires-5 c = c.in_ok-put-4.ensures.later (codes "generation") refl
+
+pub put-requires-6 : goal.put-requires-6
+put-requires-6 c = c.in_ok-put-5.ensures.later (codes "labels") refl
+
+pub put-requires-7 : goal.put-requires-7
+put-requires-7 c = c.in_ok-put-6.ensures.later (codes "name") refl
+
+pub put-requires-8 : goal.put-requires-8
+put-requires-8 c = c.in_ok-put-7.ensures.later (codes "namespace") refl
+
+pub put-requires-9 : goal.put-requires-9
+put-requires-9 c = c.in_ok-put-8.ensures.later (codes "ownerReferences") refl
+
+pub put-requires-10 : goal.put-requires-10
+put-requires-10 c = c.in_ok-put-9.ensures.later (codes "resourceVersion") refl
+
+pub put-requires-11 : goal.put-requires-11
+put-requires-11 c = c.in_ok-put-10.ensures.later (codes "uid") refl
