@@ -8,6 +8,8 @@
 //! responses as bytes, of routes, of replies and of the server's history, and knows nothing of how any of them is made.
 #![tactic(auto)]
 
+pub mod fronts;
+
 ghost use Rattle.std.specs.Prelude.{◌≡◌, ◌++◌, ℕ, List, [], None, Option, IsTrue};
 ghost use Rattle.kj_value.specs.Json.{Json};
 ghost use Rattle.kube_meta.specs.Key.{KeyView};

@@ -9,7 +9,7 @@ ghost use Rattle.far_server.specs.Serving.{speaker_of};
 
 use api_calls::Versions;
 use edge_io::{FixedClock, MemSink, SureSource};
-use front_laws::{goes_on, last_speaks};
+use far_laws::fronts::{goes_on, last_speaks};
 use http_front::{OneEnd, serve_one};
 use http_wire::Inbox;
 use kj_value::NoMemory;

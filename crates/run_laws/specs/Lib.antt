@@ -2,3 +2,10 @@ pub mod Ran
 pub mod Backups
 pub mod Converting
 pub mod Moves
+pub mod Versions
+pub mod Placed
+pub mod Reached
+pub mod Replying
+pub mod Shown
+pub mod Light
+pub mod Ending

@@ -1,9 +1,12 @@
 //! What one side of HTTP writes is what the other side reads: the request that `write_request` writes is read as that request, and
-//! the response that `write_response` writes is received as that response.
+//! the response that `write_response` writes is received as that response; and what is handed on of a response in chunks is read as
+//! its chunks' bytes (`chunks`).
 //!
 //! Each law is the contract of a function that does nothing. It speaks of the definitions that the calls of `http_wire` cite, and
 //! knows nothing of how a byte is read or written.
 #![tactic(auto)]
+
+pub mod chunks;
 
 ghost use Rattle.std.specs.Prelude.{◌≡◌, ◌∷◌, ◌++◌, ◌+◌, ◌^◌, ◌<◌, ◌≤◌, [], Bool, List, Option, Result, ℕ, length};
 ghost use Rattle.http_wire.specs.declared.limits.TheConstants.{MOST_BODY_BYTES, MOST_HEAD_BYTES};

@@ -1,5 +1,0 @@
-use Rattle.chunk_laws.proofs.Handed.{joined_read}
-use Rattle.chunk_laws.proofs.joined_is_read.Goals as goal
-
-pub returns : goal.returns
-returns c = λ bytes rest r reads short few. joined_read bytes rest r reads short few

@@ -1,6 +1,0 @@
-pub mod Placed
-pub mod Reached
-pub mod Replying
-pub mod Shown
-pub mod Light
-pub mod Ending
