@@ -3,7 +3,7 @@
 
 /// Which versions are served, and which one is the storage version: `served` and `storage` of each version in a
 /// CustomResourceDefinition.
-#[derive(Clone, Copy, Debug, PartialEq, Eq, Drop)]
+#[derive(Clone, Copy, PartialEq, Eq, Drop)]
 pub struct Flags {
     pub served: [bool; 8],
     pub storage: u8,
@@ -11,7 +11,7 @@ pub struct Flags {
 
 /// The versions at which objects may stand, in the order in which they became the storage version: `status.storedVersions`
 /// of a CustomResourceDefinition. Only the first `len` places of `items` count.
-#[derive(Clone, Copy, Debug, PartialEq, Eq, Drop)]
+#[derive(Clone, Copy, PartialEq, Eq, Drop)]
 pub struct StoredList {
     pub len: u8,
     pub items: [u8; 8],

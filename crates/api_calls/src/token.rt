@@ -26,7 +26,7 @@ impl Drop for Token {
 }
 
 /// Why a text is read as no token.
-#[derive(Debug, PartialEq, Eq, Drop)]
+#[derive(Debug, Drop)]
 pub enum TokenFault {
     /// No token has the text.
     BadToken,

@@ -15,7 +15,7 @@ pub trait Tool: Drop {
 }
 
 /// The tool of a definition that asks nothing of the outside. It has no faults.
-#[derive(Clone, Copy, Debug, Drop)]
+#[derive(Clone, Copy, Drop)]
 pub struct NoTool;
 
 impl Tool for NoTool {
@@ -33,7 +33,7 @@ pub trait Tools<T: Tool> {
 }
 
 /// It makes a `NoTool`, and takes no memory.
-#[derive(Clone, Copy, Debug, Drop)]
+#[derive(Clone, Copy, Drop)]
 pub struct NoTools;
 
 impl Tools<NoTool> for NoTools {

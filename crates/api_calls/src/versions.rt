@@ -72,7 +72,7 @@ impl From<NoMemory> for AdmitFault {
 }
 
 /// Why an object wasn't converted.
-#[derive(Clone, Copy, Debug, PartialEq, Eq, Drop)]
+#[derive(Clone, Copy, Drop)]
 pub enum ConvFault {
     /// The tool had a fault.
     Tool,

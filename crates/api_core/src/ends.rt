@@ -3,7 +3,7 @@ use api_calls::{Flags, StoredList};
 use kube_meta::{KeySpot, Room};
 
 /// How a create ended.
-#[derive(Clone, Copy, Debug, PartialEq, Eq, Drop)]
+#[derive(Clone, Copy, Drop)]
 pub enum CreateEnd {
     /// The object stands at this number.
     Done { rv: u64 },
@@ -18,7 +18,7 @@ pub enum CreateEnd {
 }
 
 /// How a replace ended.
-#[derive(Clone, Copy, Debug, PartialEq, Eq, Drop)]
+#[derive(Clone, Copy, Drop)]
 pub enum ReplaceEnd {
     /// The new value stands at `rv`; the object was created by the entry `born`.
     Done { rv: u64, born: u64 },
@@ -35,7 +35,7 @@ pub enum ReplaceEnd {
 }
 
 /// How a delete ended.
-#[derive(Clone, Copy, Debug, PartialEq, Eq, Drop)]
+#[derive(Clone, Copy, Drop)]
 pub enum DeleteEnd {
     /// The object is removed, by the entry `rv`; it was created by the entry `born`.
     Done { rv: u64, born: u64 },
@@ -52,7 +52,7 @@ pub enum DeleteEnd {
 }
 
 /// How a release ended: the removal of an object that is being deleted and has lost its last finalizer.
-#[derive(Clone, Copy, Debug, PartialEq, Eq, Drop)]
+#[derive(Clone, Copy, Drop)]
 pub enum ReleaseEnd {
     /// The object is removed, by the entry `rv`; it was created by the entry `born`.
     Done { rv: u64, born: u64 },
@@ -65,7 +65,7 @@ pub enum ReleaseEnd {
 }
 
 /// How a change of the flags ended, with the stored list after it.
-#[derive(Clone, Copy, Debug, PartialEq, Eq, Drop)]
+#[derive(Clone, Copy, Drop)]
 pub enum SetEnd {
     /// The flags stand, by the entry `rv`.
     Done { rv: u64, stored: StoredList },

@@ -59,7 +59,7 @@ pub struct Page {
 }
 
 /// Why there is no page.
-#[derive(Clone, Copy, Debug, PartialEq, Eq, Drop)]
+#[derive(Clone, Copy, Debug, Drop)]
 pub enum PageFault {
     /// The version isn't served.
     Unserved,

@@ -22,7 +22,7 @@ use rule_reading::{RuleSet, RulesFault, read_rules};
 use std::alloc::Global;
 
 /// One of the two documents.
-#[derive(Clone, Copy, Debug, PartialEq, Eq, Drop)]
+#[derive(Clone, Copy, Drop)]
 pub enum Which {
     /// The CustomResourceDefinition.
     Crd,

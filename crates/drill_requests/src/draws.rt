@@ -3,7 +3,7 @@ ghost use Rattle.std.specs.Prelude.{◌≡◌};
 ghost use Rattle.drill_requests.specs.Draws.{drawn, next_state, number_of, third_state};
 
 /// What is drawn for a step: what is done, with which object, and a value.
-#[derive(Clone, Copy, Debug, PartialEq, Eq)]
+#[derive(Clone, Copy, PartialEq, Eq)]
 pub struct Draw {
     pub kind: u64,
     pub object: u64,

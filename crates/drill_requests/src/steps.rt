@@ -5,7 +5,7 @@ ghost use Rattle.drill_requests.specs.Draws.{step_of};
 use crate::draws::Draw;
 
 /// What is done in a step, with the object of a number and a value.
-#[derive(Clone, Copy, Debug, PartialEq, Eq)]
+#[derive(Clone, Copy)]
 pub enum Step {
     /// It is created at `v1beta1`.
     CreateSpoke { object: u64, value: u64 },

@@ -10,7 +10,7 @@ use kj_value::NoMemory;
 use shared_api::TurnStep;
 
 /// How many replies of each kind came. A count stays at its greatest number.
-#[derive(Clone, Copy, Debug, PartialEq, Eq)]
+#[derive(Clone, Copy, PartialEq, Eq)]
 pub(crate) struct Counts {
     pub(crate) created: u64,
     pub(crate) replaced: u64,

@@ -17,7 +17,7 @@ pub trait Clock {
 }
 
 /// A clock that always answers one stamp.
-#[derive(Clone, Copy, Debug, Drop)]
+#[derive(Clone, Copy, Drop)]
 pub struct FixedClock {
     stamp: Stamp,
     ghost form: { HasStampForm stamp.text },

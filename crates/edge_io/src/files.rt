@@ -12,7 +12,7 @@ use thiserror::Error;
 pub const MOST_FILE_BYTES: usize = 4_194_304;
 
 /// Why a file wasn't read.
-#[derive(Clone, Copy, Debug, PartialEq, Eq, Drop, Error)]
+#[derive(Clone, Copy, Debug, Drop, Error)]
 pub enum FileFault {
     /// The outside failed.
     #[error("the file could not be read")]

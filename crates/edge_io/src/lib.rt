@@ -44,5 +44,5 @@ pub use stamps::stamp_of;
 pub use sure::{SureSink, SureSource};
 
 /// The outside failed. Only the object that failed can say so: its count of faults has risen.
-#[derive(Clone, Copy, Debug, PartialEq, Eq, Drop)]
+#[derive(Clone, Copy, Drop)]
 pub struct Failed;

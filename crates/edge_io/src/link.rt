@@ -9,7 +9,7 @@ use std::alloc::Global;
 use thiserror::Error;
 
 /// Why a request has no answer.
-#[derive(Clone, Copy, Debug, PartialEq, Eq, Drop, Error)]
+#[derive(Clone, Copy, Debug, Drop, Error)]
 pub enum LinkFault {
     /// The outside failed.
     #[error("the exchange failed")]

@@ -73,7 +73,7 @@ impl Source for SureSource {
 }
 
 /// A sink that takes everything, keeps nothing and never fails.
-#[derive(Clone, Copy, Debug, Drop)]
+#[derive(Clone, Copy, Drop)]
 pub struct SureSink;
 
 impl Sink for SureSink {

@@ -2,7 +2,7 @@
 use record_dump::RestoreEnd;
 
 /// How a line ends that migrates objects.
-#[derive(Clone, Copy, Debug, PartialEq, Eq, Drop)]
+#[derive(Clone, Copy, Drop)]
 pub enum MigrateEnd {
     /// All objects were put back, and the tally was written.
     Done,
@@ -23,7 +23,7 @@ pub enum MigrateEnd {
 }
 
 /// How a line ends that loads objects.
-#[derive(Clone, Copy, Debug, PartialEq, Eq, Drop)]
+#[derive(Clone, Copy, Drop)]
 pub enum LoadEnd {
     /// The restoring came to this. Where it is done, the two numbers were written.
     Restored(RestoreEnd),

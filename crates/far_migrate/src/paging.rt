@@ -23,7 +23,7 @@ use std::alloc::Global;
 use wire_client::{Far, ListPage, Place, ResponseBuffer, key_texts, list_page};
 
 /// Whether another page follows.
-#[derive(Clone, Copy, Debug, PartialEq, Eq, Drop)]
+#[derive(Clone, Copy, Drop)]
 pub(crate) enum Turned {
     More,
     Done,

@@ -19,7 +19,7 @@ use std::alloc::Global;
 use wire_client::{Far, Place, ResponseBuffer, get_one, number_text, put_one};
 
 /// What became of an object.
-#[derive(Clone, Copy, Debug, PartialEq, Eq, Drop)]
+#[derive(Clone, Copy, Drop)]
 pub(crate) enum Kind {
     Written,
     Unchanged,

@@ -2,7 +2,7 @@
 use kj_value::NoMemory;
 
 /// How many objects the last list had, and what became of them.
-#[derive(Clone, Copy, Debug, PartialEq, Eq, Drop)]
+#[derive(Clone, Copy, Drop)]
 pub struct Tally {
     /// All that the list had: the sum of the other four.
     pub listed: u64,
@@ -17,7 +17,7 @@ pub struct Tally {
 }
 
 /// Why there is no tally.
-#[derive(Clone, Copy, Debug, PartialEq, Eq, Drop)]
+#[derive(Clone, Copy, Drop)]
 pub enum FarFault {
     /// The link failed: its count of faults has risen.
     LinkFault,

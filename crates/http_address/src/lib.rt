@@ -27,7 +27,7 @@ pub struct Address {
 }
 
 /// Why there is no address.
-#[derive(Clone, Copy, Debug, PartialEq, Eq, Drop)]
+#[derive(Clone, Copy, Drop)]
 pub enum AddressFault {
     /// The text isn't a URL of the scheme `http` with a host and without a user, a query or a fragment.
     BadAddress,

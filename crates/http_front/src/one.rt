@@ -24,7 +24,7 @@ use std::alloc::Global;
 use std::sync::Wait;
 
 /// What came of reading one request and answering it.
-#[derive(Clone, Copy, Debug, PartialEq, Eq, Drop)]
+#[derive(Clone, Copy, Drop)]
 pub enum OneEnd {
     Answered,
     /// It was answered, and asked for closing.

@@ -28,14 +28,14 @@ pub use requesting::write_request;
 pub use response::write_response;
 
 /// A part of what an inbox holds, in bytes from the front.
-#[derive(Clone, Copy, Debug, PartialEq, Eq, Drop)]
+#[derive(Clone, Copy, Drop)]
 pub struct Span {
     pub start: u32,
     pub len: u32,
 }
 
 /// Where the parts of a request stand in the inbox (RFC 9112, section 3).
-#[derive(Clone, Copy, Debug, PartialEq, Eq, Drop)]
+#[derive(Clone, Copy, Drop)]
 pub struct RequestParts {
     pub method: Span,
     /// The target as it was sent, with its query.
@@ -47,14 +47,14 @@ pub struct RequestParts {
 }
 
 /// The code of a response, and where its body stands in the inbox (RFC 9112, section 4).
-#[derive(Clone, Copy, Debug, PartialEq, Eq, Drop)]
+#[derive(Clone, Copy, Drop)]
 pub struct ResponseParts {
     pub code: u16,
     pub body: Span,
 }
 
 /// Why no request or response was read. After all but `Closed` the inbox is of no more use.
-#[derive(Clone, Copy, Debug, PartialEq, Eq, Drop)]
+#[derive(Clone, Copy, Debug, Drop)]
 pub enum WireFault {
     /// The input ended between two requests, or before a response.
     Closed,

@@ -4,7 +4,7 @@ use kj_value::{JVal, Txt};
 use struct_schema::Schema;
 
 /// The two sides of a conversion: an object at a spoke's version, and at the hub's.
-#[derive(Clone, Copy, Debug, PartialEq, Eq, Drop)]
+#[derive(Clone, Copy, PartialEq, Eq, Drop)]
 pub enum Side {
     Spoke,
     Hub,

@@ -3,7 +3,7 @@ use hub_cells::Side;
 use kj_value::Txt;
 
 /// Why rules don't fit two schemas.
-#[derive(Clone, Copy, Debug, PartialEq, Eq, Drop)]
+#[derive(Clone, Copy, Drop)]
 pub enum Why {
     /// A name stands in two rules of a level on one side.
     NameTwice,

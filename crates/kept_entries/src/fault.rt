@@ -2,7 +2,7 @@
 use kj_value::NoMemory;
 use std::alloc::{AllocError, AllocFailed};
 
-#[derive(Clone, Copy, Debug, Drop, PartialEq, Eq)]
+#[derive(Clone, Copy, Drop)]
 pub enum KeptFault {
     /// The text isn't the one text of an entry list, or is too deep.
     BadKept,

@@ -3,7 +3,7 @@ ghost use Rattle.std.specs.Prelude.{◌≡◌};
 ghost use Rattle.kj_value.specs.Rule.{rule_word};
 
 /// A rule that a document breaks: a keyword of its schema, or what is asked of the document as a whole.
-#[derive(Clone, Copy, Debug, PartialEq, Eq, Drop)]
+#[derive(Clone, Copy, PartialEq, Eq, Drop)]
 pub enum Rule {
     /// `type` and `nullable`. Its word is `Type`.
     Kind,

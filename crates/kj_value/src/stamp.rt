@@ -3,7 +3,7 @@ ghost use Rattle.std.specs.Prelude.{◌≡◌};
 ghost use Rattle.std.specs.Str.{IsAscii};
 
 /// A moment, as the 20 bytes of `2024-01-02T03:04:05Z`.
-#[derive(Clone, Copy, Debug, PartialEq, Eq, Drop)]
+#[derive(Clone, Copy, PartialEq, Eq, Drop)]
 pub struct Stamp {
     pub text: [u8; 20],
     ghost ascii: { IsAscii text },

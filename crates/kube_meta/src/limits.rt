@@ -1,7 +1,7 @@
 //! The limits of a server, and what is lacking where one is met.
 
 /// The limits of a server. A chunk is 256 bytes.
-#[derive(Clone, Copy, Debug, PartialEq, Eq, Drop)]
+#[derive(Clone, Copy, PartialEq, Eq, Drop)]
 pub struct Limits {
     /// The most objects that stand at a time.
     pub objects: u64,

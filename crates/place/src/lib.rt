@@ -39,7 +39,7 @@ impl Drop for Place {
 }
 
 /// Why there is no place.
-#[derive(Clone, Copy, Debug, PartialEq, Eq, Drop)]
+#[derive(Clone, Copy, Drop)]
 pub enum PlaceFault {
     /// The text isn't a URL of the scheme `http` with a host and without a user, a query or a fragment, whose path is
     /// `/apis/GROUP/VERSION/PLURAL`: a subdomain name and two labels (RFC 1123), with no escape and no slash at the end.

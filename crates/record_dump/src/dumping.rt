@@ -31,14 +31,14 @@ const EXPIRED: u16 = 410;
 const OTHER: DumpEnd = DumpEnd::Answer { code: 0 };
 
 /// Whether another page follows.
-#[derive(Clone, Copy, Debug, PartialEq, Eq, Drop)]
+#[derive(Clone, Copy, Drop)]
 pub(crate) enum Turned {
     More,
     Ended(DumpEnd),
 }
 
 /// What became of a list that gave no page.
-#[derive(Clone, Copy, Debug, PartialEq, Eq, Drop)]
+#[derive(Clone, Copy, Drop)]
 pub(crate) enum Unlisted {
     TooLong,
     Ended(DumpEnd),

@@ -1,7 +1,7 @@
 //! How a dump and a restoring end.
 
 /// How a dump ends.
-#[derive(Clone, Copy, Debug, PartialEq, Eq, Drop)]
+#[derive(Clone, Copy, Drop)]
 pub enum DumpEnd {
     /// All objects were written, each as a line, and handed on.
     Done { lines: u64 },
@@ -18,7 +18,7 @@ pub enum DumpEnd {
 }
 
 /// How a restoring ends. Lines are counted from 1, and what was created stays.
-#[derive(Clone, Copy, Debug, PartialEq, Eq, Drop)]
+#[derive(Clone, Copy, Drop)]
 pub enum RestoreEnd {
     /// The input was read to its end: so many lines were created, and so many were there already.
     Done { created: u64, present: u64 },

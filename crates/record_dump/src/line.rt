@@ -17,7 +17,7 @@ use kj_value::{JFields, JItems, JVal, NoMemory, Txt, write};
 use std::alloc::Global;
 
 /// Why a line wasn't written whole.
-#[derive(Clone, Copy, Debug, PartialEq, Eq, Drop)]
+#[derive(Clone, Copy, Drop)]
 pub(crate) enum Unsent {
     Failed,
     NoMemory,

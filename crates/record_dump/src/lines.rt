@@ -18,14 +18,14 @@ pub const MOST_BYTES: usize = 1_048_576;
 const PIECE_BYTES: usize = 16_384;
 
 /// Why no more bytes are had.
-#[derive(Clone, Copy, Debug, PartialEq, Eq, Drop)]
+#[derive(Clone, Copy, Drop)]
 pub(crate) enum Unread {
     Failed,
     NoMemory,
 }
 
 /// Why no line is had.
-#[derive(Clone, Copy, Debug, PartialEq, Eq, Drop)]
+#[derive(Clone, Copy, Drop)]
 pub(crate) enum Unlined {
     Unread(Unread),
     /// The line passes the most bytes.

@@ -27,14 +27,14 @@ const CONFLICT: u16 = 409;
 const NOT_FOUND: u16 = 404;
 
 /// What became of a line that was posted.
-#[derive(Clone, Copy, Debug, PartialEq, Eq, Drop)]
+#[derive(Clone, Copy, Drop)]
 pub(crate) enum Posted {
     Created,
     Present,
 }
 
 /// Why a line was neither created nor there.
-#[derive(Clone, Copy, Debug, PartialEq, Eq, Drop)]
+#[derive(Clone, Copy, Drop)]
 pub(crate) enum Unposted {
     /// It says no object of the place.
     Bad,

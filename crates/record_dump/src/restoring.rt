@@ -20,14 +20,14 @@ use wire_client::{Far, Place, ResponseBuffer};
 pub const MOST_LINES: u64 = 1_000_000;
 
 /// How many lines were created, and how many were there already.
-#[derive(Clone, Copy, Debug, PartialEq, Eq, Drop)]
+#[derive(Clone, Copy, PartialEq, Eq, Drop)]
 pub(crate) struct Counts {
     pub created: u64,
     pub present: u64,
 }
 
 /// Whether a line may follow.
-#[derive(Clone, Copy, Debug, PartialEq, Eq, Drop)]
+#[derive(Clone, Copy, Drop)]
 pub(crate) enum Next {
     More,
     Ended(RestoreEnd),

@@ -5,7 +5,7 @@ use std::marker::Model;
 
 /// A piece that a region holds, by the number of its first chunk. It can't be copied, so that it is
 /// freed once at most.
-#[derive(Debug, Drop)]
+#[derive(Drop)]
 pub struct Piece {
     pub(crate) first: u32,
 }

@@ -2,7 +2,7 @@
 use kube_meta::Room;
 
 /// What came of a write. But for `Done` the store stays as it was.
-#[derive(Clone, Copy, Debug, Drop, PartialEq, Eq)]
+#[derive(Clone, Copy, Drop)]
 pub enum PutEnd {
     /// The record stands.
     Done,

@@ -3,7 +3,7 @@ use kube_meta::Key;
 use record_region::Piece;
 
 /// What is known of a record beside its key and its text.
-#[derive(Clone, Copy, Debug, Drop, PartialEq, Eq)]
+#[derive(Clone, Copy, Drop)]
 pub struct Record {
     /// The version at which it is stored.
     pub at: u8,

@@ -1,7 +1,7 @@
 //! What refusals are about.
 
 /// What a refusal is about.
-#[derive(Clone, Copy, Debug, PartialEq, Eq, Drop)]
+#[derive(Clone, Copy, Drop)]
 pub enum About {
     /// Objects of the definition.
     Objects,

@@ -24,7 +24,7 @@ use std::alloc::Global;
 use std::sync::Wait;
 
 /// How a conversation ends.
-#[derive(Clone, Copy, Debug, PartialEq, Eq, Drop)]
+#[derive(Clone, Copy, Drop)]
 pub enum PipeEnd {
     /// The input ended between two requests, or an answered request asked for closing.
     Closed,

@@ -18,14 +18,14 @@ use std::thread::{Scope, Threads};
 use std::{thread, time};
 
 /// How serving many connections ended, and how many of the workers that were asked for had no thread of their own.
-#[derive(Clone, Copy, Debug, PartialEq, Eq, Drop)]
+#[derive(Clone, Copy, PartialEq, Eq, Drop)]
 pub struct Served {
     pub end: ServeEnd,
     pub idle: u64,
 }
 
 /// How serving many connections ends.
-#[derive(Clone, Copy, Debug, PartialEq, Eq, Drop)]
+#[derive(Clone, Copy, PartialEq, Eq, Drop)]
 pub enum ServeEnd {
     /// As many connections were given back as were asked for.
     Done,

@@ -22,7 +22,7 @@ pub enum TurnStep {
 }
 
 /// Why a worker's turn came to nothing.
-#[derive(Clone, Copy, Debug, PartialEq, Eq, Drop)]
+#[derive(Clone, Copy, Debug, Drop)]
 pub enum WorkFault {
     /// The converter failed.
     Converter,

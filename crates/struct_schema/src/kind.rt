@@ -4,7 +4,7 @@ ghost use Rattle.struct_schema.specs.KindLaws.{kind_number, format_number};
 ghost use Rattle.struct_schema.specs.Filled.{is_object, is_array};
 
 /// What a node asks of a value's kind: the keyword `type`, or one of the two nodes without it.
-#[derive(Clone, Copy, Debug, PartialEq, Eq, Drop)]
+#[derive(Clone, Copy, PartialEq, Eq, Drop)]
 pub enum NodeKind {
     /// `type: object`.
     Object,
@@ -39,7 +39,7 @@ impl NodeKind {
 }
 
 /// The keyword `format` of a whole number.
-#[derive(Clone, Copy, Debug, PartialEq, Eq, Drop)]
+#[derive(Clone, Copy, PartialEq, Eq, Drop)]
 pub enum IntFormat {
     /// From -2,147,483,648 to 2,147,483,647.
     Int32,

@@ -28,7 +28,7 @@ impl Drop for Places {
 }
 
 /// What places tell of a value.
-#[derive(Clone, Copy, Debug, PartialEq, Eq, Drop)]
+#[derive(Clone, Copy, PartialEq, Eq, Drop)]
 pub enum Place {
     /// Where it stands first.
     First(usize),

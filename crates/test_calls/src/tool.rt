@@ -10,7 +10,7 @@ use std::sync::atomic::{AtomicU64, Ordering};
 const TRIES: u64 = 1_000_000_000;
 
 /// A call of the definition.
-#[derive(Clone, Copy, Debug, PartialEq, Eq, Drop)]
+#[derive(Clone, Copy, PartialEq, Eq, Drop)]
 pub enum Place {
     Admit,
     Form,

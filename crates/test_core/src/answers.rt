@@ -11,14 +11,6 @@ pub fn told<T: Debug>(alloc: Global, end: &T) -> Option<String> {
     format!(in alloc; "{end:?}").ok()
 }
 
-/// What came prints itself, if it came.
-pub fn told_of<T: Debug + Drop>(alloc: Global, end: Option<T>) -> Option<String> {
-    match end {
-        Some(end) => told(alloc, &end),
-        None => None,
-    }
-}
-
 // Adds the place of a version. Answers whether there was room.
 fn add_place(alloc: Global, v: u8, text: &mut String) -> bool {
     match format!(in alloc; " @{v}") {

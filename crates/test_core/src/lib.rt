@@ -24,6 +24,7 @@
 #![tactic(auto)]
 
 mod answers;
+mod ends;
 mod laws;
 mod looks;
 mod order;

@@ -1,12 +1,15 @@
 //! Scripts over a core: each line is an order, and is told with its answer.
-use crate::answers::{set_text, start_text, told as spelled, told_of, trim_text, turn_text};
+use crate::answers::{set_text, start_text, told as spelled, trim_text, turn_text};
+use crate::ends::{
+    create_text, created_at, delete_text, deleted_at, release_text, replace_text, replaced_at,
+};
 use crate::looks::looked;
 use crate::order::{Order, bare, code, order_of};
 use crate::random::name_of;
 use crate::turns::{begin, create, delete, keep, let_go, mark, opened, replace, store};
 use crate::workers::{ask, back, gone, overwritten, work};
 use api_calls::Versions;
-use api_core::{Core, CreateEnd, DeleteEnd, ReplaceEnd, TurnEnd};
+use api_core::{Core, TurnEnd};
 use kube_meta::Limits;
 use migrate_core::Worker;
 use std::alloc::Global;
@@ -72,11 +75,11 @@ pub fn answered<V: Versions>(
 // What an order answers that is no worker's.
 fn changed<V: Versions>(alloc: Global, core: &mut Core<V>, order: &Order<'_>) -> Option<String> {
     match code(order) {
-        b'c' => told_of(alloc, create(alloc, core, order)),
-        b'r' => told_of(alloc, replace(alloc, core, order)),
-        b'd' => told_of(alloc, delete(alloc, core, order)),
-        b'm' => told_of(alloc, mark(alloc, core, order)),
-        b'l' => told_of(alloc, let_go(alloc, core, order)),
+        b'c' => create_text(alloc, create(alloc, core, order)),
+        b'r' => replace_text(alloc, replace(alloc, core, order)),
+        b'd' => delete_text(alloc, delete(alloc, core, order)),
+        b'm' => delete_text(alloc, mark(alloc, core, order)),
+        b'l' => release_text(alloc, let_go(alloc, core, order)),
         _ => settled(alloc, core, order),
     }
 }
@@ -128,7 +131,7 @@ fn fill_named<V: Versions>(alloc: Global, core: &mut Core<V>, name: &str, rv: u6
     order.name = name;
     order.text = "first";
     order.at = 1;
-    create(alloc, core, &order) == Some(CreateEnd::Done { rv })
+    created_at(create(alloc, core, &order)) == Some(rv)
 }
 
 // Creates so many objects at place 1, by the numbers from 2 on.
@@ -179,9 +182,9 @@ fn round<V: Versions>(alloc: Global, core: &mut Core<V>, born: u64) -> bool {
     let replaced = replace(alloc, core, &order);
     order.number = next;
     let deleted = delete(alloc, core, &order);
-    created == Some(CreateEnd::Done { rv: born })
-        && replaced == Some(ReplaceEnd::Done { rv: next, born })
-        && deleted == Some(DeleteEnd::Done { rv: last, born })
+    created_at(created) == Some(born)
+        && replaced_at(replaced) == Some((next, born))
+        && deleted_at(deleted) == Some((last, born))
 }
 
 // A thousand times that, by the numbers from 2 on.

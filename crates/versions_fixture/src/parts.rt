@@ -16,7 +16,7 @@ use std::alloc::Global;
 pub const KIND: &str = "CronTab";
 
 /// A version of the definition.
-#[derive(Clone, Copy, Debug, PartialEq, Eq, Drop)]
+#[derive(Clone, Copy, PartialEq, Eq, Drop)]
 pub enum Version {
     V1,
     V1beta1,

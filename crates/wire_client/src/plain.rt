@@ -7,7 +7,7 @@ use edge_io::{Link, LinkFault};
 use std::alloc::Global;
 
 /// What is known of no server.
-#[derive(Clone, Copy, Debug, Drop)]
+#[derive(Clone, Copy, Drop)]
 pub struct NoServer;
 
 impl Serving for NoServer {

@@ -9,7 +9,7 @@ use crate::fields::meta_text;
 use kj_value::JVal;
 
 /// The namespace and the name of an object, lent.
-#[derive(Clone, Copy, Debug, PartialEq, Eq, Drop)]
+#[derive(Clone, Copy, Drop)]
 pub struct KeyTexts<'a> {
     pub ns: &'a str,
     pub name: &'a str,
