@@ -11,7 +11,7 @@ import sys
 TOP = pathlib.Path(__file__).resolve().parent.parent
 NAMES = set("APIGroup ConversionReview CustomResourceDefinition DELETE GET List Namespaced POST PUT Status "
             "StorageVersionMigration StorageVersionMigrationList True".split())
-ELSEWHERE = re.compile(r"_tests$|^test_|_fixture$|_example$|^built_in$|^drill_|^explain")
+ELSEWHERE = re.compile(r"_tests$|^test_|_fixture$|_example$|^built_in$|^drill_")
 
 
 def defined():

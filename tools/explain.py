@@ -2,15 +2,18 @@
 """Explains a definition and its rules to their author: all their faults, each with how it is mended, or what the rules do with each field,
 or what becomes of an object.
 
-    python3 tools/explain.py PROGRAM CRD RULES CRD_NAME RULES_NAME [KUBECONV OBJECT VERSION]
+    python3 tools/explain.py KUBECONV CRD RULES CRD_NAME RULES_NAME [OBJECT VERSION]
 
-PROGRAM is a built program `explain`, and KUBECONV one of kubeconv, which converts. CRD, RULES and OBJECT are files of JSON, and the names are those that faults are told by. ./explain
-hands them over. What is so is asked of the program, and laid out here: a fault is told only where the two files don't load, and the first
-one is the one that loading tells. The others are found by tools/find_faults.py.
+KUBECONV is a built kubeconv. CRD, RULES and OBJECT are files of JSON, and the names are those that faults are told by. ./explain hands them
+over. What is so is asked of kubeconv, and laid out here: `pipe` reads the two files, and ends with 0 over no input where they load, and else
+with 3 and a line that names the file, the path and the word of what is refused first. A fault is told only then, and that one first. The
+others are found by tools/find_faults.py.
 
-The status is 0 where there is no fault, 3 at a fault, 6 where the output fails, and else the program's.
+The status is 0 where there is no fault, 3 at a fault, 5 where a file can't be read, has more than 4194304 bytes or is no text, 6 where the
+output fails, and else kubeconv's.
 """
 import json
+import os
 import subprocess
 import sys
 
@@ -20,6 +23,8 @@ from object_report import report
 
 FAULTY, REFUSED, UNREADABLE, WRITE_FAILED = 3, 4, 5, 6
 TOO_LONG = "TooLong"
+# What is said of a file that is no text of at most that length.
+UNREAD = (TOO_LONG, "NotText")
 # What is said of a fault by its word alone.
 WORDS = {
     "NotJson": "the file isn't JSON, or has more than 127 levels; YAML is turned into JSON by tools/yaml2json.py",
@@ -52,17 +57,27 @@ class Failed(Exception):
         self.status = status
 
 
-class Facts:
-    """What the program says of two files."""
+def named_apart(crd, rules):
+    """Names of the two files of which neither begins with a dash, and by which a line tells which of them it names."""
+    crd, rules = (os.path.abspath(it) for it in (crd, rules))
+    return {"crd": crd, "rules": os.path.join(os.path.dirname(rules), ".", os.path.basename(rules))}
 
-    def __init__(self, program, crd, rules):
-        self.words = [program, crd, rules]
 
-    def ask(self):
-        done = subprocess.run(self.words, stdin=subprocess.DEVNULL, stdout=subprocess.PIPE)
-        if done.returncode:
-            raise Failed(done.returncode)
-        return json.loads(done.stdout)
+def first_fault(kubeconv, crd, rules):
+    """What kubeconv refuses first of two files, as its file, path and word, or nothing where they load."""
+    names = named_apart(crd, rules)
+    words = [kubeconv, "pipe", "--crd", names["crd"], "--rules", names["rules"]]
+    done = subprocess.run(words, stdin=subprocess.DEVNULL, capture_output=True)
+    if done.returncode == 0:
+        return None
+    line = done.stderr.decode("utf-8", "replace").removesuffix("\n").removeprefix("kubeconv: ")
+    for file, name in names.items():
+        if done.returncode == FAULTY and line.startswith(f"{name}: "):
+            path, _, word = line.removeprefix(f"{name}: ").rpartition(": ")
+            if word in UNREAD:
+                raise Failed(UNREADABLE)
+            return {"file": file, "path": path, "word": word}
+    raise Failed(done.returncode)
 
 
 class Conversions:
@@ -105,18 +120,16 @@ def faults(names, first, found):
     return "".join(lines) + f"{len(told)} fault{'s' * (len(told) != 1)}\n"
 
 
-def explained(program, crd, rules, names, *further):
-    """What is told of two files, which have these names; and where a built kubeconv, an object's file and a version are given, of that
-    object; and the status."""
-    facts = Facts(program, crd, rules)
-    first = facts.ask()
+def explained(kubeconv, crd, rules, names, *of_object):
+    """What is told of two files, which have these names, or where an object's file and a version are given of that object; and the
+    status."""
+    first = first_fault(kubeconv, crd, rules)
     if first:
         return faults(names, first, find_faults.find_in_files(crd, rules)), FAULTY
     texts = [find_faults.text_of(it) for it in (crd, rules)]
     documents = [find_faults.document(find_faults.Faults(), it) for it in texts]
-    if not further:
+    if not of_object:
         return rows(*documents), 0
-    kubeconv, *of_object = further
     return report(Conversions(kubeconv, crd, rules).ask, documents[0], *of_object), 0
 
 
@@ -130,19 +143,19 @@ def is_put(text):
     return True
 
 
-def main(program, crd, rules, crd_name, rules_name, *further):
+def main(kubeconv, crd, rules, crd_name, rules_name, *of_object):
     try:
-        text, status = explained(program, crd, rules, [crd_name, rules_name], *further)
+        text, status = explained(kubeconv, crd, rules, [crd_name, rules_name], *of_object)
     except Failed as it:
         text, status = "", it.status
     if not is_put(text):
         status = WRITE_FAILED
-    if status not in (0, FAULTY):
+    if status and (status != FAULTY or not text):
         print(f"explain: {ENDS.get(status, f'the program ended with status {status}')}", file=sys.stderr)
     return status
 
 
 if __name__ == "__main__":
-    if len(sys.argv) not in (6, 9):
+    if len(sys.argv) not in (6, 8):
         sys.exit(__doc__)
     sys.exit(main(*sys.argv[1:]))

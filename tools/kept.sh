@@ -6,7 +6,6 @@
 #     out/paths          the files and folders that were summed
 #     out/proved/SUM     the program that was proved of the sources of this sum
 #     out/compiled/SUM   the program that was compiled of the sources of this sum, and not proved
-#     out/explain/..     the same two folders of the program explain
 #
 # A name holds a whole program or none, since it is put there by `mv`; and a program is found by the sum of its sources alone.
 kept=$top/out whole=''
@@ -59,25 +58,23 @@ sum_sources() {
     [ "$summed" -eq 0 ] && read_sums
 }
 
-# Whether a program of a kind stands for the sources that were summed: `proved` or `compiled`, with the other program's name before it,
-# as in `explain/proved`. Its path is `program`.
+# Whether a program of a kind stands for the sources that were summed: `proved` or `compiled`. Its path is `program`.
 stands() {
     [ -n "${whole-}" ] || are_summed || sum_sources || return 1
     case $1 in
-    *proved) program=$kept/$1/$whole ;;
+    proved) program=$kept/$1/$whole ;;
     *) program=$kept/$1/$own ;;
     esac
     [ -x "$program" ]
 }
 
-# Finds the `program` that stands for the sources as they are: the one that is proved, or else the one that is compiled. What stands
-# before their kinds, as `explain/`, may be given.
+# Finds the `program` that stands for the sources as they are: the one that is proved, or else the one that is compiled.
 find_program() {
     are_summed || sum_sources || return 1
     is_proved=yes
-    stands "${1-}proved" && return
+    stands proved && return
     is_proved=''
-    stands "${1-}compiled"
+    stands compiled
 }
 
 # Begins a build: sums the sources, and copies the sums to a file, to be told to `keep` at the end.

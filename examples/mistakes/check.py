@@ -1,12 +1,11 @@
 #!/usr/bin/env python3
 """Checks what is said of the mistakes beside this file:
 
-    python3 examples/mistakes/check.py EXPLAIN [KUBECONV]
+    python3 examples/mistakes/check.py KUBECONV
 
-EXPLAIN is a built program `explain`, by which tools/explain.py explains each case: what that tells has to be what answers.txt has. KUBECONV
-is a built kubeconv: its line for the two files has to be the first one of the answer, and objects are converted by it; without it they aren't
-looked at. README.md says how a case is written. Prints how many cases were looked at; what differs is told on standard error, and then the
-status is 1.
+KUBECONV is a built kubeconv, which tools/explain.py asks of each case: what that tells has to be what answers.txt has, and the line of
+kubeconv for the two files has to be the first one of it. README.md says how a case is written. Prints how many cases were looked at; what
+differs is told on standard error, and then the status is 1.
 """
 import pathlib
 import subprocess
@@ -55,36 +54,33 @@ def first_told(kubeconv, folder):
     return done.stderr.rstrip()
 
 
-def differs(wanted, texts, further, explain, kubeconv, folder):
+def differs(wanted, texts, further, kubeconv, folder):
     """What is wrong with what is said of two texts, or of an object, or nothing."""
     for name, text in zip(NAMES, texts):
         (folder / name).write_text(text)
     words = [str(folder / name) for name in NAMES]
     if further:
         (folder / OBJECT).write_text(further[1])
-        said, status = explained(explain, *words, NAMES, kubeconv, str(folder / OBJECT), further[0])
+        said, status = explained(kubeconv, *words, NAMES, str(folder / OBJECT), further[0])
     else:
-        said, status = explained(explain, *words, NAMES)
+        said, status = explained(kubeconv, *words, NAMES)
     is_faulty = wanted.rstrip().endswith((" fault", " faults"))
     if said != wanted or status != (FAULTY if is_faulty else 0):
         return f"status {status}, and it says\n{said}\nwhere is wanted\n{wanted}"
-    if kubeconv and is_faulty:
+    if is_faulty:
         told = first_told(kubeconv, folder)
         if not told.endswith(wanted.splitlines()[0]):
             return f"kubeconv tells {told}"
     return None
 
 
-def main(explain, kubeconv=None):
-    explain, kubeconv = (it and str(pathlib.Path(it).resolve()) for it in (explain, kubeconv))
+def main(kubeconv):
+    kubeconv = str(pathlib.Path(kubeconv).resolve())
     wanted, wrong, count = answers(), 0, 0
     with tempfile.TemporaryDirectory() as to:
         for title, texts, further in cases():
-            if further and not kubeconv:
-                wanted.pop(title)
-                continue
             count += 1
-            said = differs(wanted.pop(title), texts, further, explain, kubeconv, pathlib.Path(to))
+            said = differs(wanted.pop(title), texts, further, kubeconv, pathlib.Path(to))
             if said:
                 print(f"{title}: {said}", file=sys.stderr)
                 wrong = 1
@@ -96,6 +92,6 @@ def main(explain, kubeconv=None):
 
 
 if __name__ == "__main__":
-    if len(sys.argv) not in (2, 3):
+    if len(sys.argv) != 2:
         sys.exit(__doc__)
-    sys.exit(main(*sys.argv[1:]))
+    sys.exit(main(sys.argv[1]))
