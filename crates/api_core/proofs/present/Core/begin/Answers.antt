@@ -1,4 +1,4 @@
-use Rattle.std.proofs.Common.{◌∙◌, sym}
+use Rattle.std.proofs.Common.{◌∙◌, sym, refl}
 use Rattle.std.specs.Arc.{arc_value}
 use Rattle.api_core.proofs.SettingTurns.{shown}
 use Rattle.api_core.proofs.WorkTurns.{begin-claimed, begin-finished, begin-idle}
@@ -23,3 +23,18 @@ returns-clause-turn g c =
     begin-idle g.V.Versions.meaning c.args.self.now x c.claim.new.self c.mark.new.self c.claim.new.w.claim c.self.view_is
     (record { was = sym c.if-claim.false ∙ c.claim.ensures.was; plan = c.claim.ensures.plan; worker = c.claim.ensures.worker })
     (sym c.if-mark.false ∙ c.mark.ensures.was) c.mark.ensures.plan
+
+pub returns-then-claim-clause-revision : goal.returns-then-claim-clause-revision
+returns-then-claim-clause-revision g c = rw (← c.self.view_is) refl
+
+pub returns-then-claim-clause-base : goal.returns-then-claim-clause-base
+returns-then-claim-clause-base g c = rw (← c.self.view_is) (record { versions = refl; limits = refl; boot = refl })
+
+pub returns-then-mark-clause-base : goal.returns-then-mark-clause-base
+returns-then-mark-clause-base g c = rw (← c.self.view_is) (record { versions = refl; limits = refl; boot = refl })
+
+pub returns-clause-revision : goal.returns-clause-revision
+returns-clause-revision g c = rw (← c.self.view_is) refl
+
+pub returns-clause-base : goal.returns-clause-base
+returns-clause-base g c = rw (← c.self.view_is) (record { versions = refl; limits = refl; boot = refl })

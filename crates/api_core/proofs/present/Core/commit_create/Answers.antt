@@ -1,4 +1,4 @@
-use Rattle.std.proofs.Common.{◌+◌, ◌∙◌, sym, ap, None}
+use Rattle.std.proofs.Common.{◌+◌, ◌∙◌, sym, ap, None, refl}
 use Rattle.record_store.specs.ByKey.{find}
 use Rattle.record_store.specs.View.{item_key}
 use Rattle.record_store.specs.Moves.{with_new}
@@ -40,3 +40,29 @@ returns-in-Done-clause-turn g c =
     let store = c.in-Done.ensures.store ∙ ap (λ (n : NewRecord). with_new (c.self.inside.revision + 1) n c.self.inside.store) c.into_record.ensures in
     rw (← c.self.view_is) (λ log h stands prepares new.
     create-written _ _ log stands c.args.v c.args.new h c.put_if.new.self prepares new may c.if-new-now.false end store)
+
+pub returns-in-Full-clause-leaves : goal.returns-in-Full-clause-leaves
+returns-in-Full-clause-leaves g c = rw (← c.self.view_is) (rw c.in-Full.ensures.store refl)
+
+pub returns-in-Full-clause-revision : goal.returns-in-Full-clause-revision
+returns-in-Full-clause-revision g c = rw (← c.self.view_is) refl
+
+pub returns-in-Full-clause-base : goal.returns-in-Full-clause-base
+returns-in-Full-clause-base g c = rw (← c.self.view_is) (record { versions = refl; limits = refl; boot = refl })
+
+pub returns-in-Present-clause-leaves : goal.returns-in-Present-clause-leaves
+returns-in-Present-clause-leaves g c = rw (← c.self.view_is) (rw c.in-Present.ensures.store refl)
+
+pub returns-in-Present-clause-revision : goal.returns-in-Present-clause-revision
+returns-in-Present-clause-revision g c = rw (← c.self.view_is) refl
+
+pub returns-in-Present-clause-base : goal.returns-in-Present-clause-base
+returns-in-Present-clause-base g c = rw (← c.self.view_is) (record { versions = refl; limits = refl; boot = refl })
+
+pub returns-in-Done-clause-leaves : goal.returns-in-Done-clause-leaves
+returns-in-Done-clause-leaves g c =
+    let store = c.in-Done.ensures.store ∙ ap (λ (n : NewRecord). with_new (c.self.inside.revision + 1) n c.self.inside.store) c.into_record.ensures in
+    rw (← c.self.view_is) (rw store refl)
+
+pub returns-in-Done-clause-base : goal.returns-in-Done-clause-base
+returns-in-Done-clause-base g c = rw (← c.self.view_is) (record { versions = refl; limits = refl; boot = refl })

@@ -1,4 +1,4 @@
-use Rattle.std.proofs.Common.{◌+◌, ◌∙◌, sym, ap}
+use Rattle.std.proofs.Common.{◌+◌, ◌∙◌, sym, ap, refl}
 use Rattle.record_store.specs.ByKey.{find}
 use Rattle.record_store.specs.View.{item_key}
 use Rattle.record_store.specs.Moves.{with_new}
@@ -58,3 +58,26 @@ returns-clause-marks g c =
     (of_some c.args.ready (λ q. FitsAt c.args.key.now c.args.expected q (find item_key c.args.key.now c.self.inside.store.items)) p is fits) prepares known may
     (sym c.look.ensures ∙ c.in-Some.is) c.if-standing-expected.false (ap (λ (q : Prepared). q.at) (sym one) ∙ c.if-marked-now.false)
     (store ∙ ap (λ (q : Prepared). with_new (c.self.inside.revision + 1) (record_for q) c.self.inside.store) one))
+
+pub returns-in_default-ready-clause-leaves : goal.returns-in_default-ready-clause-leaves
+returns-in_default-ready-clause-leaves g c = rw (← c.self.view_is) (rw c.remove_if-removed.ensures.store refl)
+
+pub returns-in_default-ready-clause-base : goal.returns-in_default-ready-clause-base
+returns-in_default-ready-clause-base g c = rw (← c.self.view_is) (record { versions = refl; limits = refl; boot = refl })
+
+pub returns-clause-leaves : goal.returns-clause-leaves
+returns-clause-leaves g c =
+    let store = c.in-Done.ensures.store ∙ ap (λ (n : NewRecord). with_new (c.self.inside.revision + 1) n c.self.inside.store) c.into_record.ensures in
+    rw (← c.self.view_is) (rw (c.in-Some-ready.is, store) refl)
+
+pub returns-clause-base : goal.returns-clause-base
+returns-clause-base g c = rw (← c.self.view_is) (record { versions = refl; limits = refl; boot = refl })
+
+pub returns-clause-turn : goal.returns-clause-turn
+returns-clause-turn g c = λ none log stands known. absurd (cc c.in-Some-ready.is)
+
+pub returns-in_default-ready-clause-marks : goal.returns-in_default-ready-clause-marks
+returns-in_default-ready-clause-marks g c = λ p is log h stamp stands prepares known. absurd (cc c.in_default-ready.is)
+
+pub returns-then-marked-now-clause-turn : goal.returns-then-marked-now-clause-turn
+returns-then-marked-now-clause-turn g c = λ none log stands known. absurd (cc c.in-Some-ready.is)

@@ -1,3 +1,4 @@
+use Rattle.std.proofs.Common.{refl}
 use Rattle.std.specs.Arc.{arc_value}
 use Rattle.api_core.proofs.SettingTurns.{shown}
 use Rattle.api_core.specs.Ends.{turn_end}
@@ -34,3 +35,15 @@ pub returns-in-Lost-clause-leaves : goal.returns-in-Lost-clause-leaves
 returns-in-Lost-clause-leaves g c =
     let x = shown (arc_value c.self.inside.versions) c.self.inside.limits c.self.inside.boot c.self.inside.flags c.self.inside.stored c.self.inside.revision c.self.inside.store c.self.inside.migrations in
     began c.args.self.now x c.args.w.now.claim c.begin.result c.advance.new.self c.begin.new.self c.self.view_is c.in-Lost.ensures.answer c.in-Lost.ensures.plan c.begin.ensures.leaves
+
+pub returns-in-Prepare-clause-revision : goal.returns-in-Prepare-clause-revision
+returns-in-Prepare-clause-revision g c = rw (← c.self.view_is) refl
+
+pub returns-in-Prepare-clause-base : goal.returns-in-Prepare-clause-base
+returns-in-Prepare-clause-base g c = rw (← c.self.view_is) (record { versions = refl; limits = refl; boot = refl })
+
+pub returns-in-Done-clause-revision : goal.returns-in-Done-clause-revision
+returns-in-Done-clause-revision g c = rw (← c.self.view_is) refl
+
+pub returns-in-Done-clause-base : goal.returns-in-Done-clause-base
+returns-in-Done-clause-base g c = rw (← c.self.view_is) (record { versions = refl; limits = refl; boot = refl })

@@ -1,3 +1,4 @@
+use Rattle.std.proofs.Common.{refl}
 use Rattle.std.specs.Arc.{arc_value}
 use Rattle.api_core.proofs.SettingTurns.{shown}
 use Rattle.api_core.proofs.WorkTurns.{touch-missed_turn, touch-in_work, touch-done_turn}
@@ -22,3 +23,6 @@ returns-clause-turn g c =
     touch-done_turn g.V.Versions.meaning c.args.self.now x c.args.w.now.claim c.in-Some.target c.args.new c.args.rv c.is_ready.result c.touch_if-done.result c.touch_if-done.new.self c.pass_key.new.self
     c.self.view_is c.in-Some.ensures c.is_ready.ensures c.if-not-is_ready.false c.requires.fits c.requires.next (rw c.into_record.ensures at c.touch_if-done.ensures.end) (rw c.into_record.ensures at c.touch_if-done.ensures.store)
     (rw (← c.spot-spot.ensures) c.pass_key.ensures)
+
+pub returns-clause-base : goal.returns-clause-base
+returns-clause-base g c = rw (← c.self.view_is) (record { versions = refl; limits = refl; boot = refl })
