@@ -70,6 +70,24 @@ fn note(
     Ok(())
 }
 
+// Adds an exchange with that answer at the end, and gives the answer again.
+fn answered(
+    alloc: Global,
+    made: &mut Vec<MemExchange>,
+    request: &[u8],
+    answer: &[u8],
+) -> Result<Vec<u8>, NoMemory>
+    ensures given { IfOk result (λ v. v.items ≡ answer.now) }
+    ensures ok { OnOk result (made.new.items
+        ≡ made.old.items ++ (record { request = request.now; answer = Some answer.now }) ∷ []) }
+    ensures err { OnErr result (made.new.items ≡ made.old.items) }
+{
+    let kept = copied(alloc, answer)?;
+    let given = copied(alloc, answer)?;
+    note(alloc, made, request, Some(kept))?;
+    Ok(given)
+}
+
 /// A link in memory, which gives its answers in order, and fails at the calls that it is told to fail at and where no answer is
 /// left.
 #[derive(Drop)]
@@ -144,20 +162,22 @@ impl Link for MemLink {
         ensures kept { OnErr result (self.new.waiting ≡ self.old.waiting) }
         ensures calls { self.new.calls ≡ after_call self.old.calls result }
     {
-        if self.calls.begin() {
-            note(alloc, &mut self.made, request, None)?;
-            self.calls.fail();
-            return Err(LinkFault::Failed);
+        let listed = self.calls.begin();
+        if listed || self.given == self.answers.len() {
+            return match note(alloc, &mut self.made, request, None) {
+                Ok(()) => {
+                    self.calls.fail();
+                    Err(LinkFault::Failed)
+                }
+                Err(_) => Err(LinkFault::NoMemory),
+            };
         }
-        if self.given == self.answers.len() {
-            note(alloc, &mut self.made, request, None)?;
-            self.calls.fail();
-            return Err(LinkFault::Failed);
+        match answered(alloc, &mut self.made, request, &self.answers[self.given]) {
+            Ok(answer) => {
+                self.given += 1;
+                Ok(answer)
+            }
+            Err(_) => Err(LinkFault::NoMemory),
         }
-        let answer = copied(alloc, &self.answers[self.given])?;
-        let kept = copied(alloc, &answer)?;
-        note(alloc, &mut self.made, request, Some(kept))?;
-        self.given += 1;
-        Ok(answer)
     }
 }
