@@ -5,3 +5,4 @@ pub mod Accepting
 pub mod Few
 pub mod SoundDefaults
 pub mod ValidDefaults
+pub mod VersionSteps

@@ -105,7 +105,6 @@ fn read_version(alloc: Global, i: usize, v: &JVal) -> Result<Result<Version, Fou
 }
 
 // The versions in order, or the first thing that is refused in their schemas.
-#[tactic(auto, using(crate::proofs::Few::defaults_push))]
 pub(crate) fn read_versions(
     alloc: Global,
     items: &[JVal],
