@@ -5,3 +5,4 @@ pub mod Compared
 pub mod Names
 pub mod Texts
 pub mod Room
+pub mod Named
