@@ -1,16 +1,17 @@
 -- A claim that is taken, step by step; and what is left of a worker's work.
-use Rattle.std.proofs.Common.{◌≡◌, ℕ, ◌+◌, List, [], ◌∷◌, Bool, true, false, Option, None, Some, ap, refl, sym, ◌∙◌, not, is_some}
+use Rattle.std.proofs.Common.{◌≡◌, ℕ, ◌+◌, List, [], ◌∷◌, Bool, true, false, Option, None, Some, Bor, ap, refl, sym, ◌∙◌, not, is_some, replicate}
+use Rattle.std.specs.Option.{option_copied}
 use Rattle.std.specs.Prelude.{◌&&◌, if◌then◌else◌}
 use Rattle.std.specs.List.{list_any}
 use Rattle.kube_meta.specs.Key.{KeyView}
 use Rattle.kube_meta.specs.declared.limits.Condition.{Condition}
-use Rattle.kube_meta.specs.declared.limits.Condition.TheVariants.{Succeeded}
-use Rattle.kube_meta.specs.Plan.{Bound, Span, Slot, Plan, Migration, running, runs, ended, span_of, is_done, is_end, is_free, is_loose, hold_loose, hold_free, next_bound, may_claim, claimed, pass_key}
+use Rattle.kube_meta.specs.declared.limits.Condition.TheVariants.{Succeeded, Failed}
+use Rattle.kube_meta.specs.Plan.{Bound, Start, Span, Slot, Free, Plan, Migration, slot_count, stopped, give_back, free_slot, running, runs, ended, span_of, is_done, is_end, is_free, is_loose, hold_loose, hold_free, next_bound, may_claim, claimed, pass_key}
 use Rattle.migrate_core.specs.declared.records.Row.{Row}
-use Rattle.migrate_core.specs.Rows.{keys}
+use Rattle.migrate_core.specs.Rows.{elsewhere, keys}
 use Rattle.migrate_core.specs.inner.Slots.{plan_of}
 use Rattle.migrate_core.specs.View.{MigrationsView}
-use Rattle.migrate_core.specs.Moves.{work_of, work_in, work_under, IsInWork, takes_claim, after_claim, after_pass, after_mark}
+use Rattle.migrate_core.specs.Moves.{work_of, work_in, work_under, IsInWork, takes_claim, after_claim, after_pass, after_step, after_advance, after_give_back, after_mark, after_fail}
 use Rattle.migrate_core.proofs.Changes.{hold_loose-none}
 
 -- there is a free slot, and keys are left
@@ -100,3 +101,38 @@ passed_on (Some d) c k v is h = under (running v.items) h
     under : (o : Option Migration) → IsInWork k (work_under o d v.plan.slots) → record v { plan = pass_key c k v.plan } ≡ after_pass (work_under o d v.plan.slots) k v
     under None h = absurd h
     under (Some m) h = inside m.target (span_of d v.plan.slots) h
+
+-- ---- what a call finds, and what it leaves
+
+pub copied_is_some : {A : Type 0} (o : Option (Bor A)) (p : Option A) → option_copied o ≡ p → is_some o ≡ is_some p
+copied_is_some None p h = ap is_some h
+copied_is_some (Some x) p h = ap is_some h
+
+pub given_back : (w : Option ℕ) (c : ℕ) (v : MigrationsView) → w ≡ Some c → is_some (running v.items) ≡ true → is_some (span_of c v.plan.slots) ≡ true
+    → record v { plan = give_back c v.plan } ≡ after_give_back (work_of w v) v
+given_back w c v is run held = under (running v.items) run ∙ ap (λ (o : Option ℕ). after_give_back (work_of o v) v) (sym is)
+  where
+    inside : (t : ℕ) (r : Option Span) → is_some r ≡ true → record v { plan = give_back c v.plan } ≡ after_give_back (work_in c t r) v
+    inside t None h = cc
+    inside t (Some r) h = refl
+
+    under : (o : Option Migration) → is_some o ≡ true → record v { plan = give_back c v.plan } ≡ after_give_back (work_under o c v.plan.slots) v
+    under None h = cc
+    under (Some m) h = inside m.target (span_of c v.plan.slots) held
+
+pub advanced : (w : Option ℕ) (c : ℕ) (m : Migration) (r : Span) (v : MigrationsView) (rows : List Row) → w ≡ Some c → Some m ≡ running v.items → Some r ≡ span_of c v.plan.slots
+    → elsewhere r m.target rows ≡ None → record v { plan = free_slot c v.plan } ≡ after_advance (work_of w v) rows v
+advanced w c m r v rows is run held none =
+    ap (λ (o : Option Row). after_step c o v) (sym none)
+    ∙ ap (λ (o : Option Span). after_advance (work_in c m.target o) rows v) held
+    ∙ ap (λ (o : Option Migration). after_advance (work_under o c v.plan.slots) rows v) run
+    ∙ ap (λ (o : Option ℕ). after_advance (work_of o v) rows v) (sym is)
+
+pub failed : (items : List Migration) (limit last : ℕ) (cursor : Bound) (ss : List Slot) → is_some (running items) ≡ true
+    → seen (ended Failed items) limit Start (replicate slot_count Free) last ≡ after_fail (seen items limit cursor ss last)
+failed items limit last cursor ss run = by (running items) run
+  where
+    by : (o : Option Migration) → is_some o ≡ true
+        → seen (ended Failed items) limit Start (replicate slot_count Free) last ≡ record { items = ended Failed items; plan = stopped o (plan_of cursor ss last); limit = limit }
+    by None h = cc
+    by (Some m) h = refl
