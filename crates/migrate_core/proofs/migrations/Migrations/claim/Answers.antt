@@ -1,4 +1,4 @@
-use Rattle.std.proofs.Common.{rules, ◌≡◌, ◌+◌, true, false, ap, sym, ◌∙◌, List, length, is_some}
+use Rattle.std.proofs.Common.{rules, ◌≡◌, ◌+◌, ap, sym, ◌∙◌, List, length}
 use Rattle.std.proofs.lemmas.List.{with_items_is}
 use Rattle.kube_meta.specs.Plan.{Slot, Migration, running, may_claim, claimed}
 use Rattle.migrate_core.specs.Rows.{keys}
