@@ -72,3 +72,7 @@ level_same m n s t h u rs e f g = rw (e, f, g) refl
 pub no_refused : (s h : Shape) (rs : Rules) → fault s h rs ≡ None → refused schema_differs s h rs ≡ None
 no_refused s h rs e =
     none_left (refused schema_differs s h rs) _ (none_left (schema_spot s h rs) _ (none_right (missing s h rs) _ (none_right (twice rs) _ (no_level s h rs e))))
+
+pub built_is : (n : ℕ) (s h : Shape) (rs : Rules) (u v : Shape) (cs : List Cell) (is : Inners) → u ≡ s → v ≡ h → cs ≡ cells_of n s h rs → is ≡ chosen.inners_of n s h rs
+    → record { spoke = u; hub = v; depth = n; level = level cs is } ≡ fit_of n s h rs
+built_is n s h rs u v cs is e f g i = rw (e, f, g, i) refl

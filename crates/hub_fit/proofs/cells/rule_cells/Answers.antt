@@ -1,4 +1,5 @@
 use Rattle.std.proofs.Common.{◌≡◌, ℕ, suc, ◌+◌, List, [], ◌∷◌, ◌++◌, map, drop, drop-cons, append_assoc, ap, ap₂, sym, ◌∙◌, arith}
+use Rattle.std.proofs.lemmas.List.{append-nil, drop_all}
 use Rattle.struct_schema.specs.ShapeOf.{shape_of}
 use Rattle.hub_cells.specs.Seen.{cell}
 use Rattle.hub_cells.specs.Level.{Cell}
@@ -23,3 +24,11 @@ loop-line-preserved c =
     let later = cells_before n s h (rules_of (map rule rest)) [] in
     ap (λ (cs : List Cell). cs ++ later) c.in_ok-push_cell.ensures ∙ append_assoc (map cell c.loop-line.cells.items) (with_cell n s h (rule item) []) later
     ∙ ap (λ (cs : List Cell). map cell c.loop-line.cells.items ++ cs) (sym (with_cell_front n s h (rule item) later) ∙ ap (λ (ls : List Line). cells_before n s h (rules_of (map rule ls)) []) (sym step)) ∙ c.loop-line.invariant
+
+pub returns : goal.returns
+returns c =
+    let s = shape_of c.args.s.now in
+    let h = shape_of c.args.h.now in
+    let made = map cell c.loop-line.cells.items in
+    sym (append-nil made)
+    ∙ ap (λ (ls : List Line). made ++ cells_before c.args.depth s h (rules_of (map rule ls)) []) (sym (drop_all c.loop-line.line-index c.args.lines.now c.loop-line-test.false)) ∙ c.loop-line.invariant
