@@ -1,17 +1,18 @@
 -- From what an exchange comes to by its code to what a call comes to.
-use Rattle.std.proofs.Common.{◌≡◌, ◌≤◌, ℕ, List, [], ◌∷◌, Option, None, Some, Result, Ok, Err, IfOk, IfErr, refl, ap, sym, ◌∙◌, inl, inr, subst, codes}
-use Rattle.kj_value.specs.Json.{Json, depth}
+use Rattle.std.proofs.Common.{◌≡◌, ◌≤◌, ℕ, List, [], ◌∷◌, Option, None, Some, Result, Ok, Err, IfOk, IfErr, refl, ap, sym, ◌∙◌, inl, inr, subst, codes, arith}
+use Rattle.kj_value.specs.Json.{Json, depth, items_depth, items_of}
 use Rattle.kj_value.specs.Seen.{json}
 use Rattle.kj_value.specs.declared.value.JVal.{JVal}
 use Rattle.object_reading.specs.Fields.{text_at}
 use Rattle.place.specs.Place.{Names}
 use Rattle.wire_client.specs.Far.{Server, Told, Made}
 use Rattle.wire_client.specs.laws.FarLaws.{made_nothing}
-use Rattle.wire_client.specs.Calls.{Call, posts, request_of}
-use Rattle.wire_client.specs.Forms.{Path, Wanted, api_version, fields_of, meta_field, object_fault}
+use Rattle.wire_client.specs.Calls.{Call, lists, posts, request_of}
+use Rattle.wire_client.specs.Forms.{Path, Wanted, api_version, fields_of, meta_field, object_fault, page_fault}
 use Rattle.wire_client.specs.Answers.{Answer, IsAnswer, Reply, given, broken, long, gone, code, shape, success_of, reply_by_code, form_fault, wanted_of, shaped, formed, Replies}
-use Rattle.wire_client.specs.Ends.{Came, Lacked, Ended, OnLinkFault}
+use Rattle.wire_client.specs.Ends.{Came, Lacked, Ended, OnLinkFault, IsPage}
 use Rattle.wire_client.specs.inner.Seen.{ByCode, Asked, Starved, AskedEnd, OnShape}
+use Rattle.wire_client.specs.declared.end.ListPage.{ListPage}
 use Rattle.wire_client.specs.declared.end.WireEnd.{WireEnd}
 use Rattle.wire_client.specs.declared.end.WireEnd.TheVariants as wire
 
@@ -127,3 +128,34 @@ posted ns name = record { ns = Some ns; name = name }
 
 pub posted_is : (ns : List ℕ) (body : Json) (name : Option (List ℕ)) → name ≡ text_at (meta_field (codes "name") (fields_of body)) → posted ns name ≡ wanted_of (posts ns body)
 posted_is ns body name is = ap (λ (o : Option (List ℕ)). posted ns o) is
+
+-- ---- a page
+
+pub page_given : (s : Server) (before now : Told) (n : Names) (limit : ℕ) (token request version : List ℕ) (j : Json) (r : Result ListPage WireEnd)
+    → request ≡ request_of n (lists limit token) → version ≡ api_version n → Asked s before now request (success_of (lists limit token)) (given j)
+    → IfOk r (λ _. page_fault version j ≡ None) → IfOk r (IsPage j) → IfOk r (λ p. (i : Json) × Came s before now n (lists limit token) (given i) × IsPage i p)
+page_given s before now n limit token request version j (Ok p) is vis asked form page = (
+  j,
+  came_given s before now n (lists limit token) request j is asked (ap (λ (v : List ℕ). page_fault v j) (sym vis) ∙ form),
+  page,
+)
+page_given s before now n limit token request version j (Err e) is vis asked form page = form
+
+pub page_ended : (s : Server) (before now : Told) (n : Names) (limit : ℕ) (token request version : List ℕ) (j : Json) (r : Result ListPage WireEnd)
+    → request ≡ request_of n (lists limit token) → version ≡ api_version n → Asked s before now request (success_of (lists limit token)) (given j)
+    → IfErr r (OnShape (λ p. page_fault version j ≡ Some p)) → IfErr r (Ended s before now n (lists limit token))
+page_ended s before now n limit token request version j (Ok p) is vis asked form = form
+page_ended s before now n limit token request version j (Err e) is vis asked form =
+    came_shape s before now n (lists limit token) request j e is asked (turned e form)
+  where
+    turned : (e : WireEnd) → OnShape (λ p. page_fault version j ≡ Some p) e → OnShape (λ p. form_fault (api_version n) (lists limit token) j ≡ Some p) e
+    turned wire.LinkFault h = h
+    turned wire.TooLong h = h
+    turned wire.Gone h = h
+    turned (wire.Code c) h = h
+    turned (wire.Shape path) h = ap (λ (v : List ℕ). page_fault v j) (sym vis) ∙ h
+    turned wire.NoMemory h = h
+
+pub page_levels : (j : Json) (r : Result ListPage WireEnd) (most : ℕ) → depth j ≤ most → IfOk r (λ p. items_depth (items_of p.items) ≤ depth j) → IfOk r (λ p. items_depth (items_of p.items) ≤ most)
+page_levels j (Ok p) most low h = omega (arith, low, h)
+page_levels j (Err e) most low h = h
