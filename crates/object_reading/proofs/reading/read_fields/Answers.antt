@@ -17,3 +17,9 @@ returns-clause-rules c =
 pub returns-clause-whole : goal.returns-clause-whole
 returns-clause-whole c =
     subst IsWritable (sym c.submitted.ensures) (record { body = c.in_ok-o.ensures.body; created = tt; deleted = tt })
+
+pub returns-clause-accepted : goal.returns-clause-accepted
+returns-clause-accepted c = c.in_ok-judge.ensures.accepted
+
+pub returns-clause-object : goal.returns-clause-object
+returns-clause-object c = c.submitted.ensures ∙ c.in_ok-o.ensures.submitted
