@@ -1,5 +1,6 @@
 -- How large lists and objects are as they are built.
-use Rattle.std.proofs.Common.{◌≡◌, ◌≤◌, ◌+◌, ℕ, List, [], ◌∷◌, ◌++◌, length, Option, Some, Ordering, Less, Equal, Greater, nat_cmp, refl, ap, arith}
+use Rattle.std.proofs.Common.{◌≡◌, ◌≤◌, ◌<◌, ◌+◌, ℕ, List, [], ◌∷◌, ◌++◌, length, Option, Some, None, Ordering, Less, Equal, Greater, nat_cmp, refl, ap, arith}
+use Rattle.std.specs.Prelude.{MatchOption}
 use Rattle.std.specs.Ordering.{is_eq, match_ordering}
 use Rattle.std.specs.Cmp.Lexicographic.{slice_cmp}
 use Rattle.kj_value.specs.Json.{Json, null, boolean, whole, text, list, object, items_of, members_of}
@@ -47,3 +48,8 @@ set_within k l v d es fs old new set named is taken =
     let name : length l ≡ length k = ap length named in
     let value : size d ≡ size v = ap size is in
     omega (arith, members_size-with l d es, same, name, value, taken)
+
+-- so much is left beside two parts as beside the one and then the other
+pub beside_both : (r : Option ℕ) (room rest n m : ℕ) → rest + n ≡ room → MatchOption r (rest < m) (λ left. left + m ≡ rest) → MatchOption r (room < n + m) (λ left. left + (n + m) ≡ room)
+beside_both None room rest n m e h = omega (arith, e, h)
+beside_both (Some x) room rest n m e h = omega (arith, e, h)

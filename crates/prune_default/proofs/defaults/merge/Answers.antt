@@ -1,4 +1,5 @@
 use Rattle.std.proofs.Common.{◌≡◌, ◌≤◌, ◌+◌, length, arith, ◌++◌, List, [], ◌∷◌, map, ap, sym, subst, ◌∙◌, append_assoc}
+use Rattle.std.proofs.lemmas.List.{nil_from_length}
 use Rattle.std.specs.Vec.Iter.{into_iter_items}
 use Rattle.kj_value.specs.Json.{members_of}
 use Rattle.kj_value.specs.Seen.{json}
@@ -34,3 +35,13 @@ loop-f-preserved c =
           (ap (λ (fs : List Field). or_value (value_at n (members_of (map pair_of fs))) (or_value (value_at n (members_of l.filled)) (first_default n (shapes_of (map named_shape l.rest.now))))) (sym step) ∙ l.invariant.2 n) (c.in_ok-rest.ensures.set n) (ap (λ (es : Pairs). value_at n (members_of es)) c.in_ok-set.ensures.ok ∙ value_at-with n f.name.bytes (json f.value) c.set_before.new.filled),
       omega (arith, l.invariant.3, size_step, size_set, c.in_ok-rest.ensures.within),
     )
+
+pub returns-clause-set : goal.returns-clause-set
+returns-clause-set c =
+    let l = c.loop-f in
+    let none : into_iter_items l.f-iterator ≡ [] = nil_from_length _ (grind (arith, c.in-None.ensures.steps.0)) in
+    λ n. c.in_ok-set_all.ensures.set n
+    ∙ ap (λ (fs : List Field). or_value (value_at n (members_of (map pair_of fs))) (or_value (value_at n (members_of l.filled)) (first_default n (shapes_of (map named_shape l.rest.now))))) (sym none) ∙ l.invariant.2 n
+
+pub returns-clause-within : goal.returns-clause-within
+returns-clause-within c = omega (arith, c.in_ok-set_all.ensures.within, c.loop-f.invariant.3)

@@ -23,3 +23,9 @@ pub returns-clause-set : goal.returns-clause-set
 returns-clause-set c = λ n.
     let ps = c.args.properties.now in
     ap (λ (qs : List SchemaField). or_value (value_at n (members_of c.loop-i.filled)) (first_default n (shapes_of (map named_shape qs)))) (take_rest ps (length ps) ∙ drop_all (length ps) ps (omega arith) ∙ sym (drop_all c.loop-i.i ps c.loop-i-test.false)) ∙ c.loop-i.invariant.0 n
+
+pub returns-then-ge-clause-within : goal.returns-then-ge-clause-within
+returns-then-ge-clause-within c = c.loop-i.invariant.1
+
+pub returns-clause-within : goal.returns-clause-within
+returns-clause-within c = c.loop-i.invariant.1

@@ -2,7 +2,7 @@ use Rattle.std.proofs.Common.{◌≡◌, ◌≤◌, ◌+◌, length, ◌++◌, �
 use Rattle.std.specs.Prelude.{IfOk}
 use Rattle.std.specs.Vec.Iter.{into_iter_items}
 use Rattle.std.proofs.lemmas.Result.{IfOk-weaker}
-use Rattle.std.proofs.lemmas.List.{nil_from_length}
+use Rattle.std.proofs.lemmas.List.{nil_from_length, append-nil}
 use Rattle.kj_value.specs.Json.{Json, depth, items_depth, members_depth, items_of, members_of}
 use Rattle.kj_value.specs.Seen.{json}
 use Rattle.kj_value.specs.Pair.{pair_of}
@@ -95,3 +95,21 @@ fill_names-returns-clause-filled t c =
 pub fill_object-returns-clause-filled : goal.fill_object-returns-clause-filled
 fill_object-returns-clause-filled t c =
     IfOk-weaker c.set_defaults.result _ _ (λ ns h n. name_filled (map_of c.args.s.now.properties) (maybe_of c.args.s.now.additional) c.args.s.now.preserve n _ _ _ (c.in_ok-kept.ensures.filled n) (h n)) c.set_defaults.ensures.set
+
+pub fill_object-returns-clause-within : goal.fill_object-returns-clause-within
+fill_object-returns-clause-within t c =
+    IfOk-weaker c.set_defaults.result _ _ (λ ns h. omega (arith, h, c.in_ok-kept.ensures.within)) c.set_defaults.ensures.within
+
+pub fill_names-returns-clause-within : goal.fill_names-returns-clause-within
+fill_names-returns-clause-within t c = omega (arith, c.loop-f.invariant.3)
+
+pub fill_items-returns-clause-within : goal.fill_items-returns-clause-within
+fill_items-returns-clause-within t c = omega (arith, c.loop-x.invariant.3)
+
+pub fill_items-returns-clause-filled : goal.fill_items-returns-clause-filled
+fill_items-returns-clause-filled t c =
+    let l = c.loop-x in
+    let done = l.invariant.0 in
+    let none : into_iter_items l.x-iterator ≡ [] = nil_from_length _ (grind (arith, c.in-None.ensures.steps.0)) in
+    let all : c.args.items ≡ done = l.invariant.1 ∙ ap (λ (vs : List JVal). done ++ map json vs) none ∙ append-nil done in
+    subst (λ (js : List Json). EachItem (λ a b. ItemFilled (some_shape (shape_of c.args.node.now)) a b) (items_of js) (items_of l.filled)) (sym all) l.invariant.2
