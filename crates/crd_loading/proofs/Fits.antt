@@ -1,27 +1,31 @@
 -- The fits of the spokes.
-use Rattle.std.proofs.Common.{◌≡◌, ◌≤◌, ℕ, suc, ◌+◌, List, [], ◌∷◌, ◌++◌, Bool, true, false, ◌||◌, cond, Option, Some, None, refl, ap, sym, subst, ◌∙◌, arith}
-use Rattle.std.specs.Prelude.{slice_get}
+use Rattle.std.proofs.Common.{◌≡◌, ◌≤◌, ◌<◌, ℕ, suc, ◌+◌, List, [], ◌∷◌, ◌++◌, Bool, true, false, ◌||◌, cond, nat_eq, Option, Some, None, map, drop, length, get_or, refl, ap, sym, subst, ◌∙◌, append_assoc, arith}
+use Rattle.std.proofs.lemmas.List.{drop_more}
+use Rattle.std.specs.Prelude.{slice_get, IfNone}
 use Rattle.std.specs.Str.{bytes_eq}
 use Rattle.struct_schema.specs.Shape.{Shape}
+use Rattle.struct_schema.specs.Fault.{or_else}
 use Rattle.hub_cells.specs.Fit.{Fit, IsFitted}
 use Rattle.rule_reading.specs.SetRead.{Spoke}
 use Rattle.kj_value.specs.Txt.{Bytes}
 use Rattle.hub_rules.specs.Rule.{Rules, inner_depth}
 use Rattle.hub_rules.specs.Sound.{AreSoundRules}
-use Rattle.hub_rules.specs.Refusal.{Fault, Why, name_twice, name_missing, schema_differs, unpaired_default, required_lost, range_lost}
+use Rattle.hub_rules.specs.Refusal.{Fault, Why, fit_fault, name_twice, name_missing, schema_differs, unpaired_default, required_lost, range_lost}
 use Rattle.hub_rules.specs.Told.{path_text}
 use Rattle.hub_fit.specs.Chosen.{fit_of}
 use Rattle.hub_fit.specs.Refuses.{RefusesFit}
 use Rattle.hub_rules.specs.declared.rules.TheConstants.{MAX_OBJECTS}
 use Rattle.hub_rules.specs.declared.refusal.FitFault.TheVariants.{NameTwice, NameMissing, SchemaDiffers, UnpairedDefault, RequiredLost, RangeLost}
 use Rattle.crd_reading.specs.View.{VersionView}
+use Rattle.crd_reading.specs.Seen.{version_of}
+use Rattle.crd_reading.specs.declared.definition.Version.{Version}
 use Rattle.crd_reading.specs.Offered.{has_version}
 use Rattle.crd_loading.specs.Words.{fit_word}
 use Rattle.crd_reading.specs.Refusal.{Refusal}
 use Rattle.crd_reading.specs.Told.{NamesDefinitionFault as NamesRefusal}
 use Rattle.crd_reading.specs.declared.reading.DefinitionFault.TheVariants.{Refused}
-use Rattle.crd_loading.specs.Blame.{blame, of_definition, of_fit}
-use Rattle.crd_loading.specs.Fits.{IsRuled, Placed, version_from, spokes_of, fits_of}
+use Rattle.crd_loading.specs.Blame.{Blame, blame, of_definition, of_fit}
+use Rattle.crd_loading.specs.Fits.{IsRuled, Placed, version_from, spokes_from, spokes_of, rules_for, fits_of, fits_blame}
 use Rattle.crd_loading.specs.inner.AllFitted.{AllFitted}
 use Rattle.crd_loading.specs.View.{FitVersions, FitHub}
 
@@ -109,3 +113,65 @@ fit_hub n ss vs h fs e is a =
     let all : AllFitted (fits_of h.1.schema ss (spokes_of h.0 vs)) = subst AllFitted is a in
     subst (λ (o : Option VersionView). FitHub o h.0 vs fs) (sym (placed n vs h e))
     (subst (λ (gs : List Fit). FitVersions h.1.schema (spokes_of h.0 vs) gs) (sym is) (fit_versions h.1.schema ss (spokes_of h.0 vs) all))
+
+-- ---- one version more
+
+at_next : (hub i : ℕ) (w : VersionView) (rest : List VersionView) (b : Bool) → b ≡ nat_eq i hub
+    → cond b (spokes_from hub (i + 1) rest) (w ∷ spokes_from hub (i + 1) rest) ≡ spokes_from hub i (w ∷ rest)
+at_next hub i w rest b here =
+    let next : i + 1 ≡ suc i = omega arith in
+    ap (λ (k : ℕ). cond b (spokes_from hub k rest) (w ∷ spokes_from hub k rest)) next
+    ∙ ap (λ (c : Bool). cond c (spokes_from hub (suc i) rest) (w ∷ spokes_from hub (suc i) rest)) here
+
+at_rest : (vs : List Version) (i : ℕ) (v : Version) → i < length vs → v ≡ get_or vs i v → map version_of (drop i vs) ≡ version_of v ∷ map version_of (drop (i + 1) vs)
+at_rest vs i v p e = ap (map version_of) (drop_more vs i v p ∙ ap (λ (y : Version). y ∷ drop (i + 1) vs) (sym e))
+
+pub fits_step : (h : Shape) (ss : List Spoke) (hub i : ℕ) (vs : List Version) (v : Version) (b : Bool) (fs gs all : List Fit) → i < length vs → v ≡ get_or vs i v → b ≡ nat_eq i hub
+    → gs ≡ cond b fs (fs ++ fit_of 0 (version_of v).schema h (rules_for (version_of v).name ss) ∷ [])
+    → fs ++ fits_of h ss (spokes_from hub i (map version_of (drop i vs))) ≡ all → gs ++ fits_of h ss (spokes_from hub (i + 1) (map version_of (drop (i + 1) vs))) ≡ all
+fits_step h ss hub i vs v b fs gs all p e here made is =
+    let rest = map version_of (drop (i + 1) vs) in
+    ap (λ (xs : List Fit). xs ++ fits_of h ss (spokes_from hub (i + 1) rest)) made ∙ turned b
+    ∙ ap (λ (ws : List VersionView). fs ++ fits_of h ss ws) (at_next hub i (version_of v) rest b here)
+    ∙ ap (λ (ws : List VersionView). fs ++ fits_of h ss (spokes_from hub i ws)) (sym (at_rest vs i v p e)) ∙ is
+  where
+    later : List VersionView
+    later = spokes_from hub (i + 1) (map version_of (drop (i + 1) vs))
+
+    turned : (c : Bool) → cond c fs (fs ++ fit_of 0 (version_of v).schema h (rules_for (version_of v).name ss) ∷ []) ++ fits_of h ss later ≡ fs ++ fits_of h ss (cond c later (version_of v ∷ later))
+    turned true = refl
+    turned false = append_assoc fs (fit_of 0 (version_of v).schema h (rules_for (version_of v).name ss) ∷ []) (fits_of h ss later)
+
+pub blame_step : (h : Shape) (ss : List Spoke) (hub i : ℕ) (vs : List Version) (v : Version) (b : Bool) (all : Option Blame) → i < length vs → v ≡ get_or vs i v → b ≡ nat_eq i hub
+    → None ≡ cond b None (of_fit (fit_fault (version_of v).schema h (rules_for (version_of v).name ss)))
+    → fits_blame h ss (spokes_from hub i (map version_of (drop i vs))) ≡ all → fits_blame h ss (spokes_from hub (i + 1) (map version_of (drop (i + 1) vs))) ≡ all
+blame_step h ss hub i vs v b all p e here none is =
+    turned b none
+    ∙ ap (λ (ws : List VersionView). fits_blame h ss ws) (at_next hub i (version_of v) (map version_of (drop (i + 1) vs)) b here)
+    ∙ ap (λ (ws : List VersionView). fits_blame h ss (spokes_from hub i ws)) (sym (at_rest vs i v p e)) ∙ is
+  where
+    later : List VersionView
+    later = spokes_from hub (i + 1) (map version_of (drop (i + 1) vs))
+
+    turned : (c : Bool) → None ≡ cond c None (of_fit (fit_fault (version_of v).schema h (rules_for (version_of v).name ss)))
+        → fits_blame h ss later ≡ fits_blame h ss (cond c later (version_of v ∷ later))
+    turned true n = refl
+    turned false n = ap (λ (o : Option Blame). or_else o (fits_blame h ss later)) n
+
+pub blamed_here : (h : Shape) (ss : List Spoke) (hub i : ℕ) (vs : List Version) (v : Version) (b : Bool) (x : Blame) (all : Option Blame) → i < length vs → v ≡ get_or vs i v → b ≡ nat_eq i hub
+    → Some x ≡ cond b None (of_fit (fit_fault (version_of v).schema h (rules_for (version_of v).name ss)))
+    → fits_blame h ss (spokes_from hub i (map version_of (drop i vs))) ≡ all → Some x ≡ all
+blamed_here h ss hub i vs v b x all p e here told is =
+    turned b told
+    ∙ ap (λ (ws : List VersionView). fits_blame h ss ws) (at_next hub i (version_of v) (map version_of (drop (i + 1) vs)) b here)
+    ∙ ap (λ (ws : List VersionView). fits_blame h ss (spokes_from hub i ws)) (sym (at_rest vs i v p e)) ∙ is
+  where
+    later : List VersionView
+    later = spokes_from hub (i + 1) (map version_of (drop (i + 1) vs))
+
+    turned : (c : Bool) → Some x ≡ cond c None (of_fit (fit_fault (version_of v).schema h (rules_for (version_of v).name ss))) → Some x ≡ fits_blame h ss (cond c later (version_of v ∷ later))
+    turned true n = cc
+    turned false n = ap (λ (o : Option Blame). or_else o (fits_blame h ss later)) n
+
+pub none_of : {A : Type 0} (o : Option A) (P : Type 0) → o ≡ None → IfNone o P → P
+none_of o P is h = subst (λ x. IfNone x P) is h

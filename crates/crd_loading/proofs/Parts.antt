@@ -13,7 +13,7 @@ use Rattle.crd_reading.specs.declared.definition.Version.{Version}
 use Rattle.crd_loading.specs.Fits.{spokes_of, levels_in}
 use Rattle.crd_loading.specs.View.{LoadedView, FitVersions, IsTogether}
 use Rattle.crd_meaning.specs.Definition.{Definition, no_version, IsLoaded}
-use Rattle.crd_loading.specs.Set.{named_fits, spokes_in}
+use Rattle.crd_loading.specs.Set.{named_fits, spokes_in, set_of}
 use Rattle.crd_loading.proofs.LoadedSet.{hub_of, hub_within, loaded}
 use Rattle.crd_loading.proofs.Defined.{levels-named}
 
@@ -105,3 +105,6 @@ made d h a = record { view = d; hub = h; spokes = a }
 pub is_loaded : (d : DefinitionView) (h : ℕ) (fs : List Fit) (a : Spokes) → IsTogether (parts d h fs) → a ≡ spokes_in (parts d h fs) → IsDefinition a → IsLoaded (made d h a)
 is_loaded d h fs a t is k =
     subst (λ (b : Spokes). IsLoaded (made d h b)) (sym is) (loaded (parts d h fs) t (subst IsDefinition is k))
+
+pub set_is : (l : LoadedView) (d : DefinitionView) (h : ℕ) (fs : List Fit) (a : Spokes) → d ≡ l.definition → h ≡ l.hub → fs ≡ l.spokes → a ≡ spokes_in (parts d h fs) → made d h a ≡ set_of l
+set_is l d h fs a e f g is = ap (λ (b : Spokes). made d h b) is ∙ ap set_of (joined l d h fs e f g)

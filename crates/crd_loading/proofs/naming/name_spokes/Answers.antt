@@ -51,3 +51,15 @@ returns-clause-spokes c =
     let e = c.versions-versions.ensures.value in
     let q = name_is vs d h c.index-versions-hub.result n e (named_within vs d h fs e c.requires) (c.in_ok-name.ensures ∙ c.as_str-2.ensures) in
     c.new-spokes.ensures ∙ whole vs d h fs c.in_ok-group.group.bytes n c.in_ok-items.items.items e (c.in_ok-group.ensures ∙ c.as_str.ensures ∙ c.group.ensures) q c.in_ok-items.ensures
+
+pub returns-clause-definition : goal.returns-clause-definition
+returns-clause-definition c =
+    let vs = c.versions-versions.result.now in
+    let d = c.args.definition.now in
+    let h = c.args.hub in
+    let fs = c.args.fits.items in
+    let n = c.in_ok-name.name.bytes in
+    let e = c.versions-versions.ensures.value in
+    let q = name_is vs d h c.index-versions-hub.result n e (named_within vs d h fs e c.requires) (c.in_ok-name.ensures ∙ c.as_str-2.ensures) in
+    let is = c.new-spokes.ensures ∙ whole vs d h fs c.in_ok-group.group.bytes n c.in_ok-items.items.items e (c.in_ok-group.ensures ∙ c.as_str.ensures ∙ c.group.ensures) q c.in_ok-items.ensures in
+    subst IsDefinition (sym is) (is_definition c.valid_defaults.ensures (parts d h fs) c.requires c.room_of_rules.ensures c.none_late.ensures)
