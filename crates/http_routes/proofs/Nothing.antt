@@ -1,5 +1,5 @@
 -- Segments that name nothing, by how many there are: only some lines of the table have so many.
-use Rattle.std.proofs.Common.{◌≡◌, ◌≢◌, ◌==◌, true, ◌∙◌, ◌<◌, ◌≤◌, ℕ, List, [], ◌∷◌, Option, Some, None, get_or, length, refl, ap, sym, arith, lit≤}
+use Rattle.std.proofs.Common.{◌≡◌, ◌≢◌, ◌==◌, true, false, ◌∙◌, ◌<◌, ◌≤◌, ℕ, List, [], ◌∷◌, Option, Some, None, get_or, length, refl, ap, sym, arith, lit≤}
 use Rattle.std.specs.Prelude.{IsTrue, MatchOption}
 use Rattle.std.proofs.lemmas.Bool.Decides.{nat_tests}
 use Rattle.kube_meta.specs.Names.{is_name, is_namespace}
@@ -231,6 +231,12 @@ of_eight (a ∷ b ∷ c ∷ d ∷ f ∷ g ∷ h ∷ []) e = let never : ⊥ = om
 of_eight (a ∷ b ∷ c ∷ d ∷ f ∷ g ∷ h ∷ i ∷ []) e = refl
 of_eight (a ∷ b ∷ c ∷ d ∷ f ∷ g ∷ h ∷ i ∷ x ∷ xs) e = let never : ⊥ = omega arith in absurd never
 
+pub made_three : (ss : List (List ℕ)) (a b : List ℕ) → length ss ≡ 3 → get_or ss 0 [] ≡ [] → a ≡ get_or ss 1 [] → b ≡ get_or ss 2 [] → [] ∷ a ∷ b ∷ [] ≡ ss
+made_three ss a b count root p q = let e : ss ≡ get_or ss 0 [] ∷ get_or ss 1 [] ∷ get_or ss 2 [] ∷ [] = of_three ss count in cc
+
+pub made_four : (ss : List (List ℕ)) (a b c : List ℕ) → length ss ≡ 4 → get_or ss 0 [] ≡ [] → a ≡ get_or ss 1 [] → b ≡ get_or ss 2 [] → c ≡ get_or ss 3 [] → [] ∷ a ∷ b ∷ c ∷ [] ≡ ss
+made_four ss a b c count root p q r = let e : ss ≡ get_or ss 0 [] ∷ get_or ss 1 [] ∷ get_or ss 2 [] ∷ get_or ss 3 [] ∷ [] = of_four ss count in cc
+
 pub made_five : (ss : List (List ℕ)) (a b c d : List ℕ) → length ss ≡ 5 → get_or ss 0 [] ≡ []
     → a ≡ get_or ss 1 [] → b ≡ get_or ss 2 [] → c ≡ get_or ss 3 [] → d ≡ get_or ss 4 [] → [] ∷ a ∷ b ∷ c ∷ d ∷ [] ≡ ss
 made_five ss a b c d count root p q r s = let e : ss ≡ get_or ss 0 [] ∷ get_or ss 1 [] ∷ get_or ss 2 [] ∷ get_or ss 3 [] ∷ get_or ss 4 [] ∷ [] = of_five ss count in cc
@@ -250,3 +256,7 @@ made_eight ss a b c d f g h count root p q r s t u w = let e : ss ≡ get_or ss 
 pub empty_of : (xs : List ℕ) → true ≡ (length xs == 0) → xs ≡ []
 empty_of [] e = refl
 empty_of (x ∷ xs) e = let n : length (x ∷ xs) ≡ 0 = grind (arith, nat_tests) in let never : ⊥ = omega (arith, n) in absurd never
+
+pub some_of : (xs : List ℕ) → false ≡ (length xs == 0) → xs ≡ [] → ⊥
+some_of [] e h = absurd (cc)
+some_of (x ∷ xs) e h = absurd (cc)

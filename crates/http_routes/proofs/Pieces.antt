@@ -1,5 +1,5 @@
 -- The pieces of a path, read from its front.
-use Rattle.std.proofs.Common.{◌≡◌, ◌≢◌, ◌==◌, ℕ, ◌+◌, ◌<◌, ◌≤◌, Bool, true, false, cond, List, [], ◌∷◌, ◌++◌, length, map, take, drop, set, get_or, refl, ap, sym, ◌∙◌, append_assoc, add-one, arith, drop-cons, length-append}
+use Rattle.std.proofs.Common.{◌≡◌, ◌≢◌, ◌==◌, ℕ, ◌+◌, ◌<◌, ◌≤◌, Bool, true, false, cond, List, [], ◌∷◌, ◌++◌, length, map, take, drop, set, get_or, refl, ap, ap₂, sym, ◌∙◌, append_assoc, add-one, arith, drop-cons, length-append}
 use Rattle.std.specs.Borrow.{Bor}
 use Rattle.std.proofs.lemmas.List.{append-nil, take_more, take_more_set, drop_all, take_all, length-map, map-append}
 use Rattle.std.proofs.lemmas.Bool.Decides.{nat_tests}
@@ -125,3 +125,9 @@ pub last_one : (parts : List (Bor (List ℕ))) (count : ℕ) (segment : Bor (Lis
     → all ≡ map now_of (take (count + 1) (set parts count segment))
 last_one parts count segment all left within so_far is =
     one_more parts count segment all left [] within so_far is ∙ append-nil (map now_of (take (count + 1) (set parts count segment)))
+
+pub mapped_step : {A B C : Type 0} (f : A → C) (g : B → C) (vs ws : List A) (v : A) (xs : List B) (i : ℕ) (x : B) → i < length xs → x ≡ get_or xs i x → ws ≡ vs ++ v ∷ [] → f v ≡ g x → map f vs ≡ map g (take i xs)
+    → map f ws ≡ map g (take (i + 1) xs)
+mapped_step f g vs ws v xs i x p e push here h =
+    let step = take_more xs i x p ∙ ap (λ y. take i xs ++ y ∷ []) (sym e) in
+    ap (map f) push ∙ map-append f vs (v ∷ []) ∙ ap₂ (λ ys y. ys ++ y ∷ []) h here ∙ sym (map-append g (take i xs) (x ∷ [])) ∙ ap (map g) (sym step)
