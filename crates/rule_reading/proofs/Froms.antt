@@ -1,6 +1,7 @@
 -- Lists that are read item by item, from a place on.
 use Rattle.std.proofs.Common.{◌≡◌, ◌<◌, ◌≤◌, ◌+◌, ℕ, zero, suc, List, [], ◌∷◌, ◌++◌, Result, Ok, Err, map, drop, length, get_or, refl, ap, sym, subst, ◌∙◌, add-one, arith}
-use Rattle.std.proofs.lemmas.List.{drop_all}
+use Rattle.std.specs.Map.{keys_of}
+use Rattle.std.proofs.lemmas.List.{drop_all, map_push}
 use Rattle.kj_value.specs.Json.{Json, items_of, members_of}
 use Rattle.kj_value.specs.Seen.{json}
 use Rattle.kj_value.specs.Pair.{pair_of}
@@ -108,6 +109,13 @@ pub spokes_stop : (hub : Name) (fs : List Field) (i : ℕ) (f : Field) (ss : Lis
 spokes_stop hub fs i f ss p goal h e sofar read =
     let here = subst (λ (l : List Field). behind ss (spokes_from hub (members_of (map pair_of l))) ≡ goal) (drop_is fs i f h e) sofar in
     subst (λ (q : Result Spoke Path). behind ss (more q (λ x. spokes_from hub (members_of (map pair_of (drop (i + 1) fs))))) ≡ goal) (sym read) here
+
+pub names_step : (fs : List Field) (i : ℕ) (f : Field) (ss : List Spoke) (s : Spoke) {whole : List Name} → i < length fs → f ≡ get_or fs i f → s.0 ≡ f.name.bytes
+    → keys_of ss ++ keys_of (map pair_of (drop i fs)) ≡ whole → keys_of (ss ++ s ∷ []) ++ keys_of (map pair_of (drop (i + 1) fs)) ≡ whole
+names_step fs i f ss s h e name sofar =
+    let rest : List Name = keys_of (map pair_of (drop (i + 1) fs)) in
+    ap (λ (ns : List Name). ns ++ rest) (map_push (λ (x : Spoke). x.0) ss s) ∙ sym (append-one (keys_of ss) s.0 rest) ∙ ap (λ (n : Name). keys_of ss ++ n ∷ rest) name
+    ∙ ap (λ (l : List Field). keys_of ss ++ keys_of (map pair_of l)) (sym (drop_is fs i f h e)) ∙ sofar
 
 pub spokes_end : (hub : Name) (fs : List Field) (i : ℕ) (ss : List Spoke) (goal : Result (List Spoke) Path) → length fs ≤ i → behind ss (spokes_from hub (members_of (map pair_of (drop i fs)))) ≡ goal → Ok ss ≡ goal
 spokes_end hub fs i ss goal h sofar =
