@@ -10,6 +10,7 @@ use Rattle.struct_schema.specs.PathText.{Path, here, in_name}
 use Rattle.rule_reading.specs.Tried.{under_name, both}
 use Rattle.rule_reading.specs.Shapes.{field_at, at_name, named_value, read_in, field_read, beyond, ended, names_read}
 use Rattle.rule_reading.specs.RuleRead.{one_field, rule_size, rules_size, plain_read, rule_by, rule_read, within_by, within_read, rules_read}
+use Rattle.rule_reading.proofs.Plains.{first_stops, second_stops, beyond_stops}
 use Rattle.std.specs.Str.{bytes_eq}
 use Rattle.std.proofs.lemmas.Bool.Decides.{nat_tests}
 use Rattle.std.specs.Prelude.{Bool, true, cond, nat_lt}
@@ -47,6 +48,24 @@ within_ok d n ms a j rs e1 e2 e3 e4 =
     let s1 = subst (λ (x : Result (Name × Name) Path). T ≡ ended None (within_by (both x (field_read (word w.Rules) (rules_read d n) 1 ms)))) e1 s2 in
     let s0 = subst (λ (o : Option Path). T ≡ ended o (within_by (both (field_read (word w.Names) names_read 0 ms) (field_read (word w.Rules) (rules_read d n) 1 ms)))) e4 s1 in
     s0 ∙ sym (within_is d n ms)
+
+-- where something of it is refused
+
+pub within_first : (d n : ℕ) (ms : Members) {p : Path} → Err p ≡ field_read (word w.Names) names_read 0 ms → Err p ≡ within_read d n (object ms)
+within_first d n ms e1 =
+    first_stops (λ p. within p.0.0 p.0.1 (rules_of p.1)) (beyond (field_at 2 ms)) (field_read (word w.Names) names_read 0 ms) (field_read (word w.Rules) (rules_read d n) 1 ms) e1 ∙ sym (within_is d n ms)
+
+pub within_second : (d n : ℕ) (ms : Members) {a : Name × Name} {p : Path} → Ok a ≡ field_read (word w.Names) names_read 0 ms → Err p ≡ named_value (word w.Rules) (field_at 1 ms) → Err p ≡ within_read d n (object ms)
+within_second d n ms e1 e2 =
+    second_stops (λ p. within p.0.0 p.0.1 (rules_of p.1)) (beyond (field_at 2 ms)) (field_read (word w.Names) names_read 0 ms) (field_read (word w.Rules) (rules_read d n) 1 ms) e1 (ap (read_in (word w.Rules) (rules_read d n)) e2)
+    ∙ sym (within_is d n ms)
+
+pub within_beyond : (d n : ℕ) (ms : Members) {a : Name × Name} {j : Json} {rs : List Rule} {p : Path} → Ok a ≡ field_read (word w.Names) names_read 0 ms → Ok j ≡ named_value (word w.Rules) (field_at 1 ms)
+    → Ok rs ≡ rules_read d n j → Some p ≡ beyond (field_at 2 ms) → Err p ≡ within_read d n (object ms)
+within_beyond d n ms e1 e2 e3 e4 =
+    beyond_stops (λ p. within p.0.0 p.0.1 (rules_of p.1)) (beyond (field_at 2 ms)) (field_read (word w.Names) names_read 0 ms) (field_read (word w.Rules) (rules_read d n) 1 ms) e1
+    (ap (under_name (word w.Rules)) e3 ∙ ap (read_in (word w.Rules) (rules_read d n)) e2) e4
+    ∙ sym (within_is d n ms)
 
 -- a rule by its one name
 pub rule_is : (d n : ℕ) (j : Json) (f : Name × Json) → one_field j ≡ Some f → rule_read d n j ≡ rule_by d n f.0 f.1 (within_read (d + 1) (n + 1) f.1)

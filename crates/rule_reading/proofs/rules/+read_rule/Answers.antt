@@ -4,12 +4,13 @@ use Rattle.kj_value.specs.Seen.{json}
 use Rattle.kj_value.specs.laws.Inside.{item_depth}
 use Rattle.hub_rules.specs.Seen.{rule}
 use Rattle.std.specs.Str.{bytes_eq}
+use Rattle.std.specs.Prelude.{option_map}
 use Rattle.rule_reading.specs.RuleRead.{one_field}
 use Rattle.rule_reading.specs.Words.{word}
-use Rattle.rule_reading.specs.Told.{answer, two_bytes}
+use Rattle.rule_reading.specs.Told.{answer, path_of, two_bytes}
 use Rattle.rule_reading.specs.declared.words.Word.TheVariants as w
 use Rattle.rule_reading.proofs.Froms.{behind_nil, rules_step}
-use Rattle.rule_reading.proofs.Within.{rule_is, rule_by_ok, within_ok, value_depth, depth_push, size_push}
+use Rattle.rule_reading.proofs.Within.{rule_is, rule_by_ok, within_first, within_second, within_beyond, within_ok, value_depth, depth_push, size_push}
 use Rattle.rule_reading.proofs.rules.+read_rule.Goals as goal
 
 pub read_lines-loop-i-init : goal.read_lines-loop-i-init
@@ -40,6 +41,16 @@ read_object-read_rules_in-requires t c =
 pub read_object-returns-in-None-clause-read : goal.read_object-returns-in-None-clause-read
 read_object-returns-in-None-clause-read t c =
     within_ok c.args.depth c.args.count.now (members_of c.args.fields.now) (two_bytes c.in-Ok.names) (json c.in-Ok-2.inner.now) c.in-Ok-3.rules (rw c.in-Ok.is at c.in_ok-spot.ensures) (rw c.in-Ok-2.is at c.in_ok-spot-2.ensures) (rw c.in-Ok-3.is at c.in_ok-spot-3.ensures.read) (rw c.in-None.is at c.in_ok-spot-4.ensures)
+
+pub read_object-returns-in-Err-clause-read : goal.read_object-returns-in-Err-clause-read
+read_object-returns-in-Err-clause-read t c = within_first c.args.depth c.args.count.now (members_of c.args.fields.now) (ap (answer two_bytes) (sym c.in-Err.is) ∙ c.in_ok-spot.ensures)
+
+pub read_object-returns-in-Err-2-clause-read : goal.read_object-returns-in-Err-2-clause-read
+read_object-returns-in-Err-2-clause-read t c = within_second c.args.depth c.args.count.now (members_of c.args.fields.now) (ap (answer two_bytes) (sym c.in-Ok.is) ∙ c.in_ok-spot.ensures) (ap (answer (λ v. json v.now)) (sym c.in-Err-2.is) ∙ c.in_ok-spot-2.ensures)
+
+pub read_object-returns-in-Some-clause-read : goal.read_object-returns-in-Some-clause-read
+read_object-returns-in-Some-clause-read t c =
+    within_beyond c.args.depth c.args.count.now (members_of c.args.fields.now) (ap (answer two_bytes) (sym c.in-Ok.is) ∙ c.in_ok-spot.ensures) (ap (answer (λ v. json v.now)) (sym c.in-Ok-2.is) ∙ c.in_ok-spot-2.ensures) (rw c.in-Ok-3.is at c.in_ok-spot-3.ensures.read) (ap (option_map path_of) (sym c.in-Some.is) ∙ c.in_ok-spot-4.ensures)
 
 pub read_rule-returns-in-Ok-clause-read : goal.read_rule-returns-in-Ok-clause-read
 read_rule-returns-in-Ok-clause-read t c =
