@@ -1,5 +1,5 @@
 use Rattle.std.proofs.lemmas.Result.{err_from_is_err_and}
-use Rattle.std.proofs.Common.{rules, ◌≡◌, ◌+◌, List, Option, map, sym, ◌∙◌, subst}
+use Rattle.std.proofs.Common.{rules, ◌≡◌, ◌+◌, List, Option, map, refl, sym, ◌∙◌, subst}
 use Rattle.edge_io.specs.Connections.{Origin, Ending, HandsOut}
 use Rattle.shared_api.specs.declared.cell.CoreBase.{CoreBase}
 use Rattle.serve_spans.specs.inner.Keeping.{Going, Job}
@@ -43,3 +43,21 @@ returns-in_err-input-clause-going g c n asked idle v0 h0 g0 crew count start =
     at_err c.from_residual.result _ _ p.0 p.1
     (subst (λ (z : Option (List Origin) × Option (List Ending)). Going (IsAnswered g.V.Tool.Tool.faults f) n asked idle v0 h0 g0 crew before c.args.pass.now.view count z.0 z.1)
     (λ i. (sym c.in_err-input.ensures.origins i, sym c.next.ensures.returned i)) start)
+
+pub returns-clause-of : goal.returns-clause-of
+returns-clause-of g c = c.take_in.ensures.of
+
+pub returns-clause-links : goal.returns-clause-links
+returns-clause-links g c = c.take_in.ensures.links
+
+pub returns-clause-room : goal.returns-clause-room
+returns-clause-room g c = (c.take_in.ensures.room.0, c.take_in.ensures.room.1 ∙ c.reap.ensures.capacity)
+
+pub returns-in_err-input-clause-of : goal.returns-in_err-input-clause-of
+returns-in_err-input-clause-of g c = c.requires.of
+
+pub returns-in_err-input-clause-links : goal.returns-in_err-input-clause-links
+returns-in_err-input-clause-links g c = c.requires.links
+
+pub returns-in_err-input-clause-room : goal.returns-in_err-input-clause-room
+returns-in_err-input-clause-room g c = (c.requires.room.0, refl)

@@ -1,4 +1,4 @@
-use Rattle.std.proofs.Common.{rules, ◌≡◌, ◌++◌, ◌∷◌, [], ◌+◌, All, List, map, refl, ap, sym, ◌∙◌, subst}
+use Rattle.std.proofs.Common.{rules, ◌≡◌, ◌++◌, ◌∷◌, [], ◌+◌, All, List, map, refl, ap, sym, ◌∙◌, subst, arith}
 use Rattle.shared_api.specs.Passes.{IsOf}
 use Rattle.shared_api.specs.declared.cell.CoreBase.{CoreBase}
 use Rattle.turn_cell.specs.declared.view.View.{View}
@@ -72,3 +72,60 @@ returns-in-Err-clause-going g c n asked idle v0 h0 g0 crew count handed later ou
     going_begun (IsAnswered g.V.Tool.Tool.faults f) (answered_grows g.V.Tool.Tool.faults f) n asked idle v0 h0 g0 crew j p o c.args.pass.now.view v count handed later given start made.1 made.2 out in
     going_last (IsAnswered g.V.Tool.Tool.faults f) (answered_grows g.V.Tool.Tool.faults f) n asked idle v0 h0 g0 crew j p o v c.in-Err.outcome.pass.view u (count + 1) later given (g.A.Ears.returned c.give_back.new.ears) (g.A.Ears.ending c.in-Err.outcome.ended)
     next (c.in-Err.ensures.done c.args.api.now made.0).1 c.give_back.ensures.met c.give_back.ensures.returned
+
+pub returns-then-len-ge-MOST_RUNNING-clause-of : goal.returns-then-len-ge-MOST_RUNNING-clause-of
+returns-then-len-ge-MOST_RUNNING-clause-of g c = c.serve_here.ensures.of
+
+pub returns-then-len-ge-MOST_RUNNING-clause-links : goal.returns-then-len-ge-MOST_RUNNING-clause-links
+returns-then-len-ge-MOST_RUNNING-clause-links g c = c.requires.links
+
+pub returns-then-len-ge-MOST_RUNNING-clause-room : goal.returns-then-len-ge-MOST_RUNNING-clause-room
+returns-then-len-ge-MOST_RUNNING-clause-room g c = (c.requires.room.0, refl)
+
+pub returns-then-len-ge-MOST_RUNNING-clause-faults : goal.returns-then-len-ge-MOST_RUNNING-clause-faults
+returns-then-len-ge-MOST_RUNNING-clause-faults g c = c.serve_here.ensures.faults
+
+pub returns-then-len-ge-MOST_RUNNING-clause-origins : goal.returns-then-len-ge-MOST_RUNNING-clause-origins
+returns-then-len-ge-MOST_RUNNING-clause-origins g c = c.serve_here.ensures.origins
+
+pub returns-in_default-clause-of : goal.returns-in_default-clause-of
+returns-in_default-clause-of g c = c.serve_here-in_default.ensures.of
+
+pub returns-in_default-clause-links : goal.returns-in_default-clause-links
+returns-in_default-clause-links g c = c.requires.links
+
+pub returns-in_default-clause-room : goal.returns-in_default-clause-room
+returns-in_default-clause-room g c = (c.requires.room.0, refl)
+
+pub returns-in_default-clause-faults : goal.returns-in_default-clause-faults
+returns-in_default-clause-faults g c = c.serve_here-in_default.ensures.faults
+
+pub returns-in_default-clause-origins : goal.returns-in_default-clause-origins
+returns-in_default-clause-origins g c = c.serve_here-in_default.ensures.origins
+
+pub returns-in-Err-clause-of : goal.returns-in-Err-clause-of
+returns-in-Err-clause-of g c = c.give_back.ensures.of
+
+pub returns-in-Err-clause-links : goal.returns-in-Err-clause-links
+returns-in-Err-clause-links g c = c.requires.links
+
+pub returns-in-Err-clause-room : goal.returns-in-Err-clause-room
+returns-in-Err-clause-room g c = (c.requires.room.0, refl)
+
+pub returns-in-Err-clause-faults : goal.returns-in-Err-clause-faults
+returns-in-Err-clause-faults g c = c.give_back.ensures.faults
+
+pub returns-in-Err-clause-origins : goal.returns-in-Err-clause-origins
+returns-in-Err-clause-origins g c = c.give_back.ensures.origins
+
+pub returns-in-Ok-clause-of : goal.returns-in-Ok-clause-of
+returns-in-Ok-clause-of g c = c.make_pass.ensures.of
+
+pub returns-in-Ok-clause-room : goal.returns-in-Ok-clause-room
+returns-in-Ok-clause-room g c = (omega (arith, c.push_reserved.ensures.len, c.if-len-ge-MOST_RUNNING.false, c.len.ensures), c.push_reserved.ensures.capacity)
+
+pub returns-in-Ok-clause-faults : goal.returns-in-Ok-clause-faults
+returns-in-Ok-clause-faults g c = refl
+
+pub returns-in-Ok-clause-origins : goal.returns-in-Ok-clause-origins
+returns-in-Ok-clause-origins g c = refl
