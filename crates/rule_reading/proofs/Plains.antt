@@ -40,6 +40,21 @@ both_read {A} {B} {C} f o x y {a} {b} e1 e2 e3 =
     subst (λ (z : Result A Path). T ≡ ended o (as_read f (both z y))) e1 (subst (λ (z : Result B Path). T ≡ ended o (as_read f (both (Ok a) z))) e2
     (subst (λ (z : Option Path). T ≡ ended z (Ok (f (a, b)))) e3 refl))
 
+-- ---- the second of two as another call reads it, and then nothing beyond
+
+second_as : {A B C : Type 0} (f : A × B → C) (a : A) (y : Result B Path) → as_read (λ b. f (a, b)) y ≡ as_read f (both (Ok a) y)
+second_as {A} {B} {C} f a (Ok b) = refl
+second_as {A} {B} {C} f a (Err p) = refl
+
+pub last_read : {A B C : Type 0} (f : A × B → C) (o : Option Path) (x : Result A Path) (y : Result B Path) {a : A} {r : Result C Path} → Ok a ≡ x → r ≡ as_read (λ b. f (a, b)) y → ended o r ≡ ended o (as_read f (both x y))
+last_read {A} {B} {C} f o x y {a} e1 e2 = ap (ended o) (e2 ∙ second_as f a y ∙ ap (λ (z : Result A Path). as_read f (both z y)) e1)
+
+pub something_beyond : {C : Type 0} {o : Option Path} {p : Path} (t : C) → Some p ≡ o → Err p ≡ ended o (Ok t)
+something_beyond {C} {o} {p} t e = let T : Result C Path = Err p in subst (λ (z : Option Path). T ≡ ended z (Ok t)) e refl
+
+pub nothing_beyond : {C : Type 0} {o : Option Path} (t : C) → None ≡ o → Ok t ≡ ended o (Ok t)
+nothing_beyond {C} t e = let T : Result C Path = Ok t in subst (λ (z : Option Path). T ≡ ended z T) e refl
+
 -- ---- a plain rule by its name
 
 pub is_word : (k t n : List ℕ) {r b : Bool} → r ≡ bytes_eq k t → t ≡ n → r ≡ b → bytes_eq k n ≡ b
