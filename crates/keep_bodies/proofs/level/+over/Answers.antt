@@ -1,16 +1,21 @@
-use Rattle.std.proofs.Common.{◌++◌, ◌+◌, List, map, drop, refl, ap, sym, ◌∙◌, rules, arith}
-use Rattle.kj_value.specs.Fields.{field}
+use Rattle.std.proofs.Common.{◌≡◌, [], ◌∷◌, ◌++◌, ◌+◌, List, Option, map, drop, refl, ap, sym, subst, ◌∙◌, rules, arith}
+use Rattle.std.specs.Prelude.{OnOk}
+use Rattle.std.proofs.lemmas.List.{append-nil, drop_all}
+use Rattle.kj_value.specs.Json.{object, members_of}
+use Rattle.kj_value.specs.Fields.{Pairs, field, with_field}
 use Rattle.kept_entries.specs.declared.entry.Entry.{Entry}
 use Rattle.hub_cells.specs.Side.{Side, other}
 use Rattle.hub_cells.specs.Level.{Name, Inners, named}
 use Rattle.hub_cells.specs.laws.Inside.{inner_depth}
 use Rattle.hub_cells.specs.Seen.{side, cell}
 use Rattle.hub_cells.specs.SeenFit.{inners_of}
-use Rattle.keep_laws.specs.Entry.{inside}
-use Rattle.keep_laws.specs.Body.{object_in, all_entries}
+use Rattle.hub_cells.specs.declared.fitted.Inner.{Inner}
+use Rattle.keep_laws.specs.Entry.{put, inside, under}
+use Rattle.keep_laws.specs.Body.{object_in, as_field, body, all_entries, with_inside}
+use Rattle.keep_laws.specs.Marked.{there}
 use Rattle.keep_bodies.specs.inner.Left.{entries_left}
 use Rattle.keep_bodies.specs.inner.Turned.{turned}
-use Rattle.keep_bodies.specs.inner.Over.{cell_fields, cell_kept, inner_marks, inner_fields, inner_kept}
+use Rattle.keep_bodies.specs.inner.Over.{marks_over, cell_fields, cell_kept, inner_marks, inner_fields, inner_kept}
 use Rattle.keep_bodies.proofs.Objects.{object_allowed, renamed_allowed, inners_from, first_inner, inside_append}
 use Rattle.keep_bodies.proofs.Levels.{level_fields, level_entries, cells_allowed, inners_allowed, depth_is}
 use Rattle.keep_bodies.proofs.Standing.{inside_is_order}
@@ -73,3 +78,87 @@ inners_over-loop-o-preserved t c =
       fields = ap (inner_fields d rest x es) c.in_ok-inner_over.ensures.fields ∙ ap (λ (is : Inners). inner_fields d is x es l.fields) (sym step) ∙ l.invariant.fields;
       entries = ap (λ (fs : List Entry). fs ++ inner_kept d rest x es) c.in_ok-inner_over.ensures.entries ∙ inside_append n (all_entries (other d) o.fitted.level) marks (map turned l.entries.items) (inner_kept d rest x es) ∙ ap (λ (is : Inners). map turned l.entries.items ++ inner_kept d is x es) (sym step) ∙ l.invariant.entries;
     }
+
+pub inners_over-returns-clause-fields : goal.inners_over-returns-clause-fields
+inners_over-returns-clause-fields t c =
+    ap (λ (is : List Inner). inner_fields (side c.args.from) (inners_of is) c.args.x.now (entries_left c.args.kept.now) c.loop-o.fields) (sym (drop_all c.loop-o.o-index c.args.inners.now c.loop-o-test.false)) ∙ c.loop-o.invariant.fields
+
+pub inners_over-returns-clause-entries : goal.inners_over-returns-clause-entries
+inners_over-returns-clause-entries t c =
+    let fs = map turned c.loop-o.entries.items in
+    sym (append-nil fs)
+    ∙ ap (λ (is : List Inner). fs ++ inner_kept (side c.args.from) (inners_of is) c.args.x.now (entries_left c.args.kept.now)) (sym (drop_all c.loop-o.o-index c.args.inners.now c.loop-o-test.false)) ∙ c.loop-o.invariant.entries
+
+pub inner_over-returns-clause-fields : goal.inner_over-returns-clause-fields
+inner_over-returns-clause-fields t c =
+    let d = side c.args.from in
+    let o = c.args.o.now in
+    let x = c.args.x.now in
+    let es = entries_left c.args.kept.now in
+    let k = c.inner_name-theirs.result.now.bytes in
+    let theirs = c.inner_name-theirs.ensures ∙ ap (λ (s : Side). named s o.spoke.bytes o.hub.bytes) c.other.ensures in
+    let own = subst (λ (n : Name). OnOk c.object_over.result (c.object_over.new.fields ≡ put (k ∷ []) (as_field (there (body (other d) o.fitted.level) (inner_marks d o.fitted.level (field n x) (inside k es))) ∷ []) c.args.fields.now)) c.inner_name-own.ensures c.object_over.ensures.fields in
+    subst (λ (m : Name). OnOk c.object_over.result (c.object_over.new.fields ≡ put (m ∷ []) (as_field (there (body (other d) o.fitted.level) (inner_marks d o.fitted.level (field (named d o.spoke.bytes o.hub.bytes) x) (inside m es))) ∷ []) c.args.fields.now)) theirs own
+
+pub inner_over-returns-clause-entries : goal.inner_over-returns-clause-entries
+inner_over-returns-clause-entries t c =
+    let d = side c.args.from in
+    let o = c.args.o.now in
+    let x = c.args.x.now in
+    let es = entries_left c.args.kept.now in
+    let k = c.inner_name-theirs.result.now.bytes in
+    let before = map turned c.args.entries.now.items in
+    let after = map turned c.object_over.new.entries.items in
+    let theirs = c.inner_name-theirs.ensures ∙ ap (λ (s : Side). named s o.spoke.bytes o.hub.bytes) c.other.ensures in
+    let own = subst (λ (n : Name). OnOk c.object_over.result (after ≡ before ++ with_inside n (all_entries (other d) o.fitted.level) (inner_marks d o.fitted.level (field n x) (inside k es)) [])) c.inner_name-own.ensures c.object_over.ensures.entries in
+    let n = named d o.spoke.bytes o.hub.bytes in
+    subst (λ (m : Name). OnOk c.object_over.result (after ≡ before ++ with_inside n (all_entries (other d) o.fitted.level) (inner_marks d o.fitted.level (field n x) (inside m es)) [])) theirs own
+
+pub object_over-returns-in-None-clause-fields : goal.object_over-returns-in-None-clause-fields
+object_over-returns-in-None-clause-fields t c =
+    let d = side c.args.from in
+    let l = c.args.f.now.level in
+    let x = c.args.x.now in
+    let es = inside c.args.theirs.now.bytes (entries_left c.args.kept.now) in
+    ap (λ (o : Option Pairs). put (c.args.theirs.now.bytes ∷ []) (as_field (there (body (other d) l) (there (λ (y : Pairs). marks_over d l y es) o)) ∷ []) c.args.fields.now) (c.in-None.ensures ∙ ap (λ (n : Name). object_in (field n x)) c.as_str.ensures)
+
+pub object_over-returns-in-None-clause-entries : goal.object_over-returns-in-None-clause-entries
+object_over-returns-in-None-clause-entries t c =
+    let d = side c.args.from in
+    let l = c.args.f.now.level in
+    let x = c.args.x.now in
+    let es = inside c.args.theirs.now.bytes (entries_left c.args.kept.now) in
+    let before = map turned c.args.entries.now.items in
+    sym (append-nil before)
+    ∙ ap (λ (o : Option Pairs). before ++ with_inside c.args.own.now.bytes (all_entries (other d) l) (there (λ (y : Pairs). marks_over d l y es) o) []) (c.in-None.ensures ∙ ap (λ (n : Name). object_in (field n x)) c.as_str.ensures)
+
+pub object_over-returns-in_ok-put_under-in-Some-clause-fields : goal.object_over-returns-in_ok-put_under-in-Some-clause-fields
+object_over-returns-in_ok-put_under-in-Some-clause-fields t c =
+    let d = side c.args.from in
+    let l = c.args.f.now.level in
+    let x = c.args.x.now in
+    let es = inside c.args.theirs.now.bytes (entries_left c.args.kept.now) in
+    let fs = c.args.fields.now in
+    let made = c.in_ok-made-in-Some in
+    let within = c.inside-within.ensures ∙ ap (λ (n : Name). inside n (entries_left c.args.kept.now)) c.as_str-in-Some.ensures in
+    let whole = made.ensures.fields ∙ ap (λ (gs : List Entry). body (other d) l (marks_over d l c.in-Some.y.now gs)) within in
+    c.in_ok-set-in-Some.ensures.ok
+    ∙ ap (λ (n : Name). with_field n (object (members_of made.made.fields)) fs) (c.in_ok-of-in-Some.ensures ∙ c.as_str-in-Some-2.ensures)
+    ∙ ap (λ (ps : Pairs). with_field c.args.theirs.now.bytes (object (members_of ps)) fs) whole
+    ∙ ap (λ (o : Option Pairs). put (c.args.theirs.now.bytes ∷ []) (as_field (there (body (other d) l) (there (λ (y : Pairs). marks_over d l y es) o)) ∷ []) c.args.fields.now) (c.in-Some.ensures ∙ ap (λ (n : Name). object_in (field n x)) c.as_str.ensures)
+
+pub object_over-returns-in_ok-put_under-in-Some-clause-entries : goal.object_over-returns-in_ok-put_under-in-Some-clause-entries
+object_over-returns-in_ok-put_under-in-Some-clause-entries t c =
+    let d = side c.args.from in
+    let l = c.args.f.now.level in
+    let x = c.args.x.now in
+    let es = inside c.args.theirs.now.bytes (entries_left c.args.kept.now) in
+    let before = map turned c.args.entries.now.items in
+    let own = c.args.own.now.bytes in
+    let made = c.in_ok-made-in-Some in
+    let within = c.inside-within.ensures ∙ ap (λ (n : Name). inside n (entries_left c.args.kept.now)) c.as_str-in-Some.ensures in
+    let whole = made.ensures.entries ∙ ap (λ (gs : List Entry). all_entries (other d) l (marks_over d l c.in-Some.y.now gs)) within in
+    c.in_ok-put_under-in-Some.ensures ∙ ap (λ (n : Name). before ++ map (under n) (map turned made.made.entries.items)) c.as_str-in-Some-3.ensures
+    ∙ ap (λ (gs : List Entry). before ++ map (under own) gs) whole
+    ∙ ap (λ (gs : List Entry). before ++ gs) (sym (append-nil (map (under own) (all_entries (other d) l (marks_over d l c.in-Some.y.now es)))))
+    ∙ ap (λ (o : Option Pairs). before ++ with_inside c.args.own.now.bytes (all_entries (other d) l) (there (λ (y : Pairs). marks_over d l y es) o) []) (c.in-Some.ensures ∙ ap (λ (n : Name). object_in (field n x)) c.as_str.ensures)
