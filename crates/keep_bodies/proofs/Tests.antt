@@ -1,5 +1,6 @@
 -- What the tests of a cell tell.
-use Rattle.std.proofs.Common.{◌≡◌, List, [], ◌∷◌, ◌++◌, Bool, true, false, cond, ◌&&◌, ◌↔◌, IsTrue, Option, Some, None, Result, Ok, Err, OnOk, append-nil, refl, ap, ap₂, sym, subst, ◌∙◌}
+use Rattle.std.proofs.Common.{◌≡◌, ◌==◌, List, [], ◌∷◌, ◌++◌, Bool, true, false, cond, ◌&&◌, ◌↔◌, IsTrue, Option, Some, None, Result, Ok, Err, OnOk, append-nil, refl, map, length, ap, ap₂, sym, subst, ◌∙◌, arith}
+use Rattle.std.proofs.lemmas.Bool.Decides.{nat_tests}
 use Rattle.kj_value.specs.Json.{Json}
 use Rattle.kj_value.specs.Fields.{Pairs, field}
 use Rattle.kj_value.specs.Same.{json_same}
@@ -14,6 +15,8 @@ use Rattle.keep_laws.specs.Entry.{put, kept_of}
 use Rattle.keep_laws.specs.Marked.{Mark, crossed_as, crossed_mark}
 use Rattle.keep_laws.specs.Body.{entry_of}
 use Rattle.keep_laws.specs.Settle.{is_unmatched, tuple_same, alive, living}
+use Rattle.keep_bodies.specs.declared.left.Left.{Left}
+use Rattle.keep_bodies.specs.inner.Left.{left_entry, entries_left}
 use Rattle.keep_bodies.specs.inner.Over.{tuple_here, mark_over}
 
 lies : false ≡ true → ⊥
@@ -124,3 +127,10 @@ absent_fields d c x ps f e =
 pub absent_entries : (d : Side) (c : Cell) (x : Pairs) (es : List Entry) → CellFits c → tuple_here d c x ≡ tuple_of (names d c) [] → es ≡ es ++ entry_of (names d c) (mark_over d c x []).1 []
 absent_entries d c x es f e =
     sym (append-nil es) ∙ ap (λ (m : Mark). es ++ entry_of (names d c) m.1 []) (sym (absent_over d c x f e))
+
+pub none_left : (l : Left) → true ≡ (length l.entries.now == 0) → entries_left l ≡ []
+none_left l e = ap (λ (xs : List Entry). map (left_entry l.depth) xs) (empty l.entries.now e)
+  where
+    empty : (xs : List Entry) → true ≡ (length xs == 0) → xs ≡ []
+    empty [] e = refl
+    empty (x ∷ xs) e = let n : length (x ∷ xs) ≡ 0 = grind (arith, nat_tests) in let never : ⊥ = omega (arith, n) in absurd never
