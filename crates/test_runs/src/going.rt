@@ -4,7 +4,8 @@ ghost use Rattle.edge_io.specs.MemoryEars.{IsUnread, IsUnwritten};
 
 use crate::case::{Case, Connections, Outside};
 use crate::input::Input;
-use crate::reviewing::{RuleLinks, is_ruled};
+use crate::links::CaseLinks;
+use crate::reviewing::{Rules, is_ruled};
 use edge_io::{
     Ears, Files, FixedClock, MemConnection, MemEars, MemFile, MemFiles, MemLink, MemSink,
     MemSource, Sink, Source,
@@ -143,14 +144,20 @@ fn is_linked(words: &str) -> bool {
         || words.starts_with("words load ")
 }
 
-// Links of which the first is that one, where the line asks over one.
-fn links_of(alloc: Global, case: &Case, outside: Outside) -> Option<MemLinks> {
+// Links of which the first is that one, where the line asks over one, or that review by the files of the case.
+fn links_of<'a>(alloc: Global, case: &'a Case, outside: Outside) -> Option<CaseLinks<'a>> {
+    let words = case.asked.words.as_str();
     let mut ready = Vec::new(alloc);
-    if is_linked(case.asked.words.as_str()) {
+    if is_linked(words) {
         let link = link_of(alloc, case, outside)?;
         ready.push(link).ok()?;
     }
-    Some(MemLinks::new(ready))
+    let rules = if is_ruled(words) {
+        Some(Rules::of(&case.documents))
+    } else {
+        None
+    };
+    Some(CaseLinks::new(MemLinks::new(ready), rules))
 }
 
 /// What a run came to.
@@ -238,7 +245,7 @@ where
 }
 
 // Runs the program in this outside.
-fn run_in<R: Threads + Wait + Clock + Sync, L: Links>(
+fn run_in<R: Threads + Wait + Clock + Sync>(
     rt: &R,
     alloc: Global,
     words: &Words,
@@ -247,35 +254,34 @@ fn run_in<R: Threads + Wait + Clock + Sync, L: Links>(
     output: &mut MemSink,
     errors: &mut MemSink,
     ears: &mut MemEars,
-    links: &mut L,
-) -> Option<Outcome>
-where
-    L::One: Sync,
-{
+    links: &mut CaseLinks<'_>,
+) -> Option<Outcome> {
     let status = status_of(rt, alloc, words, files, source, output, errors, ears, links);
     outcome_of(alloc, output, ears, errors, status, files.calls())
 }
 
-// Adds what was asked over the link.
-fn add_asked(came: &mut Outcome, links: &MemLinks) -> Option<()> {
+// Adds what was asked over the link. Answers whether there was memory.
+fn add_asked(came: &mut Outcome, links: &MemLinks) -> bool {
+    let mut is_whole = true;
     for exchange in links.last_made().unwrap_or(&[]) {
-        came.connection.extend_from_slice(exchange.request()).ok()?;
-        came.connection.push(b'\n').ok()?;
+        is_whole = came
+            .connection
+            .extend_from_slice(exchange.request())
+            .is_ok()
+            && came.connection.push(b'\n').is_ok()
+            && is_whole;
     }
-    Some(())
+    is_whole
 }
 
 // Runs the program over a case with these links.
-fn run_over<R: Threads + Wait + Clock + Sync, L: Links>(
+fn run_over<R: Threads + Wait + Clock + Sync>(
     rt: &R,
     alloc: Global,
     case: &Case,
     outside: Outside,
-    links: &mut L,
-) -> Option<Outcome>
-where
-    L::One: Sync,
-{
+    links: &mut CaseLinks<'_>,
+) -> Option<Outcome> {
     let words = words_of(alloc, case.asked.words.as_str())?;
     let mut files = files_of(alloc, case)?;
     let mut source = input_of(alloc, case, outside)?;
@@ -301,12 +307,15 @@ pub(crate) fn run_case<R: Threads + Wait + Clock + Sync>(
     case: &Case,
     outside: Outside,
 ) -> Option<Outcome> {
-    if is_ruled(case.asked.words.as_str()) {
-        let mut links = RuleLinks::new(&case.documents);
-        return run_over(rt, alloc, case, outside, &mut links);
+    let Some(mut links) = links_of(alloc, case, outside) else {
+        return None;
+    };
+    let Some(mut came) = run_over(rt, alloc, case, outside, &mut links) else {
+        return None;
+    };
+    if add_asked(&mut came, links.given()) {
+        Some(came)
+    } else {
+        None
     }
-    let mut links = links_of(alloc, case, outside)?;
-    let mut came = run_over(rt, alloc, case, outside, &mut links)?;
-    add_asked(&mut came, &links)?;
-    Some(came)
 }

@@ -39,6 +39,7 @@ mod case;
 mod going;
 mod input;
 mod lines;
+mod links;
 mod reviewing;
 mod steps;
 mod telling;

@@ -1,25 +1,13 @@
-//! Links to a converter that answers by the rules of a definition, as a line of `review` does.
-ghost use Rattle.std.specs.Prelude.{None};
-
+//! A converter that answers by the rules of a definition, as a line of `review` does.
 use crate::case::Documents;
 use crd_versions::{VersionSet, load};
-use edge_io::{Link, LinkFault};
 use kj_value::NoMemory;
 use review_batch::{ReviewFault, answer};
 use std::alloc::Global;
-use tcp_links::Links;
 
 /// Whether the line has such a converter.
 pub(crate) fn is_ruled(words: &str) -> bool {
     words.contains(" --converter http://rules")
-}
-
-/// A link to such a converter, where it was made for its host and port. It tells no exchanges.
-#[derive(Drop)]
-pub(crate) struct RuleLink<'a> {
-    crd: &'a str,
-    rules: &'a str,
-    is_there: bool,
 }
 
 // The body of the request of a review.
@@ -61,53 +49,45 @@ fn responded(alloc: Global, crd: &str, rules: &str, request: &[u8]) -> Result<Ve
     came
 }
 
-impl<'a> Link for RuleLink<'a> {
-    ghost use Rattle.std.specs.Prelude.{None};
+/// A converter by rules, where it was asked for at its host and port.
+#[derive(Clone, Copy, Drop)]
+pub(crate) struct Reviewer<'a> {
+    rules: Rules<'a>,
+    is_there: bool,
+}
 
-    ghost exchanges = { λ l. None };
-
-    ghost faults = { λ l. 0 };
-
-    fn exchange(&mut self, alloc: Global, request: &[u8]) -> Result<Vec<u8>, LinkFault> {
+impl<'a> Reviewer<'a> {
+    /// What it answers.
+    pub(crate) fn respond(&self, alloc: Global, request: &[u8]) -> Result<Vec<u8>, NoMemory> {
         if self.is_there {
-            Ok(responded(alloc, self.crd, self.rules, request)?)
+            responded(alloc, self.rules.crd, self.rules.rules, request)
         } else {
-            Ok(response(alloc, "404 Not Found", "")?)
+            response(alloc, "404 Not Found", "")
         }
     }
 }
 
-/// Makes such links.
-#[derive(Drop)]
-pub(crate) struct RuleLinks<'a> {
+/// The two files by which a converter answers.
+#[derive(Clone, Copy, Drop)]
+pub(crate) struct Rules<'a> {
     crd: &'a str,
     rules: &'a str,
 }
 
-impl<'a> RuleLinks<'a> {
-    /// Links to a converter that answers by the two files of a case.
-    pub(crate) fn new(documents: &'a Documents) -> RuleLinks<'a> {
-        RuleLinks {
+impl<'a> Rules<'a> {
+    /// Those of a case.
+    pub(crate) fn of(documents: &'a Documents) -> Rules<'a> {
+        Rules {
             crd: documents.crd.as_str(),
             rules: documents.rules.as_str(),
         }
     }
-}
 
-impl<'a> Links for RuleLinks<'a> {
-    type One = RuleLink<'a>;
-
-    ghost use Rattle.std.specs.Prelude.{None};
-
-    ghost returned = { λ s. None };
-
-    fn make(&mut self, _alloc: Global, host: &str, port: u16) -> Result<RuleLink<'a>, NoMemory> {
-        Ok(RuleLink {
-            crd: self.crd,
-            rules: self.rules,
+    /// The converter at a host and a port.
+    pub(crate) fn at(self, host: &str, port: u16) -> Reviewer<'a> {
+        Reviewer {
+            rules: self,
             is_there: host == "rules" && port == 8081,
-        })
+        }
     }
-
-    fn back(&mut self, _link: RuleLink<'a>) {}
 }
