@@ -12,7 +12,7 @@ use Rattle.far_laws.specs.Answering.{GoesOn}
 use Rattle.far_laws.proofs.Histories.{legal_before}
 use Rattle.far_laws.proofs.PageForms.{OneReading, TextReads}
 use Rattle.far_laws.specs.Speaking.{AreNames, front}
-use Rattle.form_laws.specs.GivenBack.{GivesBack}
+use Rattle.far_laws.specs.GivenBack.{GivesBack}
 use Rattle.far_laws.specs.Dumped.{IsDumpOf}
 use Rattle.far_laws.specs.Restored.{AreSame, Restoring}
 use Rattle.far_laws.proofs.Restoring.{append_none, restored}

@@ -14,7 +14,7 @@ use Rattle.object_reading.proofs.Metadata.{Table, table}
 use Rattle.object_reading.proofs.Put.{field-with_other, without-with}
 use Rattle.wire_client.specs.Forms.{fields_of}
 use Rattle.record_dump.specs.Lines.{carried, dumped}
-use Rattle.form_laws.specs.GivenBack.{bare}
+use Rattle.far_laws.specs.GivenBack.{bare}
 
 -- ---- names taken out of fields that may be absent
 

@@ -18,7 +18,7 @@ use Rattle.api_calls.specs.Reply.{ReplyView}
 use Rattle.api_calls.specs.State.{State, next_number, revision, state}
 use Rattle.http_routes.specs.Actions.{IsVersion}
 use Rattle.http_routes.specs.Queries as query
-use Rattle.list_laws.specs.Keys.{IsAbsentOrAt}
+use Rattle.far_laws.specs.Keys.{IsAbsentOrAt}
 use Rattle.place.specs.Place.{Names}
 use Rattle.wire_client.specs.Answers.{given, gone}
 use Rattle.wire_client.specs.Calls.{Call, gets, lists, posts, puts}

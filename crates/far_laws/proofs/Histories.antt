@@ -13,7 +13,7 @@ use Rattle.api_calls.specs.Token.{IsToken, token_text}
 use Rattle.api_calls.specs.laws.GrowthLaws.{legal-front}
 use Rattle.api_calls.proofs.Tokens.{tokens_one}
 use Rattle.http_routes.specs.Queries as query
-use Rattle.list_laws.proofs.Limits.{within-all}
+use Rattle.far_laws.proofs.legal_lists.Limits.{within-all}
 use Rattle.place.specs.Place.{Names}
 use Rattle.wire_client.specs.Far.{Server, Serves, Chain}
 use Rattle.wire_client.specs.Calls.{Call}

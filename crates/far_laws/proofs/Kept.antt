@@ -51,7 +51,7 @@ use Rattle.far_laws.proofs.Keyed.{given_valid}
 use Rattle.far_laws.proofs.PageForms.{numbered_depth, numbered_sound}
 use Rattle.far_laws.proofs.Paging.{Cut, IsKnown, ReadsAs, first_reads, front_of, further, next_reads, whole}
 use Rattle.far_laws.proofs.Values.{IsKept, each_back, each_front, find_key, kept-all}
-use Rattle.form_laws.specs.GivenBack.{GivesBack, IsLike, number_of, unstamped}
+use Rattle.far_laws.specs.GivenBack.{GivesBack, IsLike, number_of, unstamped}
 use Rattle.far_laws.specs.Keeping.{KeepsValues, keeping}
 use Rattle.far_laws.proofs.Replaced.{AdmitsSame, keeps_none, reply_writes, writes_keep}
 use Rattle.far_laws.proofs.Shown.{AreForms, IsFormOf, all_later, get_form, later, page_forms}

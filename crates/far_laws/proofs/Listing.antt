@@ -18,7 +18,7 @@ use Rattle.api_calls.specs.State.{entries, number_from, opening, revision, serve
 use Rattle.api_calls.specs.Token.{token_text}
 use Rattle.api_calls.proofs.Snaps.{stays-from}
 use Rattle.api_calls.proofs.Sound.{sound-all}
-use Rattle.list_laws.proofs.Pages.{left}
+use Rattle.far_laws.proofs.legal_lists.Pages.{left}
 use Rattle.far_laws.proofs.Values.{IsKept, each_front}
 
 -- ---- the objects at the number of a history

@@ -28,7 +28,7 @@ use Rattle.api_calls.proofs.Order.{exact, itself}
 use Rattle.api_calls.proofs.Sound.{number}
 use Rattle.far_laws.specs.Answering.{all_of}
 use Rattle.far_laws.proofs.Replacing.{Accepts, state_after}
-use Rattle.form_laws.specs.GivenBack.{unstamped}
+use Rattle.far_laws.specs.GivenBack.{unstamped}
 use Rattle.far_laws.specs.Keeping.{KeepsValues, SameValue}
 
 -- nothing is entered, or the value that stands under the key once more

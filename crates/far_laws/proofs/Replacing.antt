@@ -28,7 +28,7 @@ use Rattle.api_calls.specs.Writes.{ReplaceDecision, Replaces, replaced, with_roo
 use Rattle.api_calls.proofs.Finds.{find-none, find-put}
 use Rattle.api_calls.proofs.Order.{exact}
 use Rattle.api_calls.proofs.Sound.{number}
-use Rattle.list_laws.specs.Keys.{IsAbsentOrAt}
+use Rattle.far_laws.specs.Keys.{IsAbsentOrAt}
 use Rattle.far_laws.specs.Answering.{all_of}
 
 -- ---- states

@@ -31,7 +31,7 @@ use Rattle.record_dump.specs.Restores.{Says, most_levels}
 use Rattle.record_dump.specs.Told.{joined}
 use Rattle.far_laws.proofs.PageForms.{OneReading, TextReads, json_key, key_of_document}
 use Rattle.far_laws.proofs.Values.{IsKept, each_back, kept-all}
-use Rattle.form_laws.specs.GivenBack.{GivesBack, IsLike, bare, unstamped}
+use Rattle.far_laws.specs.GivenBack.{GivesBack, IsLike, bare, unstamped}
 use Rattle.far_laws.specs.Dumped.{AreAll}
 use Rattle.far_laws.specs.Restored as restored
 use Rattle.far_laws.specs.Restored.{AreCreated, AreSame, IsRestored, IsSame, IsStoredFor, key_of}

@@ -19,8 +19,8 @@ use Rattle.api_calls.proofs.Parts.{state_from-append}
 use Rattle.api_calls.proofs.Snaps.{in-find}
 use Rattle.api_calls.proofs.Sound.{sound-all}
 use Rattle.http_routes.specs.Paths.{IsKey}
-use Rattle.list_laws.specs.Keys.{IsAbsentOrAt}
-use Rattle.list_laws.proofs.Storage.{kept-all as storage_kept}
+use Rattle.far_laws.specs.Keys.{IsAbsentOrAt}
+use Rattle.far_laws.proofs.legal_lists.Storage.{kept-all as storage_kept}
 use Rattle.edge_io.specs.Exchanges.{Exchange}
 use Rattle.place.specs.Place.{Names}
 use Rattle.wire_client.specs.Answers.{given, gone}

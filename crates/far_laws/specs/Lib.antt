@@ -4,3 +4,6 @@ pub mod Speaking
 pub mod Dumped
 pub mod Keeping
 pub mod Restored
+pub mod Keys
+pub mod GivenBack
+pub mod TakenBack

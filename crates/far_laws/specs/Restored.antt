@@ -18,7 +18,7 @@ use Rattle.wire_client.specs.Forms.{fields_of, key_in}
 use Rattle.record_dump.specs.Restores.{IsLine, Says}
 use Rattle.record_dump.specs.Told.{IsPosted, joined}
 use Rattle.far_laws.specs.Speaking.{speaker}
-use Rattle.form_laws.specs.GivenBack.{unstamped}
+use Rattle.far_laws.specs.GivenBack.{unstamped}
 
 -- The bytes were restored, line by line, over a server whose bytes answer by this front: each line was created, and between the two
 -- histories nothing else was entered, since they differ by so many items as objects were created.

@@ -8,7 +8,9 @@
 //! responses as bytes, of routes, of replies and of the server's history, and knows nothing of how any of them is made.
 #![tactic(auto)]
 
+pub mod forms;
 pub mod fronts;
+pub mod legal_lists;
 
 ghost use Rattle.std.specs.Prelude.{◌≡◌, ◌++◌, ℕ, List, [], None, Option, IsTrue};
 ghost use Rattle.kj_value.specs.Json.{Json};
@@ -23,8 +25,8 @@ ghost use Rattle.api_calls.specs.Legal.{legal};
 ghost use Rattle.api_calls.specs.Objects.{find};
 ghost use Rattle.api_calls.specs.State.{state};
 ghost use Rattle.http_routes.specs.Paths.{IsKey};
-ghost use Rattle.list_laws.specs.Keys.{IsAbsentOrAt};
-ghost use Rattle.form_laws.specs.GivenBack.{GivesBack, bare};
+ghost use Rattle.far_laws.specs.Keys.{IsAbsentOrAt};
+ghost use Rattle.far_laws.specs.GivenBack.{GivesBack, bare};
 ghost use Rattle.place.specs.Place.{Names};
 ghost use Rattle.wire_client.specs.Answers.{given, gone};
 ghost use Rattle.wire_client.specs.Calls.{gets, puts};

@@ -2,7 +2,7 @@
 use Rattle.std.specs.Prelude.{◌≤◌, length}
 use Rattle.api_calls.specs.Item.{Create, Delete, Entry, Item, Mark, MarkSucceeded, Release, Replace, SetVersions, StartMigration, Touch, Trim, entry, note}
 use Rattle.api_calls.specs.Meaning.{Meaning}
-use Rattle.form_laws.specs.TakenBack.{IsLight}
+use Rattle.far_laws.specs.TakenBack.{IsLight}
 
 abbrev pub entry_light : Meaning → Entry → Type 0
 entry_light m (Create key h w) = IsLight m h

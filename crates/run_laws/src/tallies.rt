@@ -39,7 +39,7 @@ ghost use Rattle.crd_laws.specs.Loaded.{loaded_meaning};
 ghost use Rattle.crd_meaning.specs.Definition.{Definition, IsLoaded};
 ghost use Rattle.crd_reading.specs.Whole.{IsWholeDefinition};
 ghost use Rattle.crd_settings.specs.SettledLaws.{settings_of};
-ghost use Rattle.form_laws.specs.TakenBack.{TakesBack};
+ghost use Rattle.far_laws.specs.TakenBack.{TakesBack};
 ghost use Rattle.far_laws.specs.Answering.{Answered, GoesOn, IsBehind};
 ghost use Rattle.far_laws.specs.Speaking.{IsShort, front};
 ghost use Rattle.far_laws.specs.Dumped.{IsKnown};
@@ -51,7 +51,7 @@ ghost use Rattle.run_laws.specs.Replying.{CreatesNamed, MayReply, replying};
 ghost use Rattle.run_laws.specs.Shown.{WasShown};
 
 use api_calls::Versions;
-use form_laws::takes_back;
+use far_laws::forms::takes_back;
 use kept_entries::one_list;
 use kj_value::{one_reading, text_reads};
 use wire_client::Serving;

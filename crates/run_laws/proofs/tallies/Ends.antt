@@ -35,7 +35,7 @@ use Rattle.far_laws.proofs.Keyed.{given_valid}
 use Rattle.far_laws.proofs.Paging.{Cut, IsKnown, ReadsAs, first_reads, front_of, next_reads, whole}
 use Rattle.far_laws.proofs.Values.{each_back, each_front}
 use Rattle.far_laws.specs.Speaking.{front}
-use Rattle.form_laws.specs.TakenBack.{TakesBack}
+use Rattle.far_laws.specs.TakenBack.{TakesBack}
 use Rattle.far_laws.proofs.Shown.{AreForms, IsFormOf, all_later, get_form, later, page_forms}
 use Rattle.run_laws.specs.Ending.{MayEnd, MayFail}
 use Rattle.run_laws.specs.Reached.{IsAt, begun, within}

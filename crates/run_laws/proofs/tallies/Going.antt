@@ -16,7 +16,7 @@ use Rattle.api_calls.specs.Meaning.{Meaning}
 use Rattle.api_calls.specs.Objects.{Stored, object_key}
 use Rattle.api_calls.specs.State.{revision, state}
 use Rattle.api_calls.proofs.Sound.{sound-all}
-use Rattle.list_laws.proofs.Limits.{within-all}
+use Rattle.far_laws.proofs.legal_lists.Limits.{within-all}
 use Rattle.place.specs.Place.{Names}
 use Rattle.wire_client.specs.Answers.{given}
 use Rattle.wire_client.specs.Calls.{lists}

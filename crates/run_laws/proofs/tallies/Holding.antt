@@ -22,7 +22,7 @@ use Rattle.api_calls.proofs.Numbers.{numbered-from, numbered-opening}
 use Rattle.api_calls.proofs.Tokens.{name_fits, namespace_fits}
 use Rattle.http_routes.specs.Paths.{IsKey}
 use Rattle.place.specs.Place.{Names}
-use Rattle.form_laws.specs.TakenBack.{IsLight}
+use Rattle.far_laws.specs.TakenBack.{IsLight}
 use Rattle.far_laws.specs.Answering.{GoesOn}
 use Rattle.far_laws.proofs.Histories.{few_before, legal_before}
 use Rattle.far_laws.proofs.Paging.{IsKnown}

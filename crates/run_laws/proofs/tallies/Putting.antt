@@ -59,8 +59,8 @@ use Rattle.far_laws.proofs.Values.{find_key}
 use Rattle.far_laws.specs.Speaking.{front}
 use Rattle.far_laws.proofs.Asked.{IsAddressed}
 use Rattle.far_laws.proofs.Objects.{object_puts}
-use Rattle.form_laws.specs.GivenBack.{IsLike, unstamped}
-use Rattle.form_laws.specs.TakenBack.{TakesBack}
+use Rattle.far_laws.specs.GivenBack.{IsLike, unstamped}
+use Rattle.far_laws.specs.TakenBack.{TakesBack}
 use Rattle.far_laws.proofs.Shown.{IsFormOf}
 use Rattle.run_laws.specs.Replying.{MayReply, replying}
 use Rattle.run_laws.proofs.tallies.Documents.{object_fit}

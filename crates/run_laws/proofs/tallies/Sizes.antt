@@ -18,7 +18,7 @@ use Rattle.api_calls.specs.Versions.{IgnoresStamps, IsOneToOne, Stand, StandsAt}
 use Rattle.api_calls.specs.laws.SpelledLaws.{unnumbered-itself}
 use Rattle.api_calls.proofs.Fields.{length-hyphenated_text}
 use Rattle.api_calls.proofs.StoredBytes.{same_generation, stored_bytes}
-use Rattle.form_laws.specs.TakenBack.{IsLight}
+use Rattle.far_laws.specs.TakenBack.{IsLight}
 
 -- ---- texts between quotes
 

@@ -7,7 +7,7 @@ use Rattle.api_calls.specs.Versions.{IgnoresStamps}
 use Rattle.crd_laws.specs.DefinitionLaws.{admits_whole, stand, unstamped}
 use Rattle.crd_laws.specs.Loaded.{loaded_meaning}
 use Rattle.crd_settings.specs.SettledLaws.{settings_of}
-use Rattle.form_laws.specs.TakenBack.{IsLight}
+use Rattle.far_laws.specs.TakenBack.{IsLight}
 use Rattle.far_laws.specs.Speaking.{front}
 use Rattle.run_laws.specs.Light.{EntersLight}
 use Rattle.run_laws.proofs.tallies.Creating.{IsSo, replies_so}

@@ -1,5 +1,5 @@
-use Rattle.form_laws.proofs.Admitted.{admitted}
-use Rattle.form_laws.proofs.takes_back.Goals as goal
+use Rattle.far_laws.proofs.forms.Admitted.{admitted}
+use Rattle.far_laws.proofs.forms.takes_back.Goals as goal
 
 pub returns : goal.returns
 returns c = λ d. record {

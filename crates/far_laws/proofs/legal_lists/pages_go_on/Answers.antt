@@ -1,5 +1,5 @@
-use Rattle.list_laws.proofs.Pages.{behind, front_of, rises}
-use Rattle.list_laws.proofs.pages_go_on.Goals as goal
+use Rattle.far_laws.proofs.legal_lists.Pages.{behind, front_of, rises}
+use Rattle.far_laws.proofs.legal_lists.pages_go_on.Goals as goal
 
 pub returns-clause-front : goal.returns-clause-front
 returns-clause-front g c = λ it limits log r l. front_of (g.V.Means.meaning it) limits log r l

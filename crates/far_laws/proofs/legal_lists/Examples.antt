@@ -10,7 +10,7 @@ use Rattle.api_calls.specs.Objects.{Stored, object_key}
 use Rattle.api_calls.specs.Snap.{snap}
 use Rattle.api_calls.specs.State.{state}
 use Rattle.api_calls.proofs.ExampleServer.{example, fresh, key, standing, v1beta1}
-use Rattle.list_laws.specs.Keys.{IsAbsentOrAt}
+use Rattle.far_laws.specs.Keys.{IsAbsentOrAt}
 
 module _ (other : Meaning) where
   -- a definition of which it isn't known what its values mean

@@ -5,7 +5,7 @@ use Rattle.kj_value.specs.Text.{text_of}
 use Rattle.kube_meta.specs.Document.{document}
 use Rattle.kube_meta.specs.View.{ObjectView}
 use Rattle.api_calls.specs.Meaning.{Meaning, Request, measure}
-use Rattle.form_laws.specs.GivenBack.{IsLike, unstamped}
+use Rattle.far_laws.specs.GivenBack.{IsLike, unstamped}
 
 -- the value measures at most 262,144 bytes at every version
 abbrev pub IsLight : Meaning → ObjectView → Type 0

@@ -13,7 +13,7 @@ use Rattle.api_calls.specs.Objects.{Stored, born_or, find, marked_at, moved, upd
 use Rattle.api_calls.specs.Snap.{snap, upto}
 use Rattle.api_calls.specs.State.{State, effect, moved_storage, number_after, opening, state, state_from, target_of}
 use Rattle.api_calls.proofs.Lists.{each-put, each-updated, each-without}
-use Rattle.list_laws.proofs.Pages.{front_of}
+use Rattle.far_laws.proofs.legal_lists.Pages.{front_of}
 
 -- what holds of the one object that changes, and of all before
 each-changed : (P : Stored → Type 0) (f : Stored → Stored) (k : KeyView) (es : List Stored) (old : Stored) → find k es ≡ Some old → P (f old) → Each P es → Each P (updated f k es)

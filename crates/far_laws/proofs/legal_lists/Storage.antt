@@ -17,7 +17,7 @@ use Rattle.api_calls.proofs.Order.{exact}
 use Rattle.api_calls.proofs.Parts.{legal_from-append, state_from-append}
 use Rattle.api_calls.proofs.Snaps.{in-find}
 use Rattle.api_calls.proofs.Sound.{sound-from, sound-opening, sound-step, touch_target}
-use Rattle.list_laws.specs.Keys.{IsAbsentOrAt}
+use Rattle.far_laws.specs.Keys.{IsAbsentOrAt}
 
 -- ---- the object under a key, and each object that has it
 

@@ -28,7 +28,7 @@ use Rattle.crd_meaning.specs.Meant.{meant}
 use Rattle.crd_meaning.specs.Objects.{IsFormAt, IsWholeValue, PairsAt}
 use Rattle.crd_meaning.specs.Request.{IsTaken, expected_of, placed}
 use Rattle.crd_meaning.proofs.Seats.{first_spoke, hub_is, seat_place}
-use Rattle.form_laws.specs.GivenBack.{IsLike, bare, number_of, unstamped}
+use Rattle.far_laws.specs.GivenBack.{IsLike, bare, number_of, unstamped}
 
 -- what other crates promise
 pub record Laws (d : Definition) : Type 0 where

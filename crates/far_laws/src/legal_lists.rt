@@ -2,8 +2,6 @@
 //! stays at the storage version, and that values stay whole.
 //!
 //! Each law is the contract of a function that does nothing. It knows nothing of requests, replies or workers.
-#![tactic(auto)]
-
 ghost use Rattle.std.specs.Prelude.{◌≡◌, ◌∷◌, ◌++◌, ◌≤◌, IsTrue, List, Option, Some, ℕ, length};
 ghost use Rattle.kube_meta.specs.Key.{KeyView};
 ghost use Rattle.kube_meta.specs.Page.{listed, page_of};
@@ -14,7 +12,7 @@ ghost use Rattle.api_calls.specs.Legal.{Each, legal};
 ghost use Rattle.api_calls.specs.Objects.{Stored, live, object_key};
 ghost use Rattle.api_calls.specs.Snap.{page_at, snap, upto};
 ghost use Rattle.api_calls.specs.State.{state};
-ghost use Rattle.list_laws.specs.Keys.{IsAbsentOrAt};
+ghost use Rattle.far_laws.specs.Keys.{IsAbsentOrAt};
 
 use api_calls::laws::Means;
 

@@ -1,5 +1,5 @@
-use Rattle.form_laws.proofs.Back.{back}
-use Rattle.form_laws.proofs.gives_back.Goals as goal
+use Rattle.far_laws.proofs.forms.Back.{back}
+use Rattle.far_laws.proofs.forms.gives_back.Goals as goal
 
 pub returns : goal.returns
 returns c = λ d. record {

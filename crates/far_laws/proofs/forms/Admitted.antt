@@ -42,9 +42,9 @@ use Rattle.crd_meaning.specs.Meant.{meant}
 use Rattle.crd_meaning.specs.Objects.{IsFormAt, IsWholeValue, PairsAt}
 use Rattle.crd_meaning.specs.Request.{IsTaken, Judged, early, expected_of, fault_rows, first_there, given_name, is_named_so, kind_row, later_rows, meta_fields, metadata_rows, name_row, namespace_row, number_rows, number_text, placed, rows, version_row}
 use Rattle.crd_meaning.proofs.Seats.{first_spoke, hub_is, seat_place}
-use Rattle.form_laws.specs.GivenBack.{IsLike, bare, unstamped}
-use Rattle.form_laws.specs.TakenBack as form
-use Rattle.form_laws.proofs.Back.{IsOwnFilling, Laws, at_ns, filled_at, hub_of_form, plain_meta}
+use Rattle.far_laws.specs.GivenBack.{IsLike, bare, unstamped}
+use Rattle.far_laws.specs.TakenBack as form
+use Rattle.far_laws.proofs.forms.Back.{IsOwnFilling, Laws, at_ns, filled_at, hub_of_form, plain_meta}
 
 -- ---- rows of which none is there
 

@@ -1,5 +1,5 @@
-use Rattle.list_laws.proofs.Limits.{within-all}
-use Rattle.list_laws.proofs.within_limits.Goals as goal
+use Rattle.far_laws.proofs.legal_lists.Limits.{within-all}
+use Rattle.far_laws.proofs.legal_lists.within_limits.Goals as goal
 
 pub returns-clause-objects : goal.returns-clause-objects
 returns-clause-objects g c = λ it limits log l. (within-all (g.V.Means.meaning it) limits log l).objects

@@ -3,13 +3,11 @@
 //! value isn't too large.
 //!
 //! Each law is the contract of a function that does nothing. It speaks of what a loaded definition means, and knows nothing of stores.
-#![tactic(auto)]
-
 ghost use Rattle.crd_laws.specs.Loaded.{loaded_meaning};
 ghost use Rattle.crd_meaning.specs.Definition.{Definition};
 ghost use Rattle.crd_settings.specs.SettledLaws.{settings_of};
-ghost use Rattle.form_laws.specs.GivenBack.{GivesBack};
-ghost use Rattle.form_laws.specs.TakenBack.{TakesBack};
+ghost use Rattle.far_laws.specs.GivenBack.{GivesBack};
+ghost use Rattle.far_laws.specs.TakenBack.{TakesBack};
 
 use crd_meaning::{known, one_hub, standing, unstamped};
 use keep_laws::object_laws::settling;
