@@ -6,3 +6,4 @@ pub mod Results
 pub mod Found
 pub mod Loaded
 pub mod SpecDepth
+pub mod Crossing

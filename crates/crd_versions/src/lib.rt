@@ -4,8 +4,9 @@
 //! The one contract: what `VersionSet` admits, refuses, shows at a version and reads back is what the definition means, with all
 //! the laws of `Versions`; and `load` gives one exactly where nothing of the two texts is refused.
 //!
-//! It composes the crates below; its own are the form of a hub value at a version, and the hub value of a stored text. It knows
-//! nothing of how objects are read, filled, converted or measured, nor of where they are kept.
+//! It composes the crates below; its own are the form of a hub value at a version, the hub value of a stored text, and that a
+//! definition may go to other threads and be looked at by several of them (`proofs/Crossing.antt`, from its lowest part up). It
+//! knows nothing of how objects are read, filled, converted or measured, nor of where they are kept.
 #![tactic(auto)]
 
 // The form of a hub value at a version, and the hub value of a stored text.

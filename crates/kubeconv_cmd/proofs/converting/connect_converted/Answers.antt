@@ -1,6 +1,6 @@
 use denote.Param.Send.{sendable}
 use Rattle.std.proofs.Crossing.{crosses}
-use Rattle.crd_crossing.proofs.Crossing.{definition_send, definition_sync}
+use Rattle.crd_versions.proofs.Crossing.{definition_send, definition_sync}
 use Rattle.kj_value.proofs.txt.Txt.TheSendSync as txt
 use Rattle.kubeconv_cmd.proofs.converting.connect_converted.Goals as goal
 

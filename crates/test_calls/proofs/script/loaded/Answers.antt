@@ -1,5 +1,5 @@
 use denote.Param.Send.{sendable}
-use Rattle.crd_crossing.proofs.Crossing.{set_send, set_sync}
+use Rattle.crd_versions.proofs.Crossing.{set_send, set_sync}
 use Rattle.test_calls.proofs.script.loaded.Goals as goal
 
 pub over-requires-send-V : goal.over-requires-send-V
