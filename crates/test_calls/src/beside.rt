@@ -125,8 +125,10 @@ fn with_tool<V: Versions<Tool = Chosen> + Drop + Send + Sync, R: Threads + Wait 
     requires { IsOf V.meaning api.now pass.old }
     ensures { IsOf V.meaning api.now pass.new }
 {
-    let one = pass_from(rt, api, pass, tool)?;
-    with_pass(rt, alloc, api, pass, one, post, orders)
+    match pass_from(rt, api, pass, tool) {
+        Some(one) => with_pass(rt, alloc, api, pass, one, post, orders),
+        None => None,
+    }
 }
 
 /// What two orders answer, of which the first may wait: `CALL ORDER | ORDER`.
@@ -141,7 +143,11 @@ pub(crate) fn beside<V: Versions<Tool = Chosen> + Drop + Send + Sync, R: Threads
     ensures { IsOf V.meaning api.now pass.new }
 {
     let (place, orders) = cut(line);
-    let post = Arc::new(alloc, Post::new()).ok()?;
-    let tool = Chosen::waiting(place, &post)?;
-    with_tool(rt, alloc, api, pass, tool, &*post, orders)
+    match Arc::new(alloc, Post::new()) {
+        Ok(post) => match Chosen::waiting(place, &post) {
+            Some(tool) => with_tool(rt, alloc, api, pass, tool, &*post, orders),
+            None => None,
+        },
+        Err(_) => None,
+    }
 }

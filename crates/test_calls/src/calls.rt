@@ -59,11 +59,19 @@ fn returned<V: Versions + Drop, R: Wait>(
 fn shown<V: Versions>(alloc: Global, versions: &V, order: &str) -> Option<String> {
     let (_word, bodies) = cut(order);
     let (flags, stored) = cut(bodies);
-    let flags = versions.read_flags(alloc, flags.as_bytes()).ok()?;
-    let stored = versions.read_keep(alloc, stored.as_bytes()).ok()?;
-    let mut told = Txt::with_room(alloc, versions.show_room()).ok()?;
-    versions.show(&flags, &stored, &mut told);
-    String::from_str(alloc, told.as_str()).ok()
+    let Ok(flags) = versions.read_flags(alloc, flags.as_bytes()) else {
+        return None;
+    };
+    let Ok(stored) = versions.read_keep(alloc, stored.as_bytes()) else {
+        return None;
+    };
+    match Txt::with_room(alloc, versions.show_room()) {
+        Ok(mut told) => {
+            versions.show(&flags, &stored, &mut told);
+            String::from_str(alloc, told.as_str()).ok()
+        }
+        Err(_) => None,
+    }
 }
 
 /// What an order answers, behind its pass; there is no answer where it is no order, or memory is wanted.
@@ -79,12 +87,13 @@ pub(crate) fn called<V: Versions + Drop, R: Wait>(
     requires { IsOf V.meaning api.now pass.old }
     ensures { IsOf V.meaning api.now pass.new }
 {
-    match *order.as_bytes().first()? {
-        b'h' => hired(rt, alloc, api, pass, order),
-        b'w' => turned(rt, alloc, api, pass, w),
-        b'b' => returned(rt, alloc, api, pass, w),
-        b's' => shown(alloc, api.versions(), order),
-        _ => asked(rt, alloc, api, pass, order, input),
+    match order.as_bytes().first() {
+        Some(b'h') => hired(rt, alloc, api, pass, order),
+        Some(b'w') => turned(rt, alloc, api, pass, w),
+        Some(b'b') => returned(rt, alloc, api, pass, w),
+        Some(b's') => shown(alloc, api.versions(), order),
+        Some(_) => asked(rt, alloc, api, pass, order, input),
+        None => None,
     }
 }
 
@@ -121,10 +130,16 @@ fn anew<V: Versions<Tool = Chosen> + Drop, R: Wait>(
     ensures other { IsOf V.meaning api.now other.new }
 {
     let (_word, given) = cut(order);
-    let number = given.parse::<u64>().ok()?;
-    let made = pass_from(rt, api, other, Chosen::at(number))?;
-    drop(mem::replace(pass, made));
-    String::from_str(alloc, "a new pass").ok()
+    let Ok(number) = given.parse::<u64>() else {
+        return None;
+    };
+    match pass_from(rt, api, other, Chosen::at(number)) {
+        Some(made) => {
+            drop(mem::replace(pass, made));
+            String::from_str(alloc, "a new pass").ok()
+        }
+        None => None,
+    }
 }
 
 // The other pass is met into the pass, and is made anew from it.
@@ -140,10 +155,14 @@ fn unite<V: Versions<Tool = Chosen> + Drop, R: Wait>(
     ensures pass { IsOf V.meaning api.now pass.new }
     ensures other { IsOf V.meaning api.now other.new }
 {
-    let made = pass_from(rt, api, pass, Chosen::at(0))?;
-    let gone = mem::replace(other, made);
-    api.meet(pass, gone);
-    String::from_str(alloc, "met").ok()
+    match pass_from(rt, api, pass, Chosen::at(0)) {
+        Some(made) => {
+            let gone = mem::replace(other, made);
+            api.meet(pass, gone);
+            String::from_str(alloc, "met").ok()
+        }
+        None => None,
+    }
 }
 
 /// The same, or what is done with both passes.
@@ -162,10 +181,11 @@ pub(crate) fn called_beside<V: Versions<Tool = Chosen> + Drop, R: Wait>(
     ensures pass { IsOf V.meaning api.now pass.new }
     ensures other { IsOf V.meaning api.now other.new }
 {
-    match *order.as_bytes().first()? {
-        b'n' => anew(rt, alloc, api, pass, other, order),
-        b'u' => unite(rt, alloc, api, pass, other),
-        b'o' => outside(rt, alloc, api, pass, order),
-        _ => called(rt, alloc, api, pass, w, order, input),
+    match order.as_bytes().first() {
+        Some(b'n') => anew(rt, alloc, api, pass, other, order),
+        Some(b'u') => unite(rt, alloc, api, pass, other),
+        Some(b'o') => outside(rt, alloc, api, pass, order),
+        Some(_) => called(rt, alloc, api, pass, w, order, input),
+        None => None,
     }
 }

@@ -3,6 +3,7 @@ ghost use Rattle.std.specs.Prelude.{IsSome};
 ghost use Rattle.shared_api.specs.Passes.{IsOf};
 
 use crate::calls::pass_from;
+use crate::client::{input_of, restore_end, told, wrote};
 use crate::links::{clock, request_bytes};
 use crate::texts::cut;
 use crate::tool::Chosen;
@@ -13,7 +14,6 @@ use record_dump::restore;
 use shared_api::{Pass, SharedApi};
 use std::alloc::Global;
 use std::sync::Wait;
-use test_far::{input_of, restore_end, told, wrote};
 use wire_client::{Place, read_place};
 
 // More than any dump writes.
@@ -52,14 +52,18 @@ fn inputs_of(alloc: Global, others: &str) -> Option<Vec<Vec<u8>>> {
 }
 
 fn place_of(alloc: Global, path: &str) -> Option<Place> {
-    let url = format!(in alloc; "http://h/apis/{path}").ok()?;
-    read_place(alloc, url.as_str()).ok()
+    match format!(in alloc; "http://h/apis/{path}") {
+        Ok(url) => read_place(alloc, url.as_str()).ok(),
+        Err(_) => None,
+    }
 }
 
 fn visit_of(alloc: Global, path: &str, others: &str) -> Option<Visit> {
-    let others = inputs_of(alloc, others)?;
     match place_of(alloc, path) {
-        Some(place) => Some(Visit { place, others }),
+        Some(place) => match inputs_of(alloc, others) {
+            Some(others) => Some(Visit { place, others }),
+            None => None,
+        },
         None => None,
     }
 }

@@ -31,14 +31,31 @@ impl Gate for Few {
     }
 }
 
-// How a worker ended, and the steps that its gate was asked with.
-fn told(alloc: Global, end: WorkEnd, asked: &[TurnStep]) -> Option<String> {
-    let mut out = format!(in alloc; "{end:?}").ok()?;
+// Adds a step. Answers whether there was room.
+fn add_step(alloc: Global, step: &TurnStep, out: &mut String) -> bool {
+    match format!(in alloc; ", {step:?}") {
+        Ok(text) => out.push_str(text.as_str()).is_ok(),
+        Err(_) => false,
+    }
+}
+
+// The text, with these steps behind it.
+fn with_steps(alloc: Global, front: String, asked: &[TurnStep]) -> Option<String> {
+    let mut out = front;
     for step in asked {
-        let text = format!(in alloc; ", {step:?}").ok()?;
-        out.push_str(text.as_str()).ok()?;
+        if !add_step(alloc, step, &mut out) {
+            return None;
+        }
     }
     Some(out)
+}
+
+// How a worker ended, and the steps that its gate was asked with.
+fn told(alloc: Global, end: WorkEnd, asked: &[TurnStep]) -> Option<String> {
+    match format!(in alloc; "{end:?}") {
+        Ok(text) => with_steps(alloc, text, asked),
+        Err(_) => None,
+    }
 }
 
 // How a worker ends. Of it only is said whose the pass is, so that its clauses end here.
@@ -68,8 +85,12 @@ pub(crate) fn hired<V: Versions + Drop, R: Wait>(
 {
     let (_word, given) = cut(order);
     let (turns, yes) = cut(given);
-    let turns = turns.parse::<u64>().ok()?;
-    let left = yes.parse::<u64>().ok()?;
+    let Ok(turns) = turns.parse::<u64>() else {
+        return None;
+    };
+    let Ok(left) = yes.parse::<u64>() else {
+        return None;
+    };
     let mut gate = Few {
         left,
         asked: Vec::new(alloc),

@@ -1,5 +1,5 @@
 //! Calls of the server that callers share, over connections: one after another by two passes, and beside each other by two threads. Beside
-//! them stand scripts of what needs no server of ours, which `test_core`, `test_far` and `test_values` tell.
+//! them stand scripts of what needs no server of ours, which `client`, `test_core` and `test_values` tell.
 //!
 //! The scripts stand in the `stdin` of `test_program`, behind its line `scripts`, each with an empty line behind it. The first line of a
 //! script begins with `#`, tells over which definition it runs, and is told as it is; each other line is a call, which is told with its
@@ -13,7 +13,7 @@
 //! | `# shared: ..` | the one that tests share, with each kind of rule |
 //! | `# example: ..` | none, and there are no orders: the shared definition and its rules are printed, which are files of `examples/` |
 //! | `# core ..: ..` | the small one, over which `test_core` takes turns: the head of its `src/lib.rt` has the lines |
-//! | `# far ..: ..` | none: the head of `src/lib.rt` of `test_far` has the parts and their lines |
+//! | `# far ..: ..` | none: the head of `src/client.rt` has the parts and their lines |
 //! | `# values: ..`, `# outside: ..` .. | none: the head of `src/lib.rt` of `test_values` has the parts and their lines |
 //!
 //! There is room for 64 objects. With the word `small` in the first line there is room for two objects in three chunks, for two
@@ -29,7 +29,7 @@
 //! | `new NUMBER` | the pass is made anew from the other; its tool fails at the conversion of this number, 0 for none |
 //! | `show SET KEPT` | no call: the text that shows the definition with the flags that the one body sets and the stored versions that the other keeps |
 //! | `unite` | the other pass is met into this one, and is made anew from it |
-//! | `over migrate PATH`, `over dump PATH`, `over restore PATH LINES` | what a client from outside does over the server at `/apis/PATH`, on a pass of its own: its tally, the lines that it wrote, how it ended, as `test_far` tells them. Behind ` \|\| ` stand requests of others, on another pass: before the first exchange, the second and on; `-` is none |
+//! | `over migrate PATH`, `over dump PATH`, `over restore PATH LINES` | what a client from outside does over the server at `/apis/PATH`, on a pass of its own: its tally, the lines that it wrote, how it ended, as `client` tells them. Behind ` \|\| ` stand requests of others, on another pass: before the first exchange, the second and on; `-` is none |
 //!
 //! A line `> INPUT` is the input of each `link` of its script, with `|` for the end of a line. A line `& CALL ORDER | ORDER` gives two
 //! orders on passes of their own in two threads, `METHOD ..` or `hire ..`: a call of the definition, `admit`, `form` or `hub_of`, that the
@@ -38,6 +38,7 @@
 
 mod beside;
 mod calls;
+mod client;
 mod failing;
 mod far;
 mod gate;

@@ -39,6 +39,25 @@ fn number_of(word: &str) -> u64 {
     word.parse::<u64>().unwrap_or(u64::MAX)
 }
 
+// An output, of which the call of a number fails.
+fn sink_of(alloc: Global, writes: u64) -> Option<MemSink> {
+    match vec![in alloc; writes] {
+        Ok(unwritten) => MemSink::new(alloc, ROOM, unwritten).ok(),
+        Err(_) => None,
+    }
+}
+
+// An input in pieces of a size, of which the call of a number fails.
+fn source_of(alloc: Global, bytes: Vec<u8>, piece: usize, reads: u64) -> Option<MemSource> {
+    if piece == 0 {
+        return None;
+    }
+    match vec![in alloc; reads] {
+        Ok(unread) => Some(MemSource::new(bytes, piece, unread)),
+        Err(_) => None,
+    }
+}
+
 // A connection with this input, in pieces of a size.
 fn link_of(
     alloc: Global,
@@ -48,39 +67,51 @@ fn link_of(
     writes: u64,
     is_short: bool,
 ) -> Option<Link> {
-    if piece == 0 {
-        return None;
+    match sink_of(alloc, writes) {
+        Some(sink) => match source_of(alloc, bytes, piece, reads) {
+            Some(source) => Some(Link {
+                source,
+                sink,
+                is_short,
+            }),
+            None => None,
+        },
+        None => None,
     }
-    let unread = vec![in alloc; reads].ok()?;
-    let unwritten = vec![in alloc; writes].ok()?;
-    let Ok(sink) = MemSink::new(alloc, ROOM, unwritten) else {
-        return None;
-    };
-    let source = MemSource::new(bytes, piece, unread);
-    Some(Link {
-        source,
-        sink,
-        is_short,
-    })
+}
+
+fn request_of(alloc: Global, method: &str, target: &str, body: &str) -> Option<Vec<u8>> {
+    let len = body.len();
+    match format!(in alloc; "{method} {target} HTTP/1.1\r\nContent-Length: {len}\r\n\r\n{body}") {
+        Ok(text) => text.as_str().as_bytes().to_vec(alloc).ok(),
+        Err(_) => None,
+    }
 }
 
 /// The bytes of one request.
 pub(crate) fn request_bytes(alloc: Global, order: &str) -> Option<Vec<u8>> {
     let (method, rest) = cut(order);
     let (target, body) = cut(rest);
-    let body = body.replace(alloc, "~", CHUNK).ok()?;
-    let body = body.as_str();
-    let len = body.len();
-    let text = format!(in alloc;
-        "{method} {target} HTTP/1.1\r\nContent-Length: {len}\r\n\r\n{body}"
-    ).ok()?;
-    text.as_str().as_bytes().to_vec(alloc).ok()
+    match body.replace(alloc, "~", CHUNK) {
+        Ok(body) => request_of(alloc, method, target, body.as_str()),
+        Err(_) => None,
+    }
 }
 
 // A connection with one request.
 fn request(alloc: Global, order: &str) -> Option<Link> {
-    let bytes = request_bytes(alloc, order)?;
-    link_of(alloc, bytes, 4_096, u64::MAX, u64::MAX, true)
+    match request_bytes(alloc, order) {
+        Some(bytes) => link_of(alloc, bytes, 4_096, u64::MAX, u64::MAX, true),
+        None => None,
+    }
+}
+
+// The bytes, where `|` stands for CR LF.
+fn unfolded(alloc: Global, input: &str) -> Option<Vec<u8>> {
+    match input.replace(alloc, "|", "\r\n") {
+        Ok(text) => text.as_str().as_bytes().to_vec(alloc).ok(),
+        Err(_) => None,
+    }
 }
 
 // A connection with the input of a script.
@@ -88,17 +119,20 @@ fn linked(alloc: Global, order: &str, input: &str) -> Option<Link> {
     let (_word, given) = cut(order);
     let (piece, rest) = cut(given);
     let (reads, writes) = cut(rest);
-    let piece = piece.parse::<usize>().ok()?;
-    let text = input.replace(alloc, "|", "\r\n").ok()?;
-    let bytes = text.as_str().as_bytes().to_vec(alloc).ok()?;
-    link_of(
-        alloc,
-        bytes,
-        piece,
-        number_of(reads),
-        number_of(writes),
-        false,
-    )
+    let Ok(piece) = piece.parse::<usize>() else {
+        return None;
+    };
+    match unfolded(alloc, input) {
+        Some(bytes) => link_of(
+            alloc,
+            bytes,
+            piece,
+            number_of(reads),
+            number_of(writes),
+            false,
+        ),
+        None => None,
+    }
 }
 
 fn opened(alloc: Global, order: &str, input: &str) -> Option<Link> {
@@ -111,21 +145,31 @@ fn opened(alloc: Global, order: &str, input: &str) -> Option<Link> {
 
 // The code and the body of a response.
 fn short(alloc: Global, written: &str) -> Option<String> {
-    let code = written.get(9..12)?;
-    let place = written.find("\r\n\r\n")?;
-    let body = written.get(place.wrapping_add(4)..)?;
+    let Some(code) = written.get(9..12) else {
+        return None;
+    };
+    let Some(place) = written.find("\r\n\r\n") else {
+        return None;
+    };
+    let Some(body) = written.get(place.wrapping_add(4)..) else {
+        return None;
+    };
     format!(in alloc; "{code} {body}").ok()
 }
 
 // How a connection ended, what is left of its input, and what was written to it.
 fn told(alloc: Global, link: &Link, end: End) -> Option<String> {
-    let written = str::from_utf8(link.sink.bytes()).ok()?;
+    let Ok(written) = str::from_utf8(link.sink.bytes()) else {
+        return None;
+    };
     if link.is_short {
         return short(alloc, written);
     }
     let left = link.source.left().len();
-    let written = written.replace(alloc, "\r\n", "|").ok()?;
-    format!(in alloc; "{end:?}, {left} left: {}", written.as_str()).ok()
+    match written.replace(alloc, "\r\n", "|") {
+        Ok(written) => format!(in alloc; "{end:?}, {left} left: {}", written.as_str()).ok(),
+        Err(_) => None,
+    }
 }
 
 /// The clock of all scripts.
@@ -162,9 +206,11 @@ pub(crate) fn asked<V: Versions + Drop, R: Wait>(
     requires { IsOf V.meaning api.now pass.old }
     ensures { IsOf V.meaning api.now pass.new }
 {
-    let mut link = opened(alloc, order, input)?;
-    let end = serve(rt, alloc, api, pass, &mut link.source, &mut link.sink);
-    let told = told(alloc, &link, end);
-    drop(link);
-    told
+    match opened(alloc, order, input) {
+        Some(mut link) => {
+            let end = serve(rt, alloc, api, pass, &mut link.source, &mut link.sink);
+            told(alloc, &link, end)
+        }
+        None => None,
+    }
 }

@@ -4,6 +4,7 @@ ghost use Rattle.shared_api.specs.Passes.{IsOf};
 
 use crate::beside::beside;
 use crate::calls::{called, called_beside, pass_from};
+use crate::client;
 use crate::failing::Failing;
 use crate::texts::cut;
 use crate::tool::Chosen;
@@ -151,9 +152,9 @@ fn step<V: Versions<Tool = Chosen> + Drop + Send + Sync, R: Threads + Wait + Syn
     ensures second { IsOf V.meaning api.now second.new }
 {
     let (sign, order) = cut(line);
-    match *sign.as_bytes().first()? {
-        b'A' => called_beside(rt, alloc, api, first, second, &mut team.first, order, input),
-        b'B' => called_beside(
+    match sign.as_bytes().first() {
+        Some(b'A') => called_beside(rt, alloc, api, first, second, &mut team.first, order, input),
+        Some(b'B') => called_beside(
             rt,
             alloc,
             api,
@@ -163,7 +164,7 @@ fn step<V: Versions<Tool = Chosen> + Drop + Send + Sync, R: Threads + Wait + Syn
             order,
             input,
         ),
-        b'&' => beside(rt, alloc, api, first, order),
+        Some(b'&') => beside(rt, alloc, api, first, order),
         _ => None,
     }
 }
@@ -204,10 +205,10 @@ fn by_two<V: Versions<Tool = Chosen> + Drop + Send + Sync, R: Threads + Wait + S
 ) -> Option<String>
     requires { IsOf V.meaning api.now pass.old }
 {
-    let mut other = pass_from(rt, api, pass, Chosen::at(0))?;
-    let told = run(rt, alloc, api, pass, &mut other, lines, input);
-    drop(other);
-    told
+    match pass_from(rt, api, pass, Chosen::at(0)) {
+        Some(mut other) => run(rt, alloc, api, pass, &mut other, lines, input),
+        None => None,
+    }
 }
 
 // A server that nothing has happened to, and its first pass.
@@ -235,11 +236,10 @@ fn opened<V: Versions<Tool = Chosen> + Drop + Send + Sync, R: Threads + Wait + S
 ) -> Option<String> {
     let limits = room_of(case.head.as_str());
     let (_sign, input) = cut(case.input.as_str());
-    let (api, mut pass) = begun(alloc, versions, Chosen::at(0), limits)?;
-    let told = by_two(rt, alloc, &api, &mut pass, case.lines.as_str(), input);
-    drop(pass);
-    drop(api);
-    told
+    match begun(alloc, versions, Chosen::at(0), limits) {
+        Some((api, mut pass)) => by_two(rt, alloc, &api, &mut pass, case.lines.as_str(), input),
+        None => None,
+    }
 }
 
 // The same, over a definition whose calls may be made to fail and to wait.
@@ -250,6 +250,13 @@ fn over<V: Versions<Tool = NoTool> + Drop + Send + Sync, R: Threads + Wait + Syn
     case: &Case,
 ) -> Option<String> {
     opened(rt, alloc, Failing::of(versions), case)
+}
+
+fn fixture<R: Threads + Wait + Sync>(rt: &R, alloc: Global, case: &Case) -> Option<String> {
+    match TwoNames::new(alloc) {
+        Ok(versions) => over(rt, alloc, versions, case),
+        Err(_) => None,
+    }
 }
 
 fn loaded<R: Threads + Wait + Sync>(
@@ -310,25 +317,26 @@ pub(crate) fn told<R: Threads + Wait + Sync + Files>(
 ) -> Option<String> {
     let head = case.head.as_str();
     if head.starts_with("# far ") {
-        return test_far::tell(alloc, head, case.lines.as_str());
+        return client::tell(alloc, head, case.lines.as_str());
     }
-    match *head.as_bytes().get(2)? {
-        b'f' => over(rt, alloc, TwoNames::new(alloc).ok()?, case),
-        b'b' => loaded(rt, alloc, built_in::definition(), built_in::rules(), case),
-        b'r' if head.starts_with("# renamed") => renamed(rt, alloc, case),
-        b's' => loaded(
+    match head.as_bytes().get(2) {
+        Some(b'f') => fixture(rt, alloc, case),
+        Some(b'b') => loaded(rt, alloc, built_in::definition(), built_in::rules(), case),
+        Some(b'r') if head.starts_with("# renamed") => renamed(rt, alloc, case),
+        Some(b's') => loaded(
             rt,
             alloc,
             crontab_example::definition(),
             crontab_example::rules(),
             case,
         ),
-        b'c' => test_core::tell(alloc, head, case.lines.as_str()),
-        b'e' => joined(
+        Some(b'c') => test_core::tell(alloc, head, case.lines.as_str()),
+        Some(b'e') => joined(
             alloc,
             crontab_example::definition(),
             crontab_example::rules(),
         ),
-        _ => test_values::tell(rt, alloc, head, case.lines.as_str()),
+        Some(_) => test_values::tell(rt, alloc, head, case.lines.as_str()),
+        None => None,
     }
 }

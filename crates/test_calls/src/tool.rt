@@ -19,10 +19,10 @@ pub enum Place {
 
 // The call of this name, by its second letter.
 fn place_of(word: &str) -> Option<Place> {
-    match *word.as_bytes().get(1)? {
-        b'd' => Some(Place::Admit),
-        b'o' => Some(Place::Form),
-        b'u' => Some(Place::HubOf),
+    match word.as_bytes().get(1) {
+        Some(b'd') => Some(Place::Admit),
+        Some(b'o') => Some(Place::Form),
+        Some(b'u') => Some(Place::HubOf),
         _ => None,
     }
 }
@@ -124,14 +124,18 @@ impl Chosen {
 
     /// A tool that never fails, and waits at the post the first time that the call of this name is made.
     pub fn waiting(word: &str, post: &Arc<Post, Global>) -> Option<Chosen> {
-        let place = place_of(word)?;
-        let post = Arc::try_clone(post).ok()?;
-        Some(Chosen {
-            left: 0,
-            faults: 0,
-            place,
-            post: Some(post),
-        })
+        let Some(place) = place_of(word) else {
+            return None;
+        };
+        match Arc::try_clone(post) {
+            Ok(post) => Some(Chosen {
+                left: 0,
+                faults: 0,
+                place,
+                post: Some(post),
+            }),
+            Err(_) => None,
+        }
     }
 
     /// Waits where this is the call that waits.

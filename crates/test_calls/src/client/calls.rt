@@ -4,7 +4,7 @@ ghost use Rattle.kj_value.specs.Json.{depth};
 ghost use Rattle.kj_value.specs.Seen.{json};
 ghost use Rattle.wire_client.specs.declared.buffer.TheConstants.{ANSWER_LEVELS};
 
-use crate::answers::{answered, link_of};
+use crate::client::answers::{answered, link_of};
 use edge_io::MemLink;
 use kj_value::{JVal, MAX_JSON_LEVELS, depth, read, write};
 use kube_meta::{Key, NAME_BYTES, NAMESPACE_BYTES};
@@ -15,7 +15,7 @@ use wire_client::{
 };
 
 /// The place of all cases.
-pub fn place(alloc: Global) -> Option<Place> {
+pub(crate) fn place(alloc: Global) -> Option<Place> {
     read_place(alloc, "http://h/apis/example.com/v1/crontabs").ok()
 }
 
@@ -107,8 +107,12 @@ fn listed(
 }
 
 fn list(alloc: Global, buffer: &mut ResponseBuffer, place: &Place, case: &str) -> Option<String> {
-    let (limit, rest) = case.split_once(' ')?;
-    let (token, rest) = rest.split_once(' ')?;
+    let Some((limit, rest)) = case.split_once(' ') else {
+        return None;
+    };
+    let Some((token, rest)) = rest.split_once(' ') else {
+        return None;
+    };
     let token = if token == "-" { "" } else { token };
     let Ok(limit) = limit.parse::<u64>() else {
         return None;
@@ -139,8 +143,12 @@ fn got(
 }
 
 fn get(alloc: Global, buffer: &mut ResponseBuffer, place: &Place, case: &str) -> Option<String> {
-    let (ns, rest) = case.split_once(' ')?;
-    let (name, rest) = rest.split_once(' ')?;
+    let Some((ns, rest)) = case.split_once(' ') else {
+        return None;
+    };
+    let Some((name, rest)) = rest.split_once(' ') else {
+        return None;
+    };
     match key_of(alloc, ns, name) {
         Some(key) => got(alloc, buffer, place, &key, rest),
         None => None,
@@ -196,7 +204,9 @@ fn sent(
     to: To<'_>,
     case: &str,
 ) -> Option<String> {
-    let (body, answer) = case.split_once(' ')?;
+    let Some((body, answer)) = case.split_once(' ') else {
+        return None;
+    };
     match read(alloc, body.as_bytes(), 100) {
         Ok(body) => sent_body(alloc, buffer, place, to, &body, answer),
         Err(_) => None,
@@ -204,8 +214,12 @@ fn sent(
 }
 
 fn put(alloc: Global, buffer: &mut ResponseBuffer, place: &Place, case: &str) -> Option<String> {
-    let (ns, rest) = case.split_once(' ')?;
-    let (name, rest) = rest.split_once(' ')?;
+    let Some((ns, rest)) = case.split_once(' ') else {
+        return None;
+    };
+    let Some((name, rest)) = rest.split_once(' ') else {
+        return None;
+    };
     match key_of(alloc, ns, name) {
         Some(key) => sent(alloc, buffer, place, To::Key(&key), rest),
         None => None,
@@ -213,7 +227,9 @@ fn put(alloc: Global, buffer: &mut ResponseBuffer, place: &Place, case: &str) ->
 }
 
 fn post(alloc: Global, buffer: &mut ResponseBuffer, place: &Place, case: &str) -> Option<String> {
-    let (ns, rest) = case.split_once(' ')?;
+    let Some((ns, rest)) = case.split_once(' ') else {
+        return None;
+    };
     sent(alloc, buffer, place, To::Namespace(ns), rest)
 }
 
@@ -234,8 +250,10 @@ fn of_call(
 }
 
 /// The request that a call makes, and what it gives.
-pub fn answer(alloc: Global, buffer: &mut ResponseBuffer, case: &str) -> Option<String> {
-    let (word, rest) = case.split_once(' ')?;
+pub(crate) fn answer(alloc: Global, buffer: &mut ResponseBuffer, case: &str) -> Option<String> {
+    let Some((word, rest)) = case.split_once(' ') else {
+        return None;
+    };
     match place(alloc) {
         Some(place) => of_call(alloc, buffer, &place, word, rest),
         None => None,

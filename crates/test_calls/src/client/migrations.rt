@@ -1,6 +1,6 @@
 //! Migrations over a link in memory.
-use crate::answers::{answered, cut, link_of_all, response, unfolded};
-use crate::calls::place;
+use crate::client::answers::{answered, cut, link_of_all, response, unfolded};
+use crate::client::calls::place;
 use edge_io::MemLink;
 use far_migrate::{FarFault, Tally, migrate};
 use std::alloc::Global;
@@ -45,14 +45,18 @@ fn token(words: &str) -> &str {
     ""
 }
 
-// A page of these objects; a word that begins with `>` is its token.
-fn page(alloc: Global, words: &str) -> Option<String> {
-    let items = items(alloc, words)?;
-    let items = items.as_str();
-    let token = token(words);
+fn page_of(alloc: Global, items: &str, token: &str) -> Option<String> {
     format!(in alloc;
         r#"{{"apiVersion":"example.com/v1","items":[{items}],"metadata":{{"continue":"{token}","resourceVersion":"9"}}}}"#
     ).ok()
+}
+
+// A page of these objects; a word that begins with `>` is its token.
+fn page(alloc: Global, words: &str) -> Option<String> {
+    match items(alloc, words) {
+        Some(items) => page_of(alloc, items.as_str(), token(words)),
+        None => None,
+    }
 }
 
 // A response with what is told in short, if there is any.
@@ -84,7 +88,7 @@ fn add_answer(alloc: Global, answers: &mut Vec<Vec<u8>>, short: &str) -> bool {
 }
 
 /// The answers, one after the other; the exchange behind the last one fails.
-pub fn answers_of(alloc: Global, short: &str) -> Option<Vec<Vec<u8>>> {
+pub(crate) fn answers_of(alloc: Global, short: &str) -> Option<Vec<Vec<u8>>> {
     let mut answers = Vec::new(alloc);
     for answer in short.split(';') {
         if !add_answer(alloc, &mut answers, answer.trim()) {
@@ -112,7 +116,7 @@ fn fault_of(alloc: Global, fault: FarFault) -> Option<String> {
 }
 
 /// The tally of a migration, or why there is none.
-pub fn told(alloc: Global, came: Result<Tally, FarFault>) -> Option<String> {
+pub(crate) fn told(alloc: Global, came: Result<Tally, FarFault>) -> Option<String> {
     match came {
         Ok(tally) => tally_of(alloc, &tally),
         Err(fault) => fault_of(alloc, fault),
@@ -127,7 +131,7 @@ fn migrated_over(alloc: Global, far: &mut PlainFar<MemLink>) -> Option<String> {
 }
 
 /// The requests of a migration, and its tally, or why there is none.
-pub fn answer(alloc: Global, case: &str) -> Option<String> {
+pub(crate) fn answer(alloc: Global, case: &str) -> Option<String> {
     match answers_of(alloc, case) {
         Some(answers) => {
             let mut far = link_of_all(alloc, answers);

@@ -13,7 +13,7 @@ fn add_byte(bytes: &mut Vec<u8>, byte: u8) -> bool {
 }
 
 /// The bytes, where `|` stands for CR LF.
-pub fn unfolded(alloc: Global, text: &str) -> Option<Vec<u8>> {
+pub(crate) fn unfolded(alloc: Global, text: &str) -> Option<Vec<u8>> {
     let mut bytes = Vec::new(alloc);
     for byte in text.as_bytes() {
         if !add_byte(&mut bytes, *byte) {
@@ -24,7 +24,7 @@ pub fn unfolded(alloc: Global, text: &str) -> Option<Vec<u8>> {
 }
 
 /// A response of that code and body.
-pub fn response(alloc: Global, code: &str, body: &str) -> Option<Vec<u8>> {
+pub(crate) fn response(alloc: Global, code: &str, body: &str) -> Option<Vec<u8>> {
     let length = body.len();
     match format!(in alloc; "HTTP/1.1 {code} X\r\nContent-Length: {length}\r\n\r\n{body}") {
         Ok(text) => text.as_str().as_bytes().to_vec(alloc).ok(),
@@ -33,7 +33,9 @@ pub fn response(alloc: Global, code: &str, body: &str) -> Option<Vec<u8>> {
 }
 
 fn answer_bytes(alloc: Global, answer: &str) -> Option<Vec<u8>> {
-    let (first, rest) = answer.split_once(' ')?;
+    let Some((first, rest)) = answer.split_once(' ') else {
+        return None;
+    };
     if first == "raw" {
         return unfolded(alloc, rest);
     }
@@ -48,7 +50,7 @@ fn add_answer(alloc: Global, answers: &mut Vec<Vec<u8>>, answer: &str) -> bool {
 }
 
 /// A link that gives this one answer, or that fails where it is `broken`.
-pub fn link_of(alloc: Global, answer: &str) -> Option<PlainFar<MemLink>> {
+pub(crate) fn link_of(alloc: Global, answer: &str) -> Option<PlainFar<MemLink>> {
     let mut answers = Vec::new(alloc);
     if answer == "broken" || add_answer(alloc, &mut answers, answer) {
         Some(link_of_all(alloc, answers))
@@ -58,12 +60,12 @@ pub fn link_of(alloc: Global, answer: &str) -> Option<PlainFar<MemLink>> {
 }
 
 /// A link that gives these answers one after the other; the exchange behind the last one fails.
-pub fn link_of_all(alloc: Global, answers: Vec<Vec<u8>>) -> PlainFar<MemLink> {
+pub(crate) fn link_of_all(alloc: Global, answers: Vec<Vec<u8>>) -> PlainFar<MemLink> {
     PlainFar::new(MemLink::new(alloc, answers, Vec::new(alloc)))
 }
 
 /// What stands before the first of these bytes, and behind it.
-pub fn cut<'a>(text: &'a str, at: &str) -> (&'a str, &'a str) {
+pub(crate) fn cut<'a>(text: &'a str, at: &str) -> (&'a str, &'a str) {
     match text.split_once(at) {
         Some(parts) => parts,
         None => (text, ""),
@@ -102,7 +104,7 @@ fn add_requests(alloc: Global, made: &[MemExchange], out: &mut String) -> bool {
 }
 
 /// The requests that were made, told one after the other.
-pub fn requests_of(alloc: Global, far: PlainFar<MemLink>) -> Option<String> {
+pub(crate) fn requests_of(alloc: Global, far: PlainFar<MemLink>) -> Option<String> {
     let mut out = String::new(alloc);
     if add_requests(alloc, far.into_link().made(), &mut out) {
         Some(out)
@@ -123,7 +125,11 @@ fn joined(front: String, told: &Option<String>) -> Option<String> {
 }
 
 /// The requests that were made, and what is told behind them.
-pub fn answered(alloc: Global, far: PlainFar<MemLink>, told: Option<String>) -> Option<String> {
+pub(crate) fn answered(
+    alloc: Global,
+    far: PlainFar<MemLink>,
+    told: Option<String>,
+) -> Option<String> {
     match requests_of(alloc, far) {
         Some(out) => joined(out, &told),
         None => None,

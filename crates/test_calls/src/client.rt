@@ -1,6 +1,6 @@
 //! Cases of a client of a server's API: addresses, calls, migrations, dumps and restorings over links, inputs and outputs in memory.
 //!
-//! They are told by scripts, which are cases of `test_calls`. The first line of a script says of which part it is, and its name. Each other
+//! They are told by scripts. The first line of a script says of which part it is, and its name. Each other
 //! line is a case, and its answer is a line. Behind the last answer of a case each exchange fails.
 //!
 //! | part | what a case is | what is answered |
@@ -12,16 +12,14 @@
 //! | `# far restores` | `-`, or the number of the input's call that fails; the input, with `\|` for a line feed and `^` for 65,536 spaces; ` <- `; and answers, which may be `created` and an object | the requests, and how it ended |
 //!
 //! Nothing here has a contract but what a call asks for.
-#![tactic(auto)]
-
 mod answers;
 mod backups;
 mod calls;
 mod migrations;
 mod places;
 
-pub use backups::{input_of, restore_end, wrote};
-pub use migrations::told;
+pub(crate) use backups::{input_of, restore_end, wrote};
+pub(crate) use migrations::told;
 use std::alloc::Global;
 use wire_client::ResponseBuffer;
 
@@ -47,8 +45,13 @@ fn add(all: &mut String, came: &Option<String>) -> bool {
 
 /// What a script answers, whose first line begins with `# far `, the name of a part and a colon: a line for each case. One buffer serves all
 /// calls of it.
-pub fn tell(alloc: Global, head: &str, lines: &str) -> Option<String> {
-    let (part, _name) = head.strip_prefix("# far ")?.split_once(':')?;
+pub(crate) fn tell(alloc: Global, head: &str, lines: &str) -> Option<String> {
+    let Some(rest) = head.strip_prefix("# far ") else {
+        return None;
+    };
+    let Some((part, _name)) = rest.split_once(':') else {
+        return None;
+    };
     let mut buffer = ResponseBuffer::new();
     let mut all = String::new(alloc);
     for line in lines.lines() {

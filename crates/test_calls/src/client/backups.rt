@@ -1,7 +1,7 @@
 //! Dumps and restorings over a link, an output and an input in memory.
-use crate::answers::{answered, link_of_all};
-use crate::calls::place;
-use crate::migrations::answers_of;
+use crate::client::answers::{answered, link_of_all};
+use crate::client::calls::place;
+use crate::client::migrations::answers_of;
 use edge_io::{MemLink, MemSink, MemSource};
 use record_dump::{DumpEnd, RestoreEnd, dump, restore};
 use std::alloc::Global;
@@ -30,7 +30,7 @@ fn dump_end(alloc: Global, end: DumpEnd) -> Option<String> {
 }
 
 /// How a restoring ended.
-pub fn restore_end(alloc: Global, end: RestoreEnd) -> Option<String> {
+pub(crate) fn restore_end(alloc: Global, end: RestoreEnd) -> Option<String> {
     match end {
         RestoreEnd::Done { created, present } => {
             format!(in alloc; "created {created}, present {present}").ok()
@@ -76,7 +76,7 @@ fn add_wrote(out: &mut String, bytes: &[u8], end: &str) -> bool {
 }
 
 /// The lines that a dump wrote, and how it ended.
-pub fn wrote(alloc: Global, bytes: &[u8], end: DumpEnd) -> Option<String> {
+pub(crate) fn wrote(alloc: Global, bytes: &[u8], end: DumpEnd) -> Option<String> {
     let mut out = String::new(alloc);
     let is_added = match dump_end(alloc, end) {
         Some(end) => add_wrote(&mut out, bytes, end.as_str()),
@@ -115,8 +115,10 @@ fn dumped_to(alloc: Global, sink: &mut MemSink, answers: &str) -> Option<String>
 }
 
 /// The requests of a dump, the lines that it wrote, and how it ended.
-pub fn dumped(alloc: Global, case: &str) -> Option<String> {
-    let (word, answers) = case.split_once(' ')?;
+pub(crate) fn dumped(alloc: Global, case: &str) -> Option<String> {
+    let Some((word, answers)) = case.split_once(' ') else {
+        return None;
+    };
     match sink_of(alloc, word) {
         Some(mut sink) => dumped_to(alloc, &mut sink, answers),
         None => None,
@@ -141,7 +143,7 @@ fn add_byte(bytes: &mut Vec<u8>, byte: u8) -> bool {
 }
 
 /// The bytes, where `|` stands for a line feed and `^` for 65,536 spaces.
-pub fn input_of(alloc: Global, text: &str) -> Option<Vec<u8>> {
+pub(crate) fn input_of(alloc: Global, text: &str) -> Option<Vec<u8>> {
     let mut bytes = Vec::new(alloc);
     for byte in text.as_bytes() {
         if !add_byte(&mut bytes, *byte) {
@@ -185,9 +187,13 @@ fn restored_from(alloc: Global, source: &mut MemSource, answers: &str) -> Option
 }
 
 /// The requests of a restoring, and how it ended.
-pub fn restored(alloc: Global, case: &str) -> Option<String> {
-    let (word, rest) = case.split_once(' ')?;
-    let (input, answers) = rest.split_once(" <- ")?;
+pub(crate) fn restored(alloc: Global, case: &str) -> Option<String> {
+    let Some((word, rest)) = case.split_once(' ') else {
+        return None;
+    };
+    let Some((input, answers)) = rest.split_once(" <- ") else {
+        return None;
+    };
     match source_of(alloc, word, input) {
         Some(mut source) => restored_from(alloc, &mut source, answers),
         None => None,

@@ -3,7 +3,7 @@ use std::alloc::Global;
 use wire_client::{PlaceFault, read_place};
 
 /// The place whose address a text is.
-pub fn answer(alloc: Global, case: &str) -> Option<String> {
+pub(crate) fn answer(alloc: Global, case: &str) -> Option<String> {
     match read_place(alloc, case) {
         Ok(place) => {
             let host = place.host.as_str();
