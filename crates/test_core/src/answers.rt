@@ -53,9 +53,10 @@ fn done(alloc: Global, rv: u64, stored: &StoredList) -> Option<String> {
 
 /// How a change of the flags ended, if it was made.
 pub fn set_text(alloc: Global, end: Option<SetEnd>) -> Option<String> {
-    match end? {
-        SetEnd::Done { rv, stored } => done(alloc, rv, &stored),
-        SetEnd::Unchanged { stored } => listed(alloc, "Unchanged", &stored),
+    match end {
+        Some(SetEnd::Done { rv, stored }) => done(alloc, rv, &stored),
+        Some(SetEnd::Unchanged { stored }) => listed(alloc, "Unchanged", &stored),
+        None => None,
     }
 }
 

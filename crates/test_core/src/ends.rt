@@ -26,46 +26,50 @@ fn storage_moved(alloc: Global, now: u8) -> Option<String> {
 
 /// How a create ended, if it was made.
 pub fn create_text(alloc: Global, end: Option<CreateEnd>) -> Option<String> {
-    match end? {
-        CreateEnd::Done { rv } => format!(in alloc; "Done {{ rv: {rv} }}").ok(),
-        CreateEnd::Unserved => word(alloc, "Unserved"),
-        CreateEnd::AlreadyExists => word(alloc, "AlreadyExists"),
-        CreateEnd::StorageMoved { now } => storage_moved(alloc, now),
-        CreateEnd::Full(room) => full(alloc, &room),
+    match end {
+        Some(CreateEnd::Done { rv }) => format!(in alloc; "Done {{ rv: {rv} }}").ok(),
+        Some(CreateEnd::Unserved) => word(alloc, "Unserved"),
+        Some(CreateEnd::AlreadyExists) => word(alloc, "AlreadyExists"),
+        Some(CreateEnd::StorageMoved { now }) => storage_moved(alloc, now),
+        Some(CreateEnd::Full(room)) => full(alloc, &room),
+        None => None,
     }
 }
 
 /// How a replace ended, if it was made.
 pub fn replace_text(alloc: Global, end: Option<ReplaceEnd>) -> Option<String> {
-    match end? {
-        ReplaceEnd::Done { rv, born } => done(alloc, "Done", rv, born),
-        ReplaceEnd::Unserved => word(alloc, "Unserved"),
-        ReplaceEnd::Gone => word(alloc, "Gone"),
-        ReplaceEnd::Moved { newer } => moved(alloc, newer),
-        ReplaceEnd::StorageMoved { now } => storage_moved(alloc, now),
-        ReplaceEnd::Full(room) => full(alloc, &room),
+    match end {
+        Some(ReplaceEnd::Done { rv, born }) => done(alloc, "Done", rv, born),
+        Some(ReplaceEnd::Unserved) => word(alloc, "Unserved"),
+        Some(ReplaceEnd::Gone) => word(alloc, "Gone"),
+        Some(ReplaceEnd::Moved { newer }) => moved(alloc, newer),
+        Some(ReplaceEnd::StorageMoved { now }) => storage_moved(alloc, now),
+        Some(ReplaceEnd::Full(room)) => full(alloc, &room),
+        None => None,
     }
 }
 
 /// How a delete ended, if it was made.
 pub fn delete_text(alloc: Global, end: Option<DeleteEnd>) -> Option<String> {
-    match end? {
-        DeleteEnd::Done { rv, born } => done(alloc, "Done", rv, born),
-        DeleteEnd::Kept { rv, born } => done(alloc, "Kept", rv, born),
-        DeleteEnd::Unserved => word(alloc, "Unserved"),
-        DeleteEnd::NotFound => word(alloc, "NotFound"),
-        DeleteEnd::Moved { newer } => moved(alloc, newer),
-        DeleteEnd::StorageMoved { now } => storage_moved(alloc, now),
+    match end {
+        Some(DeleteEnd::Done { rv, born }) => done(alloc, "Done", rv, born),
+        Some(DeleteEnd::Kept { rv, born }) => done(alloc, "Kept", rv, born),
+        Some(DeleteEnd::Unserved) => word(alloc, "Unserved"),
+        Some(DeleteEnd::NotFound) => word(alloc, "NotFound"),
+        Some(DeleteEnd::Moved { newer }) => moved(alloc, newer),
+        Some(DeleteEnd::StorageMoved { now }) => storage_moved(alloc, now),
+        None => None,
     }
 }
 
 /// How a release ended, if it was made.
 pub fn release_text(alloc: Global, end: Option<ReleaseEnd>) -> Option<String> {
-    match end? {
-        ReleaseEnd::Done { rv, born } => done(alloc, "Done", rv, born),
-        ReleaseEnd::Unserved => word(alloc, "Unserved"),
-        ReleaseEnd::Gone => word(alloc, "Gone"),
-        ReleaseEnd::Moved { newer } => moved(alloc, newer),
+    match end {
+        Some(ReleaseEnd::Done { rv, born }) => done(alloc, "Done", rv, born),
+        Some(ReleaseEnd::Unserved) => word(alloc, "Unserved"),
+        Some(ReleaseEnd::Gone) => word(alloc, "Gone"),
+        Some(ReleaseEnd::Moved { newer }) => moved(alloc, newer),
+        None => None,
     }
 }
 

@@ -288,7 +288,9 @@ fn spelled_room(numbers: &str) -> Option<Limits> {
 
 // The room that the first line of a script tells.
 fn room_of(head: &str) -> Option<Limits> {
-    let (front, _name) = head.split_once(": ")?;
+    let Some((front, _name)) = head.split_once(": ") else {
+        return None;
+    };
     if front == "# core" {
         return Some(ROOM);
     }

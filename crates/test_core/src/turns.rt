@@ -1,6 +1,6 @@
 //! Turns of clients and of whoever changes the settings. They know of `Versions` alone, so that what the definition means
 //! stays outside their proofs, and they tell their callers nothing.
-ghost use Rattle.std.specs.Prelude.{◌≡◌, ◌^◌, ◌≤◌, Some, IfSome, IsSome, option_map};
+ghost use Rattle.std.specs.Prelude.{◌≡◌, ◌^◌, ◌≤◌, Some, IfSome, IsTrue, option_map};
 ghost use Rattle.record_store.specs.ByKey.{find};
 ghost use Rattle.record_store.specs.View.{item_key};
 ghost use Rattle.api_core.specs.Prepared.{IsSized};
@@ -26,14 +26,11 @@ pub fn opened<V: Versions + Drop>(alloc: Global, versions: V, limits: Limits) ->
 }
 
 /// The revision is far from its bound.
-pub fn young<V: Versions>(core: &Core<V>) -> Option<()>
-    ensures { IsSome result → core.now.view.revision ≤ 2 ^ 61 }
+pub fn young<V: Versions>(core: &Core<V>) -> bool
+    ensures { IsTrue result → core.now.view.revision ≤ 2 ^ 61 }
 {
     let (_flags, _stored, revision) = core.settings();
-    if revision >= 1_000_000 {
-        return None;
-    }
-    Some(())
+    revision < 1_000_000
 }
 
 /// The key of a name.
@@ -48,8 +45,10 @@ pub fn key_of(alloc: Global, name: &str) -> Option<Key> {
 pub fn value(alloc: Global, order: &Order<'_>) -> Option<Prepared>
     ensures { IfSome result IsSized }
 {
-    let key = key_of(alloc, order.name)?;
-    prepared(alloc, key, order.at, order.text, order.weight)
+    match key_of(alloc, order.name) {
+        Some(key) => prepared(alloc, key, order.at, order.text, order.weight),
+        None => None,
+    }
 }
 
 /// A text that was prepared for a version, of this weight.
@@ -78,9 +77,13 @@ pub fn create<V: Versions>(
     core: &mut Core<V>,
     order: &Order<'_>,
 ) -> Option<CreateEnd> {
-    young(core)?;
-    let new = value(alloc, order)?;
-    Some(core.commit_create(order.asked, new))
+    if !young(core) {
+        return None;
+    }
+    match value(alloc, order) {
+        Some(new) => Some(core.commit_create(order.asked, new)),
+        None => None,
+    }
 }
 
 /// Replaces the object of a name.
@@ -89,9 +92,13 @@ pub fn replace<V: Versions>(
     core: &mut Core<V>,
     order: &Order<'_>,
 ) -> Option<ReplaceEnd> {
-    young(core)?;
-    let new = value(alloc, order)?;
-    Some(core.commit_replace(order.asked, order.number, new))
+    if !young(core) {
+        return None;
+    }
+    match value(alloc, order) {
+        Some(new) => Some(core.commit_replace(order.asked, order.number, new)),
+        None => None,
+    }
 }
 
 /// Deletes the object of a name, which has no finalizer.
@@ -100,9 +107,13 @@ pub fn delete<V: Versions>(
     core: &mut Core<V>,
     order: &Order<'_>,
 ) -> Option<DeleteEnd> {
-    young(core)?;
-    let key = key_of(alloc, order.name)?;
-    Some(core.commit_delete(order.asked, &key, order.number, None))
+    if !young(core) {
+        return None;
+    }
+    match key_of(alloc, order.name) {
+        Some(key) => Some(core.commit_delete(order.asked, &key, order.number, None)),
+        None => None,
+    }
 }
 
 /// Deletes the object of a name, which has a finalizer: the text `stamped` was prepared for a version, where an object
@@ -112,9 +123,13 @@ pub fn mark<V: Versions>(
     core: &mut Core<V>,
     order: &Order<'_>,
 ) -> Option<DeleteEnd> {
-    young(core)?;
-    let key = key_of(alloc, order.name)?;
-    mark_under(alloc, core, &key, order)
+    if !young(core) {
+        return None;
+    }
+    match key_of(alloc, order.name) {
+        Some(key) => mark_under(alloc, core, &key, order),
+        None => None,
+    }
 }
 
 // The same of the object of a key.
@@ -126,9 +141,10 @@ fn mark_under<V: Versions>(
 ) -> Option<DeleteEnd>
     requires { core.old.view.revision ≤ 2 ^ 61 }
 {
-    match weight_of(alloc, core, key)? {
-        Some(weight) => marked(alloc, core, key, order, weight),
-        None => Some(DeleteEnd::NotFound),
+    match weight_of(alloc, core, key) {
+        Some(Some(weight)) => marked(alloc, core, key, order, weight),
+        Some(None) => Some(DeleteEnd::NotFound),
+        None => None,
     }
 }
 
@@ -143,16 +159,20 @@ fn marked<V: Versions>(
     requires few { core.old.view.revision ≤ 2 ^ 61 }
     requires weight { Some weight ≡ option_map (λ x. x.weight) (find item_key key.now core.old.view.store.items) }
 {
-    let stamped = prepared(alloc, again(key)?, order.at, "stamped", weight)?;
-    Some(core.commit_delete(order.asked, key, order.number, Some(stamped)))
+    match prepared_again(alloc, key, order.at, "stamped", weight) {
+        Some(stamped) => Some(core.commit_delete(order.asked, key, order.number, Some(stamped))),
+        None => None,
+    }
 }
 
-/// The same key once more.
-pub fn again(key: &Key) -> Option<Key>
-    ensures { IfSome result (λ k. k ≡ key.now) }
+/// A text that was prepared for a version, of this weight, under the same key once more.
+pub fn prepared_again(alloc: Global, key: &Key, at: u8, text: &str, weight: u64) -> Option<Prepared>
+    ensures sized { IfSome result IsSized }
+    ensures key { IfSome result (λ p. p.key ≡ key.now) }
+    ensures weight { IfSome result (λ p. p.weight ≡ weight) }
 {
     match key.shared() {
-        Ok(key) => Some(key),
+        Ok(key) => prepared(alloc, key, at, text, weight),
         Err(_) => None,
     }
 }
@@ -176,15 +196,18 @@ pub fn let_go<V: Versions>(
     core: &mut Core<V>,
     order: &Order<'_>,
 ) -> Option<ReleaseEnd> {
-    young(core)?;
-    let key = key_of(alloc, order.name)?;
-    Some(core.commit_release(order.asked, &key, order.number))
+    if !young(core) {
+        return None;
+    }
+    match key_of(alloc, order.name) {
+        Some(key) => Some(core.commit_release(order.asked, &key, order.number)),
+        None => None,
+    }
 }
 
 /// Stores one of the first two versions from now on.
 pub fn store<V: Versions>(core: &mut Core<V>, v: u8) -> Option<SetEnd> {
-    young(core)?;
-    if v >= 2 {
+    if !young(core) || v >= 2 {
         return None;
     }
     let (flags, _stored, _revision) = core.settings();
@@ -194,7 +217,9 @@ pub fn store<V: Versions>(core: &mut Core<V>, v: u8) -> Option<SetEnd> {
 
 /// Keeps one version in the stored list.
 pub fn keep<V: Versions>(core: &mut Core<V>, v: u8) -> Option<TrimEnd> {
-    young(core)?;
+    if !young(core) {
+        return None;
+    }
     Some(core.trim(&StoredList {
         len: 1,
         items: [v, 0, 0, 0, 0, 0, 0, 0],
@@ -203,9 +228,11 @@ pub fn keep<V: Versions>(core: &mut Core<V>, v: u8) -> Option<TrimEnd> {
 
 /// Starts a migration.
 pub fn begin<V: Versions>(alloc: Global, core: &mut Core<V>, name: &str) -> Option<StartEnd> {
-    young(core)?;
-    if !name_ok(name) {
+    if !young(core) || !name_ok(name) {
         return None;
     }
-    Some(core.start_migration(Txt::of(alloc, name).ok()?))
+    match Txt::of(alloc, name) {
+        Ok(name) => Some(core.start_migration(name)),
+        Err(_) => None,
+    }
 }

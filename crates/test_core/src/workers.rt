@@ -1,5 +1,5 @@
 //! The turns of workers.
-ghost use Rattle.std.specs.Prelude.{◌≡◌, ◌^◌, ◌<◌, ◌≤◌, None, Some, IfSome, IsSome, IsTrue, option_map};
+ghost use Rattle.std.specs.Prelude.{◌≡◌, ◌^◌, ◌<◌, ◌≤◌, None, Some, IfSome, IsTrue, option_map};
 ghost use Rattle.kube_meta.specs.Plan.{running};
 ghost use Rattle.migrate_core.specs.Moves.{work_of};
 ghost use Rattle.record_store.specs.ByKey.{find};
@@ -8,7 +8,7 @@ ghost use Rattle.api_core.specs.Prepared.{FitsAt, IsSized, seen_item};
 ghost use Rattle.api_core.specs.Ready.{IfPrepare, IsNext};
 
 use crate::order::Order;
-use crate::turns::{again, prepared, value, young};
+use crate::turns::{prepared_again, value, young};
 use api_calls::Versions;
 use api_core::{Core, Prepared, Seen, TurnEnd};
 use kube_meta::Key;
@@ -16,22 +16,18 @@ use migrate_core::Worker;
 use std::alloc::Global;
 
 /// The last claim's number is far from its bound.
-fn few_claims<V: Versions>(core: &Core<V>) -> Option<()>
-    ensures { IsSome result → core.now.view.migrations.plan.last < 2 ^ 61 }
+fn few_claims<V: Versions>(core: &Core<V>) -> bool
+    ensures { IsTrue result → core.now.view.migrations.plan.last < 2 ^ 61 }
 {
-    if core.last_claim() >= 1_000_000 {
-        return None;
-    }
-    Some(())
+    core.last_claim() < 1_000_000
 }
 
 // Both numbers are far from their bounds.
-fn far<V: Versions>(core: &Core<V>) -> Option<()>
-    ensures few { IsSome result → core.now.view.revision ≤ 2 ^ 61 }
-    ensures claims { IsSome result → core.now.view.migrations.plan.last < 2 ^ 61 }
+fn far<V: Versions>(core: &Core<V>) -> bool
+    ensures few { IsTrue result → core.now.view.revision ≤ 2 ^ 61 }
+    ensures claims { IsTrue result → core.now.view.migrations.plan.last < 2 ^ 61 }
 {
-    young(core)?;
-    few_claims(core)
+    young(core) && few_claims(core)
 }
 
 /// A call with nothing prepared.
@@ -39,7 +35,9 @@ pub fn ask<V: Versions>(core: &mut Core<V>, w: &mut Worker) -> Option<TurnEnd>
     ensures { IfSome result (λ end. IfPrepare end (λ k. IsNext (work_of w.new.claim core.new.view.migrations) k
         core.new.view.store.items (find item_key k core.new.view.store.items))) }
 {
-    far(core)?;
+    if !far(core) {
+        return None;
+    }
     Some(core.migration_turn(w, None))
 }
 
@@ -67,9 +65,13 @@ fn touch<V: Versions>(
     requires { IsNext (work_of w.old.claim core.old.view.migrations) key.now
         core.old.view.store.items (find item_key key.now core.old.view.store.items) }
 {
-    far(core)?;
-    let moved = moved_under(alloc, core, key, at)?;
-    Some(turned(core, w, rv, moved))
+    if !far(core) {
+        return None;
+    }
+    match moved_under(alloc, core, key, at) {
+        Some(moved) => Some(turned(core, w, rv, moved)),
+        None => None,
+    }
 }
 
 // What stands under a key.
@@ -82,14 +84,12 @@ fn standing<V: Versions>(alloc: Global, core: &Core<V>, key: &Key) -> Option<See
     }
 }
 
-// What was seen under a key, prepared for a version.
-fn moved(alloc: Global, key: &Key, at: u8, seen: &Seen) -> Option<Prepared>
-    ensures sized { IfSome result IsSized }
-    ensures key { IfSome result (λ p. p.key ≡ key.now) }
-    ensures weight { IfSome result (λ p. p.weight ≡ seen.now.weight) }
+// The number and the version of what stands under a key.
+fn written_at<V: Versions>(alloc: Global, core: &Core<V>, key: &Key) -> Option<(u64, u8)>
+    ensures { IfSome result (λ r. IfSome (find item_key key.now core.now.view.store.items) (λ x. (x.rv ≡ r.0) × (x.at ≡ r.1))) }
 {
-    match again(key) {
-        Some(key) => prepared(alloc, key, at, seen.bytes.as_str(), seen.weight),
+    match standing(alloc, core, key) {
+        Some(seen) => Some((seen.rv, seen.at)),
         None => None,
     }
 }
@@ -101,7 +101,7 @@ fn moved_under<V: Versions>(alloc: Global, core: &Core<V>, key: &Key, at: u8) ->
     ensures weight { IfSome result (λ p. Some p.weight ≡ option_map (λ x. x.weight) (find item_key key.now core.now.view.store.items)) }
 {
     match standing(alloc, core, key) {
-        Some(seen) => moved(alloc, key, at, &seen),
+        Some(seen) => prepared_again(alloc, key, at, seen.bytes.as_str(), seen.weight),
         None => None,
     }
 }
@@ -124,14 +124,12 @@ pub fn work<V: Versions>(
     w: &mut Worker,
     at: u8,
 ) -> Option<TurnEnd> {
-    match ask(core, w)? {
-        TurnEnd::Prepare { key, rv } => {
-            let Ok(key) = key.key(alloc) else {
-                return None;
-            };
-            touch(alloc, core, w, &key, rv, at)
-        }
-        end => Some(end),
+    match ask(core, w) {
+        Some(TurnEnd::Prepare { key, rv }) => match key.key(alloc) {
+            Ok(key) => touch(alloc, core, w, &key, rv, at),
+            Err(_) => None,
+        },
+        end => end,
     }
 }
 
@@ -142,13 +140,18 @@ pub fn gone<V: Versions>(
     w: &mut Worker,
     order: &Order<'_>,
 ) -> Option<TurnEnd> {
-    far(core)?;
-    let old = value(alloc, order)?;
-    if is_gone(alloc, core, &old.key) {
-        Some(turned(core, w, order.number, old))
-    } else {
-        drop(old);
-        None
+    if !far(core) {
+        return None;
+    }
+    match value(alloc, order) {
+        Some(old) => {
+            if is_gone(alloc, core, &old.key) {
+                Some(turned(core, w, order.number, old))
+            } else {
+                None
+            }
+        }
+        None => None,
     }
 }
 
@@ -156,11 +159,13 @@ pub fn gone<V: Versions>(
 fn target_of<V: Versions>(alloc: Global, core: &Core<V>) -> Option<u8>
     ensures { IfSome result (λ v. IfSome (running core.now.view.migrations.items) (λ m. m.target ≡ v)) }
 {
-    let items = core.migrations(alloc).ok()?;
-    let [item] = items.as_slice() else {
-        return None;
-    };
-    Some(item.target())
+    match core.migrations(alloc) {
+        Ok(items) => match items.as_slice() {
+            [item] => Some(item.target()),
+            _ => None,
+        },
+        Err(_) => None,
+    }
 }
 
 /// A call with the object of a name prepared as it stood at a number, which a client has written at the target since.
@@ -170,26 +175,24 @@ pub fn overwritten<V: Versions>(
     w: &mut Worker,
     order: &Order<'_>,
 ) -> Option<TurnEnd> {
-    far(core)?;
-    let rv = order.number;
-    let target = target_of(alloc, core)?;
-    let old = value(alloc, order)?;
-    match standing(alloc, core, &old.key) {
-        Some(seen) => {
-            let stands = seen.rv;
-            let at = seen.at;
-            drop(seen);
-            if stands == rv || at != target {
-                drop(old);
-                None
-            } else {
-                Some(turned(core, w, rv, old))
+    if !far(core) {
+        return None;
+    }
+    let Some(target) = target_of(alloc, core) else {
+        return None;
+    };
+    match value(alloc, order) {
+        Some(old) => match written_at(alloc, core, &old.key) {
+            Some((rv, at)) => {
+                if rv == order.number || at != target {
+                    None
+                } else {
+                    Some(turned(core, w, order.number, old))
+                }
             }
-        }
-        None => {
-            drop(old);
-            None
-        }
+            None => None,
+        },
+        None => None,
     }
 }
 
