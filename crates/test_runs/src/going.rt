@@ -19,39 +19,60 @@ use std::time::Clock;
 use tcp_ears::Place;
 use tcp_links::{Links, MemLinks, MemReady};
 
+// Whether a word was added.
+fn add_word(alloc: Global, words: &mut Words, word: &str) -> bool {
+    match Txt::of(alloc, word) {
+        Ok(word) => words.push(word).is_ok(),
+        Err(_) => false,
+    }
+}
+
 // The words of a line `words WORD ..`.
 fn words_of(alloc: Global, line: &str) -> Option<Words> {
     let mut words = Words::new(alloc);
     for word in line.split(' ').skip(1) {
-        words.push(Txt::of(alloc, word).ok()?).ok()?;
+        if !add_word(alloc, &mut words, word) {
+            return None;
+        }
     }
     Some(words)
 }
 
-fn bytes_of(alloc: Global, text: &str, spoilt: bool) -> Option<Vec<u8>> {
-    let mut bytes = text.as_bytes().to_vec(alloc).ok()?;
-    if spoilt {
-        bytes.push(0xff).ok()?;
-    }
-    Some(bytes)
+fn bytes_of(alloc: Global, text: &str) -> Option<Vec<u8>> {
+    text.as_bytes().to_vec(alloc).ok()
 }
 
-fn file(alloc: Global, path: &str, text: &str, spoilt: bool) -> Option<MemFile> {
-    let bytes = bytes_of(alloc, text, spoilt)?;
-    Some(MemFile::new(Txt::of(alloc, path).ok()?, bytes))
+// Whether a file was added, which has a byte that is no text at its end where it is spoilt.
+fn add_file(alloc: Global, files: &mut Vec<MemFile>, path: &str, text: &str, spoilt: bool) -> bool {
+    match bytes_of(alloc, text) {
+        Some(mut bytes) => {
+            (!spoilt || bytes.push(0xff).is_ok()) && add_bytes(alloc, files, path, bytes)
+        }
+        None => false,
+    }
+}
+
+fn add_bytes(alloc: Global, files: &mut Vec<MemFile>, path: &str, bytes: Vec<u8>) -> bool {
+    match Txt::of(alloc, path) {
+        Ok(path) => files.push(MemFile::new(path, bytes)).is_ok(),
+        Err(_) => false,
+    }
+}
+
+fn add_files(alloc: Global, files: &mut Vec<MemFile>, case: &Case) -> bool {
+    let crd = case.documents.crd.as_str();
+    let rules = case.documents.rules.as_str();
+    add_file(alloc, files, "crd.json", crd, case.outside.spoils_crd)
+        && add_file(alloc, files, "rules.json", rules, case.outside.spoils_rules)
 }
 
 fn files_of(alloc: Global, case: &Case) -> Option<MemFiles> {
     let mut files = Vec::new(alloc);
-    let crd = case.documents.crd.as_str();
-    files
-        .push(file(alloc, "crd.json", crd, case.outside.spoils_crd)?)
-        .ok()?;
-    let rules = case.documents.rules.as_str();
-    files
-        .push(file(alloc, "rules.json", rules, case.outside.spoils_rules)?)
-        .ok()?;
-    Some(MemFiles::new(files, Vec::new(alloc)))
+    if add_files(alloc, &mut files, case) {
+        Some(MemFiles::new(files, Vec::new(alloc)))
+    } else {
+        None
+    }
 }
 
 // Whether the line has a converter.
@@ -75,65 +96,117 @@ fn input_of(alloc: Global, case: &Case, outside: Outside) -> Option<Input> {
         return None;
     }
     let (input, _) = parts(case);
-    let mut bytes = bytes_of(alloc, input, false)?;
-    bytes.truncate(outside.end);
-    Some(Input {
-        bytes,
-        piece: outside.piece,
-        place: outside.place,
-        fails: outside.failing_read,
-        at: 0,
-        reads: 0,
-        faults: 0,
-    })
+    match bytes_of(alloc, input) {
+        Some(mut bytes) => {
+            bytes.truncate(outside.end);
+            Some(Input {
+                bytes,
+                piece: outside.piece,
+                place: outside.place,
+                fails: outside.failing_read,
+                at: 0,
+                reads: 0,
+                faults: 0,
+            })
+        }
+        None => None,
+    }
 }
 
 fn source_of(alloc: Global, case: &Case, failing_read: u64) -> Option<MemSource>
     ensures { IfSome result IsUnread }
 {
     let (input, _) = parts(case);
-    let bytes = bytes_of(alloc, input, false)?;
-    let failing = vec![in alloc; failing_read].ok()?;
-    Some(MemSource::new(bytes, 4_096, failing))
+    let Some(bytes) = bytes_of(alloc, input) else {
+        return None;
+    };
+    match vec![in alloc; failing_read] {
+        Ok(failing) => Some(MemSource::new(bytes, 4_096, failing)),
+        Err(_) => None,
+    }
 }
 
 fn sink_of(alloc: Global, failing_write: u64) -> Option<MemSink>
     ensures { IfSome result IsUnwritten }
 {
-    let failing = vec![in alloc; failing_write].ok()?;
-    MemSink::new(alloc, 100_000, failing).ok()
+    match vec![in alloc; failing_write] {
+        Ok(failing) => MemSink::new(alloc, 100_000, failing).ok(),
+        Err(_) => None,
+    }
 }
 
 // A connection, which holds the input.
 fn connection_of(alloc: Global, case: &Case, which: Connections) -> Option<MemConnection> {
-    let source = source_of(alloc, case, which.failing_read)?;
-    let sink = sink_of(alloc, which.failing_write)?;
-    MemConnection::new(alloc, source, sink).ok()
+    let Some(source) = source_of(alloc, case, which.failing_read) else {
+        return None;
+    };
+    match sink_of(alloc, which.failing_write) {
+        Some(sink) => MemConnection::new(alloc, source, sink).ok(),
+        None => None,
+    }
+}
+
+fn add_connection(
+    alloc: Global,
+    connections: &mut Vec<MemConnection>,
+    case: &Case,
+    which: Connections,
+) -> bool {
+    match connection_of(alloc, case, which) {
+        Some(connection) => connections.push(connection).is_ok(),
+        None => false,
+    }
 }
 
 // Ears with so many connections.
 fn ears_of(alloc: Global, case: &Case, outside: Outside) -> Option<MemEars> {
     let mut connections = Vec::new(alloc);
     for _ in 0..outside.connections.count {
-        connections
-            .push(connection_of(alloc, case, outside.connections)?)
-            .ok()?;
+        if !add_connection(alloc, &mut connections, case, outside.connections) {
+            return None;
+        }
     }
-    let failing = vec![in alloc; outside.failing_ears].ok()?;
-    MemEars::new(alloc, connections, failing).ok()
+    match vec![in alloc; outside.failing_ears] {
+        Ok(failing) => MemEars::new(alloc, connections, failing).ok(),
+        Err(_) => None,
+    }
 }
 
-// A link whose answers are the parts between two `~`.
-fn link_of(alloc: Global, case: &Case, outside: Outside) -> Option<MemReady> {
-    let mut answers = Vec::new(alloc);
-    let (_, all) = parts(case);
-    for part in all.split('~') {
-        let answer = part.as_bytes().to_vec(alloc).ok()?;
-        answers.push(answer).ok()?;
+fn add_answer(alloc: Global, answers: &mut Vec<Vec<u8>>, answer: &str) -> bool {
+    match bytes_of(alloc, answer) {
+        Some(answer) => answers.push(answer).is_ok(),
+        None => false,
     }
-    let failing = vec![in alloc; outside.failing_ears].ok()?;
-    let link = MemLink::new(alloc, answers, failing);
-    MemReady::new(alloc, link).ok()
+}
+
+// The parts of a text between two `~`.
+fn answers_of(alloc: Global, all: &str) -> Option<Vec<Vec<u8>>> {
+    let mut answers = Vec::new(alloc);
+    for part in all.split('~') {
+        if !add_answer(alloc, &mut answers, part) {
+            return None;
+        }
+    }
+    Some(answers)
+}
+
+// A link whose answers are those parts.
+fn link_of(alloc: Global, case: &Case, outside: Outside) -> Option<MemReady> {
+    let (_, all) = parts(case);
+    let Some(answers) = answers_of(alloc, all) else {
+        return None;
+    };
+    match vec![in alloc; outside.failing_ears] {
+        Ok(failing) => MemReady::new(alloc, MemLink::new(alloc, answers, failing)).ok(),
+        Err(_) => None,
+    }
+}
+
+fn add_link(alloc: Global, ready: &mut Vec<MemReady>, case: &Case, outside: Outside) -> bool {
+    match link_of(alloc, case, outside) {
+        Some(link) => ready.push(link).is_ok(),
+        None => false,
+    }
 }
 
 // Whether the line works on a server from outside, or has a converter.
@@ -148,9 +221,8 @@ fn is_linked(words: &str) -> bool {
 fn links_of<'a>(alloc: Global, case: &'a Case, outside: Outside) -> Option<CaseLinks<'a>> {
     let words = case.asked.words.as_str();
     let mut ready = Vec::new(alloc);
-    if is_linked(words) {
-        let link = link_of(alloc, case, outside)?;
-        ready.push(link).ok()?;
+    if is_linked(words) && !add_link(alloc, &mut ready, case, outside) {
+        return None;
     }
     let rules = if is_ruled(words) {
         Some(Rules::of(&case.documents))
@@ -192,25 +264,42 @@ fn outcome_of(
     status: u8,
     calls: u64,
 ) -> Option<Outcome> {
-    let output = output.bytes().to_vec(alloc).ok()?;
-    let connection = ears.last_written().unwrap_or(&[]).to_vec(alloc).ok()?;
-    let errors = errors.bytes().to_vec(alloc).ok()?;
-    Some(Outcome {
-        output,
-        connection,
-        errors,
-        status,
-        calls,
-        handed_out: ears.handed_out(),
-    })
+    let Ok(output) = output.bytes().to_vec(alloc) else {
+        return None;
+    };
+    let Ok(connection) = ears.last_written().unwrap_or(&[]).to_vec(alloc) else {
+        return None;
+    };
+    match errors.bytes().to_vec(alloc) {
+        Ok(errors) => Some(Outcome {
+            output,
+            connection,
+            errors,
+            status,
+            calls,
+            handed_out: ears.handed_out(),
+        }),
+        Err(_) => None,
+    }
 }
 
-// What a run writes to: its output, one of whose writes fails, and its errors.
+// The output of a run, one of whose writes fails.
+fn output_of(alloc: Global, outside: Outside) -> Option<MemSink> {
+    match vec![in alloc; outside.failing_write] {
+        Ok(failing) => MemSink::new(alloc, 4_000_000, failing).ok(),
+        Err(_) => None,
+    }
+}
+
+// What a run writes to: its output and its errors.
 fn sinks_of(alloc: Global, outside: Outside) -> Option<(MemSink, MemSink)> {
-    let failing = vec![in alloc; outside.failing_write].ok()?;
-    let output = MemSink::new(alloc, 4_000_000, failing).ok()?;
-    let errors = MemSink::new(alloc, 1_000, Vec::new(alloc)).ok()?;
-    Some((output, errors))
+    let Some(output) = output_of(alloc, outside) else {
+        return None;
+    };
+    match MemSink::new(alloc, 1_000, Vec::new(alloc)) {
+        Ok(errors) => Some((output, errors)),
+        Err(_) => None,
+    }
 }
 
 // The status of a run. Nothing is said of it, so that whoever runs the program takes over none of its clauses.
@@ -274,6 +363,63 @@ fn add_asked(came: &mut Outcome, links: &MemLinks) -> bool {
     is_whole
 }
 
+// Runs the program with what it reads, and these links.
+fn run_with<R: Threads + Wait + Clock + Sync>(
+    rt: &R,
+    alloc: Global,
+    case: &Case,
+    outside: Outside,
+    words: &Words,
+    files: &mut MemFiles,
+    source: &mut Input,
+    links: &mut CaseLinks<'_>,
+) -> Option<Outcome> {
+    match sinks_of(alloc, outside) {
+        Some((mut output, mut errors)) => match ears_of(alloc, case, outside) {
+            Some(mut ears) => run_in(
+                rt,
+                alloc,
+                words,
+                files,
+                source,
+                &mut output,
+                &mut errors,
+                &mut ears,
+                links,
+            ),
+            None => None,
+        },
+        None => None,
+    }
+}
+
+// Runs the program by these words, over a case with these links.
+fn run_words<R: Threads + Wait + Clock + Sync>(
+    rt: &R,
+    alloc: Global,
+    case: &Case,
+    outside: Outside,
+    words: &Words,
+    links: &mut CaseLinks<'_>,
+) -> Option<Outcome> {
+    match files_of(alloc, case) {
+        Some(mut files) => match input_of(alloc, case, outside) {
+            Some(mut source) => run_with(
+                rt,
+                alloc,
+                case,
+                outside,
+                words,
+                &mut files,
+                &mut source,
+                links,
+            ),
+            None => None,
+        },
+        None => None,
+    }
+}
+
 // Runs the program over a case with these links.
 fn run_over<R: Threads + Wait + Clock + Sync>(
     rt: &R,
@@ -282,22 +428,10 @@ fn run_over<R: Threads + Wait + Clock + Sync>(
     outside: Outside,
     links: &mut CaseLinks<'_>,
 ) -> Option<Outcome> {
-    let words = words_of(alloc, case.asked.words.as_str())?;
-    let mut files = files_of(alloc, case)?;
-    let mut source = input_of(alloc, case, outside)?;
-    let (mut output, mut errors) = sinks_of(alloc, outside)?;
-    let mut ears = ears_of(alloc, case, outside)?;
-    run_in(
-        rt,
-        alloc,
-        &words,
-        &mut files,
-        &mut source,
-        &mut output,
-        &mut errors,
-        &mut ears,
-        links,
-    )
+    match words_of(alloc, case.asked.words.as_str()) {
+        Some(words) => run_words(rt, alloc, case, outside, &words, links),
+        None => None,
+    }
 }
 
 /// Runs the program over a case, where the outside behaves so.

@@ -12,7 +12,12 @@ pub(crate) fn is_ruled(words: &str) -> bool {
 
 // The body of the request of a review.
 fn body_of(request: &[u8]) -> Option<&str> {
-    let (head, body) = str::from_utf8(request).ok()?.split_once("\r\n\r\n")?;
+    let Ok(text) = str::from_utf8(request) else {
+        return None;
+    };
+    let Some((head, body)) = text.split_once("\r\n\r\n") else {
+        return None;
+    };
     if head.starts_with("POST /convert HTTP/1.1\r\n") {
         Some(body)
     } else {
