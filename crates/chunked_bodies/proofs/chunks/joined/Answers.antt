@@ -1,5 +1,5 @@
 use Rattle.std.proofs.Common.{arith}
-use Rattle.chunked_bodies.proofs.Bodies.{goes_none_at, chunk_within}
+use Rattle.chunked_bodies.proofs.Bodies.{goes_none_at, goes_end_at, chunk_within}
 use Rattle.chunked_bodies.proofs.chunks.joined.Goals as goal
 
 pub slice_bounds-next_of-count : goal.slice_bounds-next_of-count
@@ -41,3 +41,6 @@ loop-start-smaller c =
 
 pub returns-in-Nothing : goal.returns-in-Nothing
 returns-in-Nothing c = goes_none_at _ _ _ c.loop-start.invariant.goes c.in-Nothing.ensures
+
+pub returns-in-End : goal.returns-in-End
+returns-in-End c = goes_end_at _ _ _ c.loop-start.invariant.goes c.in-End.ensures
