@@ -9,7 +9,6 @@
 //! |---|---|
 //! | `# fixture: ..` | the small one of `versions_fixture`, which admits an object with a name and one property, and no replace |
 //! | `# built-in: ..` | the one that is built in: `host` at `v1` is `address` at `v1beta1` |
-//! | `# renamed: ..` | the same without its rules, with a converter that renames; all lines are of one pass |
 //! | `# shared: ..` | the one that tests share, with each kind of rule |
 //! | `# example: ..` | none, and there are no orders: the shared definition and its rules are printed, which are files of `examples/` |
 //! | `# core ..: ..` | the small one, over which `test_core` takes turns: the head of its `src/lib.rt` has the lines |

@@ -9,9 +9,7 @@ use crate::failing::Failing;
 use crate::texts::cut;
 use crate::tool::Chosen;
 use api_calls::{NoTool, Versions};
-use converters::RenameConverter;
 use crd_versions::load;
-use hook_versions::load_hook;
 use kube_meta::Limits;
 use migrate_core::Worker;
 use shared_api::{Pass, SharedApi};
@@ -270,40 +268,6 @@ fn loaded<R: Threads + Wait + Sync>(
     over(rt, alloc, versions, case)
 }
 
-// What the lines answer by one pass, whatever pass they name.
-fn by_one<V: Versions + Drop, R: Wait>(
-    rt: &R,
-    alloc: Global,
-    api: &SharedApi<V>,
-    pass: &mut Pass<V>,
-    lines: &str,
-    input: &str,
-) -> Option<String>
-    requires { IsOf V.meaning api.now pass.old }
-{
-    let mut w = Worker { claim: None };
-    let mut out = String::new(alloc);
-    for line in lines.lines() {
-        let (_sign, order) = cut(line);
-        let answer = called(rt, alloc, api, pass, &mut w, order, input);
-        add(&mut out, line, &answer)?;
-    }
-    Some(out)
-}
-
-// The same, over the built-in definition without its rules, by a converter that renames.
-fn renamed<R: Wait>(rt: &R, alloc: Global, case: &Case) -> Option<String> {
-    let limits = room_of(case.head.as_str());
-    let (_sign, input) = cut(case.input.as_str());
-    let definition = built_in::definition();
-    let versions = load_hook::<RenameConverter>(alloc, definition.as_bytes(), "v1").ok()?;
-    let (api, mut pass) = begun(alloc, versions, RenameConverter::new(alloc), limits)?;
-    let told = by_one(rt, alloc, &api, &mut pass, case.lines.as_str(), input);
-    drop(pass);
-    drop(api);
-    told
-}
-
 // A text, and behind it another.
 fn joined(alloc: Global, front: &str, end: &str) -> Option<String> {
     format!(in alloc; "{front}{end}").ok()
@@ -322,7 +286,6 @@ pub(crate) fn told<R: Threads + Wait + Sync + Files>(
     match head.as_bytes().get(2) {
         Some(b'f') => fixture(rt, alloc, case),
         Some(b'b') => loaded(rt, alloc, built_in::definition(), built_in::rules(), case),
-        Some(b'r') if head.starts_with("# renamed") => renamed(rt, alloc, case),
         Some(b's') => loaded(
             rt,
             alloc,

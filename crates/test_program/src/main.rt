@@ -1,9 +1,9 @@
 //! The program of cases: it prints what cases of `run`, which `test_runs` tells, and scripts of what `run` doesn't show, which `test_calls`
-//! tells, come to.
+//! and `test_serving` tell, come to.
 //!
 //! Standard input is cases, a line each of what `src/lib.rt` of `test_runs` has in its head. The lines between a line `scripts` and one `cases`
-//! are scripts, each with an empty line behind it, and the head of `src/lib.rt` of `test_calls` has their lines. What is wanted stands in
-//! `stdout`.
+//! are scripts, each with an empty line behind it, and the head of `src/lib.rt` of `test_calls` has their lines; where the first begins with
+//! `# alone: `, each names a case of `test_serving`. What is wanted stands in `stdout`.
 //!
 //! Nothing here has a contract.
 #![tactic(auto)]

@@ -1,4 +1,4 @@
-//! Scripts between the lines of cases, which `test_calls` tells.
+//! Scripts between the lines of cases, which `test_calls` and `test_serving` tell.
 use std::alloc::Global;
 use std::rt::Files;
 use std::sync::Wait;
@@ -41,15 +41,28 @@ impl Script {
         Some(String::new(alloc))
     }
 
+    // What the lines are told as.
+    fn told<R: Threads + Wait + Clock + Sync + Files>(
+        &self,
+        rt: &R,
+        alloc: Global,
+    ) -> Option<String> {
+        let lines = self.lines.as_str();
+        if lines.starts_with("# alone: ") {
+            return test_serving::tell(rt, alloc, lines);
+        }
+        test_calls::tell(rt, alloc, lines)
+    }
+
     // Takes a line of a script, which an empty one ends.
-    fn take<R: Threads + Wait + Sync + Files>(
+    fn take<R: Threads + Wait + Clock + Sync + Files>(
         &mut self,
         rt: &R,
         alloc: Global,
         line: &str,
     ) -> Option<String> {
         if line.is_empty() {
-            let told = test_calls::tell(rt, alloc, self.lines.as_str());
+            let told = self.told(rt, alloc);
             self.lines.clear();
             return told;
         }

@@ -1,103 +1,151 @@
 //! Regions of few chunks: the ends of a chunk, a full region, and chunks that are taken again.
-ghost use Rattle.std.specs.Prelude.{◌≡◌, ◌+◌, ◌<◌, ◌≤◌, ◌^◌, Some, None, length, replicate, slice_set, vec_len};
+ghost use Rattle.std.specs.Prelude.{◌≡◌, ◌+◌, ◌<◌, ◌≤◌, ◌^◌, ℕ, Some, None, IfSome, IsTrue, length, replicate, slice_set, vec_len};
 ghost use Rattle.record_region.specs.Places.{IsLive, piece_at};
 
 use record_region::{Piece, Region, RegionFull};
 use std::alloc::Global;
-use std::process::Abort;
 
 // So many bytes, of which neighbours in two chunks differ.
-fn numbered(rt: &impl Abort, alloc: Global, count: usize) -> Vec<u8>
+fn numbered(alloc: Global, count: usize) -> Option<Vec<u8>>
     requires { count ≤ 1024 }
-    ensures { vec_len result ≤ 1024 }
+    ensures { IfSome result (λ bytes. vec_len bytes ≤ 1024) }
 {
     let mut bytes = Vec::new(alloc);
     for place in 0..count {
-        bytes.push((place % 251) as u8).expect(rt, "memory");
+        let Ok(()) = bytes.push((place % 251) as u8) else {
+            return None;
+        };
     }
-    bytes
+    Some(bytes)
 }
 
 // So many chunks.
-fn opened(rt: &impl Abort, alloc: Global, chunks: u32) -> Region
-    ensures { result ≡ replicate chunks None }
+fn opened(alloc: Global, chunks: u32) -> Option<Region>
+    ensures { IfSome result (λ region. region ≡ replicate chunks None) }
 {
-    Region::open(alloc, chunks).expect(rt, "memory")
+    match Region::open(alloc, chunks) {
+        Ok(region) => Some(region),
+        Err(_) => None,
+    }
 }
 
-// A piece for which there is room.
-fn taken(rt: &impl Abort, region: &mut Region, bytes: &[u8]) -> Piece
+// A piece, where there is room for it.
+fn taken(region: &mut Region, bytes: &[u8]) -> Option<Piece>
     requires { length bytes.now ≤ 1024 }
-    ensures unused { piece_at region.old result ≡ None }
-    ensures within { result < length region.old }
-    ensures put { region.new ≡ slice_set region.old result (Some bytes.now) }
-{
-    region.put(bytes).expect(rt, "there is room")
-}
-
-fn reads(rt: &impl Abort, alloc: Global, region: &Region, piece: &Piece, bytes: &[u8])
-    requires { IsLive region.now piece.now }
-{
-    let mut out = Vec::with_capacity(alloc, region.length_of(piece)).expect(rt, "memory");
-    region.get(piece, &mut out);
-    assert_eq!(rt; out.as_slice(), bytes);
-}
-
-fn spares(rt: &impl Abort, region: &Region, free: u32) {
-    assert_eq!(rt; region.spare(), free);
-}
-
-fn refused(rt: &impl Abort, region: &mut Region, bytes: &[u8], need: u32, free: u32)
-    requires { length bytes.now ≤ 1024 }
-    ensures { region.new ≡ region.old }
+    ensures unused { IfSome result (λ piece. piece_at region.old piece ≡ None) }
+    ensures within { IfSome result (λ piece. piece < length region.old) }
+    ensures put { IfSome result (λ piece. region.new ≡ slice_set region.old piece (Some bytes.now)) }
 {
     match region.put(bytes) {
-        Ok(_piece) => panic!(rt; "it was taken"),
-        Err(full) => assert_eq!(rt; full, RegionFull { need, free }),
+        Ok(piece) => Some(piece),
+        Err(_) => None,
     }
-    spares(rt, region, free);
 }
 
-#[test]
-fn one_chunk(rt: HostRuntime) {
-    let mut region = opened(&rt, rt.alloc(), 1);
-    let long = numbered(&rt, rt.alloc(), 257);
-    refused(&rt, &mut region, &long, 2, 1);
-    let piece = taken(&rt, &mut region, b"");
-    reads(&rt, rt.alloc(), &region, &piece, b"");
-    refused(&rt, &mut region, b"", 1, 0);
+fn reads(alloc: Global, region: &Region, piece: &Piece, bytes: &[u8]) -> bool
+    requires { IsLive region.now piece.now }
+{
+    let Ok(mut out) = Vec::with_capacity(alloc, region.length_of(piece)) else {
+        return false;
+    };
+    region.get(piece, &mut out);
+    out.as_slice() == bytes
 }
 
-#[test]
-fn ends_of_a_chunk(rt: HostRuntime) {
-    let mut region = opened(&rt, rt.alloc(), 3);
-    let whole = numbered(&rt, rt.alloc(), 256);
-    let longer = numbered(&rt, rt.alloc(), 257);
-    let first = taken(&rt, &mut region, &whole);
-    spares(&rt, &region, 2);
-    let second = taken(&rt, &mut region, &longer);
-    spares(&rt, &region, 0);
-    reads(&rt, rt.alloc(), &region, &first, &whole);
-    reads(&rt, rt.alloc(), &region, &second, &longer);
+fn spares(region: &Region, free: u32) -> bool {
+    region.spare() == free
 }
 
-#[test]
-fn taken_again(rt: HostRuntime) {
-    let mut region = opened(&rt, rt.alloc(), 4);
-    let longer = numbered(&rt, rt.alloc(), 257);
-    let all = numbered(&rt, rt.alloc(), 1024);
-    let first = taken(&rt, &mut region, b"one");
-    let second = taken(&rt, &mut region, &longer);
-    let third = taken(&rt, &mut region, b"three");
-    refused(&rt, &mut region, b"", 1, 0);
-    reads(&rt, rt.alloc(), &region, &third, b"three");
+// Whether a piece is refused, and nothing else changed.
+fn refused(region: &mut Region, bytes: &[u8], need: u32, free: u32) -> bool
+    requires { length bytes.now ≤ 1024 }
+    ensures { IsTrue result → region.new ≡ region.old }
+{
+    match region.put(bytes) {
+        Ok(_piece) => false,
+        Err(full) => full == RegionFull { need, free } && region.spare() == free,
+    }
+}
+
+pub(crate) fn one_chunk(alloc: Global) -> Option<bool> {
+    let Some(mut region) = opened(alloc, 1) else {
+        return None;
+    };
+    let Some(long) = numbered(alloc, 257) else {
+        return None;
+    };
+    let one = refused(&mut region, &long, 2, 1);
+    let Some(piece) = taken(&mut region, b"") else {
+        return None;
+    };
+    let two = reads(alloc, &region, &piece, b"");
+    let three = refused(&mut region, b"", 1, 0);
+    Some(one && two && three)
+}
+
+pub(crate) fn ends_of_a_chunk(alloc: Global) -> Option<bool> {
+    let Some(mut region) = opened(alloc, 3) else {
+        return None;
+    };
+    let Some(whole) = numbered(alloc, 256) else {
+        return None;
+    };
+    let Some(longer) = numbered(alloc, 257) else {
+        return None;
+    };
+    let Some(first) = taken(&mut region, &whole) else {
+        return None;
+    };
+    let two = spares(&region, 2);
+    let Some(second) = taken(&mut region, &longer) else {
+        return None;
+    };
+    let none = spares(&region, 0);
+    let one = reads(alloc, &region, &first, &whole);
+    let other = reads(alloc, &region, &second, &longer);
+    Some(two && none && one && other)
+}
+
+// Takes a piece that fills a region of four chunks which are free again.
+fn fills_again(alloc: Global, region: &mut Region) -> Option<bool> {
+    let Some(all) = numbered(alloc, 1024) else {
+        return None;
+    };
+    let four = spares(region, 4);
+    let Some(again) = taken(region, &all) else {
+        return None;
+    };
+    let same = reads(alloc, region, &again, &all);
+    Some(four && same && spares(region, 0))
+}
+
+pub(crate) fn taken_again(alloc: Global) -> Option<bool> {
+    let Some(mut region) = opened(alloc, 4) else {
+        return None;
+    };
+    let Some(longer) = numbered(alloc, 257) else {
+        return None;
+    };
+    let Some(first) = taken(&mut region, b"one") else {
+        return None;
+    };
+    let Some(second) = taken(&mut region, &longer) else {
+        return None;
+    };
+    let Some(third) = taken(&mut region, b"three") else {
+        return None;
+    };
+    if !refused(&mut region, b"", 1, 0) {
+        return Some(false);
+    }
+    let one = reads(alloc, &region, &third, b"three");
     region.free(second);
-    reads(&rt, rt.alloc(), &region, &first, b"one");
+    let two = reads(alloc, &region, &first, b"one");
     region.free(first);
-    reads(&rt, rt.alloc(), &region, &third, b"three");
+    let three = reads(alloc, &region, &third, b"three");
     region.free(third);
-    spares(&rt, &region, 4);
-    let again = taken(&rt, &mut region, &all);
-    reads(&rt, rt.alloc(), &region, &again, &all);
-    spares(&rt, &region, 0);
+    match fills_again(alloc, &mut region) {
+        Some(again) => Some(one && two && three && again),
+        None => None,
+    }
 }

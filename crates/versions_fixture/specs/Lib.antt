@@ -2,6 +2,5 @@ pub mod Parts
 pub mod Definition
 pub mod DocumentLaws
 pub mod Laws
-pub mod Unknown
 pub mod Example
 pub mod History

@@ -5,7 +5,6 @@ ghost use Rattle.kube_meta.specs.Document.{document};
 ghost use Rattle.kube_meta.specs.View.{ObjectView, object_of};
 ghost use Rattle.api_calls.specs.Versions.{IsStored};
 ghost use Rattle.versions_fixture.specs.Definition.{AreOne, IsFixtureHub, two_names};
-ghost use Rattle.versions_fixture.specs.Unknown.{AreNear};
 
 use crate::parts::{Version, made};
 use crate::reading::{hub_parts, parts_in};
@@ -23,18 +22,6 @@ pub fn hub_form(alloc: Global, v: u8, hub: &Object) -> Result<Object, ConvFault>
 {
     let parts = hub_parts(hub);
     Ok(made(alloc, Version::at(v), &parts)?)
-}
-
-/// The object at a version without the hub value's value.
-pub fn bare_form(alloc: Global, v: u8, hub: &Object) -> Result<Object, ConvFault>
-    requires { IsFixtureHub (object_of hub.now) }
-    ensures near { IfOk result (λ x. AreNear v (object_of hub.now) (object_of x)) }
-    ensures levels { IfOk result (λ x. depth (document (object_of x)) ≤ OBJECT_LEVELS) }
-    ensures err { IsErrOf result ConvFault.Tool → ⊥ }
-{
-    let mut bare = hub_parts(hub);
-    bare.value = None;
-    Ok(made(alloc, Version::at(v), &bare)?)
 }
 
 /// The hub value that is stored so.

@@ -3,8 +3,7 @@
 //! it is `address`.
 //!
 //! The crate's one contract: `TwoNames` is an implementation of `Versions` whose relations hold of something. It admits a
-//! narrow form of documents, a name and the one property, and refuses every other. `UnknownNames` is one where it isn't known what
-//! values mean. An object of it, its group and a whole
+//! narrow form of documents, a name and the one property, and refuses every other. An object of it, its group and a whole
 //! history with a migration are spelled out. It knows nothing of schemas, rules or stores.
 #![tactic(auto)]
 
@@ -15,9 +14,7 @@ mod parts;
 mod reading;
 mod settings;
 mod two_names;
-mod unknown_names;
 
 pub use example::{has_a_group, has_a_history, has_an_object};
 pub use parts::Version;
 pub use two_names::TwoNames;
-pub use unknown_names::UnknownNames;

@@ -2,4 +2,4 @@ use Rattle.std.proofs.Common.{◌≡◌, vec_len}
 use Rattle.test_serving.proofs.regions.numbered.Given as goal
 
 abbrev pub invariant-loop-place : goal.invariant-loop-place
-invariant-loop-place g l = vec_len l.bytes ≡ l.place
+invariant-loop-place l = vec_len l.bytes ≡ l.place

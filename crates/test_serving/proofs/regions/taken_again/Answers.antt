@@ -36,32 +36,32 @@ are_live none one two all freed less first second third a b c e1 w1 e2 w2 u2 e3 
       third_less = stays_live freed less first third None e5 (λ q. first_third (sym q)) third_freed;
     }
 
-pub reads-requires : goal.reads-requires
-reads-requires g c =
-    let l = are_live c.opened-region.result c.taken-first.new.region c.taken-second.new.region c.refused.new.region (set {A = Option (List ℕ)} c.refused.new.region c.taken-second.result None) (set {A = Option (List ℕ)} (set {A = Option (List ℕ)} c.refused.new.region c.taken-second.result None) c.taken-first.result None) c.taken-first.result c.taken-second.result c.taken-third.result _ _ _ c.taken-first.ensures.put c.taken-first.ensures.within c.taken-second.ensures.put c.taken-second.ensures.within c.taken-second.ensures.unused (c.refused.ensures ∙ c.taken-third.ensures.put) c.taken-third.ensures.within c.taken-third.ensures.unused refl refl in
+pub reads-one-requires : goal.reads-one-requires
+reads-one-requires c =
+    let l = are_live c.in-Some.region c.taken.new.region c.taken-2.new.region c.refused.new.region (set {A = Option (List ℕ)} c.refused.new.region c.in-Some-taken-2.second None) (set {A = Option (List ℕ)} (set {A = Option (List ℕ)} c.refused.new.region c.in-Some-taken-2.second None) c.in-Some-taken.first None) c.in-Some-taken.first c.in-Some-taken-2.second c.in-Some-taken-3.third _ _ _ c.in-Some-taken.ensures.put c.in-Some-taken.ensures.within c.in-Some-taken-2.ensures.put c.in-Some-taken-2.ensures.within c.in-Some-taken-2.ensures.unused (c.if-not-refused.ensures refl ∙ c.in-Some-taken-3.ensures.put) c.in-Some-taken-3.ensures.within c.in-Some-taken-3.ensures.unused refl refl in
     l.third_all
 
 pub free-requires : goal.free-requires
-free-requires g c =
-    let l = are_live c.opened-region.result c.taken-first.new.region c.taken-second.new.region c.refused.new.region (set {A = Option (List ℕ)} c.refused.new.region c.taken-second.result None) (set {A = Option (List ℕ)} (set {A = Option (List ℕ)} c.refused.new.region c.taken-second.result None) c.taken-first.result None) c.taken-first.result c.taken-second.result c.taken-third.result _ _ _ c.taken-first.ensures.put c.taken-first.ensures.within c.taken-second.ensures.put c.taken-second.ensures.within c.taken-second.ensures.unused (c.refused.ensures ∙ c.taken-third.ensures.put) c.taken-third.ensures.within c.taken-third.ensures.unused refl refl in
+free-requires c =
+    let l = are_live c.in-Some.region c.taken.new.region c.taken-2.new.region c.refused.new.region (set {A = Option (List ℕ)} c.refused.new.region c.in-Some-taken-2.second None) (set {A = Option (List ℕ)} (set {A = Option (List ℕ)} c.refused.new.region c.in-Some-taken-2.second None) c.in-Some-taken.first None) c.in-Some-taken.first c.in-Some-taken-2.second c.in-Some-taken-3.third _ _ _ c.in-Some-taken.ensures.put c.in-Some-taken.ensures.within c.in-Some-taken-2.ensures.put c.in-Some-taken-2.ensures.within c.in-Some-taken-2.ensures.unused (c.if-not-refused.ensures refl ∙ c.in-Some-taken-3.ensures.put) c.in-Some-taken-3.ensures.within c.in-Some-taken-3.ensures.unused refl refl in
     record { live = l.second_all }
 
-pub reads-requires-2 : goal.reads-requires-2
-reads-requires-2 g c =
-    let l = are_live c.opened-region.result c.taken-first.new.region c.taken-second.new.region c.refused.new.region c.free.new.self (set {A = Option (List ℕ)} c.free.new.self c.taken-first.result None) c.taken-first.result c.taken-second.result c.taken-third.result _ _ _ c.taken-first.ensures.put c.taken-first.ensures.within c.taken-second.ensures.put c.taken-second.ensures.within c.taken-second.ensures.unused (c.refused.ensures ∙ c.taken-third.ensures.put) c.taken-third.ensures.within c.taken-third.ensures.unused c.free.ensures refl in
+pub reads-two-requires : goal.reads-two-requires
+reads-two-requires c =
+    let l = are_live c.in-Some.region c.taken.new.region c.taken-2.new.region c.refused.new.region c.free.new.self (set {A = Option (List ℕ)} c.free.new.self c.in-Some-taken.first None) c.in-Some-taken.first c.in-Some-taken-2.second c.in-Some-taken-3.third _ _ _ c.in-Some-taken.ensures.put c.in-Some-taken.ensures.within c.in-Some-taken-2.ensures.put c.in-Some-taken-2.ensures.within c.in-Some-taken-2.ensures.unused (c.if-not-refused.ensures refl ∙ c.in-Some-taken-3.ensures.put) c.in-Some-taken-3.ensures.within c.in-Some-taken-3.ensures.unused c.free.ensures refl in
     l.first_freed
 
 pub free-requires-2 : goal.free-requires-2
-free-requires-2 g c =
-    let l = are_live c.opened-region.result c.taken-first.new.region c.taken-second.new.region c.refused.new.region c.free.new.self (set {A = Option (List ℕ)} c.free.new.self c.taken-first.result None) c.taken-first.result c.taken-second.result c.taken-third.result _ _ _ c.taken-first.ensures.put c.taken-first.ensures.within c.taken-second.ensures.put c.taken-second.ensures.within c.taken-second.ensures.unused (c.refused.ensures ∙ c.taken-third.ensures.put) c.taken-third.ensures.within c.taken-third.ensures.unused c.free.ensures refl in
+free-requires-2 c =
+    let l = are_live c.in-Some.region c.taken.new.region c.taken-2.new.region c.refused.new.region c.free.new.self (set {A = Option (List ℕ)} c.free.new.self c.in-Some-taken.first None) c.in-Some-taken.first c.in-Some-taken-2.second c.in-Some-taken-3.third _ _ _ c.in-Some-taken.ensures.put c.in-Some-taken.ensures.within c.in-Some-taken-2.ensures.put c.in-Some-taken-2.ensures.within c.in-Some-taken-2.ensures.unused (c.if-not-refused.ensures refl ∙ c.in-Some-taken-3.ensures.put) c.in-Some-taken-3.ensures.within c.in-Some-taken-3.ensures.unused c.free.ensures refl in
     record { live = l.first_freed }
 
-pub reads-requires-3 : goal.reads-requires-3
-reads-requires-3 g c =
-    let l = are_live c.opened-region.result c.taken-first.new.region c.taken-second.new.region c.refused.new.region c.free.new.self c.free-2.new.self c.taken-first.result c.taken-second.result c.taken-third.result _ _ _ c.taken-first.ensures.put c.taken-first.ensures.within c.taken-second.ensures.put c.taken-second.ensures.within c.taken-second.ensures.unused (c.refused.ensures ∙ c.taken-third.ensures.put) c.taken-third.ensures.within c.taken-third.ensures.unused c.free.ensures c.free-2.ensures in
+pub reads-three-requires : goal.reads-three-requires
+reads-three-requires c =
+    let l = are_live c.in-Some.region c.taken.new.region c.taken-2.new.region c.refused.new.region c.free.new.self c.free-2.new.self c.in-Some-taken.first c.in-Some-taken-2.second c.in-Some-taken-3.third _ _ _ c.in-Some-taken.ensures.put c.in-Some-taken.ensures.within c.in-Some-taken-2.ensures.put c.in-Some-taken-2.ensures.within c.in-Some-taken-2.ensures.unused (c.if-not-refused.ensures refl ∙ c.in-Some-taken-3.ensures.put) c.in-Some-taken-3.ensures.within c.in-Some-taken-3.ensures.unused c.free.ensures c.free-2.ensures in
     l.third_less
 
 pub free-requires-3 : goal.free-requires-3
-free-requires-3 g c =
-    let l = are_live c.opened-region.result c.taken-first.new.region c.taken-second.new.region c.refused.new.region c.free.new.self c.free-2.new.self c.taken-first.result c.taken-second.result c.taken-third.result _ _ _ c.taken-first.ensures.put c.taken-first.ensures.within c.taken-second.ensures.put c.taken-second.ensures.within c.taken-second.ensures.unused (c.refused.ensures ∙ c.taken-third.ensures.put) c.taken-third.ensures.within c.taken-third.ensures.unused c.free.ensures c.free-2.ensures in
+free-requires-3 c =
+    let l = are_live c.in-Some.region c.taken.new.region c.taken-2.new.region c.refused.new.region c.free.new.self c.free-2.new.self c.in-Some-taken.first c.in-Some-taken-2.second c.in-Some-taken-3.third _ _ _ c.in-Some-taken.ensures.put c.in-Some-taken.ensures.within c.in-Some-taken-2.ensures.put c.in-Some-taken-2.ensures.within c.in-Some-taken-2.ensures.unused (c.if-not-refused.ensures refl ∙ c.in-Some-taken-3.ensures.put) c.in-Some-taken-3.ensures.within c.in-Some-taken-3.ensures.unused c.free.ensures c.free-2.ensures in
     record { live = l.third_less }

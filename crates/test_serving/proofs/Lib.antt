@@ -1,0 +1,3 @@
+mod Adding
+mod Serving
+mod Ticking

@@ -1,4 +1,0 @@
-mod Adding
-mod Serving
-mod Ticking
-mod AddingWorth

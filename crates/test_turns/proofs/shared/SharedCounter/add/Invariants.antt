@@ -1,5 +1,0 @@
-use Rattle.test_turns.specs.Counts.{adding}
-use Rattle.test_turns.proofs.shared.SharedCounter.add.Given as goal
-
-abbrev pub ghosts-enter : goal.ghosts-enter
-ghosts-enter g a = record { item = adding a.x }
