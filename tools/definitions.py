@@ -66,7 +66,7 @@ OWN_WORDS = {
     "turn_cell/specs/Turns": "What each call of the turn lock says: `Takes`, `Appends`, `Gives`, `IsNew`, `Meets`.",
     "call_texts/specs/Listing": "What is shown of a page, item by item, and the place behind it.",
     "http_routes/specs/Views": "What resources, actions, rows, pages and calls of the code are seen as.",
-    "kubeconv_cmd/specs/Listening": "What a line of `serve` tells: the line that names a place (`Announced`).",
+    "output_lines/specs/Listening": "What is told of where a server listens: the line that names a place (`Announced`).",
     "kubeconv_cmd/specs/Serving": "What it is to serve the definition that two texts are (`Converses`), and to drill it.",
     "kubeconv_cmd/specs/Beside": "What connections beside each other were answered, by one legal list (`ServesAll`).",
 }

@@ -10,7 +10,8 @@ use Rattle.crd_meaning.specs.Definition.{Definition}
 use Rattle.command_lines.specs.declared.words.Command.{Command}
 use Rattle.command_lines.specs.Given.{line_of}
 use Rattle.command_lines.specs.Lines.{Named, example, Conversion, Task, Line, IsLine, pipe, task, drill, serve, migrate, dump, load, remote, pipe_by, serve_by}
-use Rattle.kubeconv_cmd.specs.Listening.{IfServes, NamesPlace, Told, ToldSome, Announced}
+use Rattle.kubeconv_cmd.specs.Listening.{IfServes}
+use Rattle.output_lines.specs.Listening.{NamesPlace, Told, ToldSome, Announced}
 use Rattle.kubeconv_cmd.specs.Beside.{AnsweredAll, ServesAll}
 use Rattle.kubeconv_cmd.specs.Converting.{RefusesConverted, converted_meaning, converter_faults}
 use Rattle.hook_versions.specs.Loads.{LoadsHook}
@@ -47,7 +48,8 @@ use Rattle.kubeconv_cmd.specs.Status.{dump_status, error_line, pipe_status, rest
 use Rattle.kubeconv_cmd.specs.Outcome.{World, OfTexts, OfInput, OfFile, HasLoaded, HasLoadedBy, HasHandedOn, Says, IsSilent, streams_of, HearsNobody, AnswersSo, AnswersSoBy, Stopped, unreadable, refused, wanting, StoppedBy, unreadable_file, refused_file, wanting_memory, addressless, PipeOutcome, PipeByOutcome, talked, unserved, TaskOutcome, wrote_line, broke_line, refused_input, unread_input, wanting_task, unloaded_task, DrillOutcome, wrote_drill, broke_drill, wanting_drill, ServeOutcome, ServeByOutcome, answered, answered_fewer, unheard, untold, wanting_service, unloaded_service, MigratedAt, MigrateOutcome, settled, contested, broke_tally, forgotten, misanswered, unlinked, wanting_migration, placeless, wanting_place, bad_place, DumpOutcome, dumped, undumped, TellsCounts, LoadOutcome, restored, broke_counts, unloaded, IfUnlinked, IsPlaceless, Outcome, FilesFail, InputFails, OutputFails, EarsFail, FilesStay, InputStays, OutputStays, EarsStay}
 use Rattle.kubeconv_cmd.specs.inner.Ends.{OnBadAddress, OnRefused, OnStopped, OnUnread, stop_status, stop_line, talk_status, unconverted_line, unconverted_status, why_text}
 use Rattle.kubeconv_cmd.specs.inner.Halts.{OnHalt, Unwritten, task_status, task_line}
-use Rattle.kubeconv_cmd.specs.inner.Served.{OnUnheard, UnlessUnheard, OnUntold, Silent, served_status}
+use Rattle.kubeconv_cmd.specs.inner.Served.{UnlessUnheard, served_status}
+use Rattle.output_lines.specs.Listening.{OnUnheard, OnUntold, Silent}
 use Rattle.serve_input.specs.declared.conversing.PipeEnd.{PipeEnd}
 use Rattle.serve_input.specs.declared.conversing.PipeEnd.TheVariants.{Closed, Torn, Refused, Spent, ReadFault, WriteFault}
 use Rattle.kubeconv_cmd.specs.declared.stop.Stop.{Stop}
@@ -56,8 +58,8 @@ use Rattle.kubeconv_cmd.specs.declared.stop.Unconverted.{Unconverted}
 use Rattle.kubeconv_cmd.specs.declared.stop.Unconverted.TheVariants as unconverted
 use Rattle.kubeconv_cmd.specs.declared.halt.Halt.{Halt}
 use Rattle.kubeconv_cmd.specs.declared.halt.Halt.TheVariants as halts
-use Rattle.kubeconv_cmd.specs.declared.serve_line.Unserved.{Unserved}
-use Rattle.kubeconv_cmd.specs.declared.serve_line.Unserved.TheVariants as ends
+use Rattle.output_lines.specs.declared.listening.Unserved.{Unserved}
+use Rattle.output_lines.specs.declared.listening.Unserved.TheVariants as ends
 use Rattle.kubeconv_cmd.specs.declared.status.TheConstants.{BAD_WORDS, REFUSED, BAD_INPUT, NO_MEMORY, LISTEN_FAILED, BAD_ANSWER}
 use Rattle.kubeconv_cmd.proofs.TaskLemmas.{wrote_texts, broke_texts, refuses_texts}
 

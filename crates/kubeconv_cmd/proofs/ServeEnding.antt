@@ -23,9 +23,9 @@ use Rattle.serve_many.specs.declared.serving.ServeEnd.TheVariants.{Done, EarsFau
 use Rattle.serve_input.specs.Conversed.{Start}
 use Rattle.kubeconv_cmd.specs.Serving.{meaning_of, no_faults}
 use Rattle.kubeconv_cmd.specs.Beside.{AnsweredAll, ServesAll}
-use Rattle.kubeconv_cmd.specs.inner.Served.{OnUnheard}
-use Rattle.kubeconv_cmd.specs.declared.serve_line.Unserved.{Unserved}
-use Rattle.kubeconv_cmd.specs.declared.serve_line.Unserved.TheVariants.{NotListening, WriteFailed, NoMemory}
+use Rattle.output_lines.specs.Listening.{OnUnheard}
+use Rattle.output_lines.specs.declared.listening.Unserved.{Unserved}
+use Rattle.output_lines.specs.declared.listening.Unserved.TheVariants.{NotListening, WriteFailed, NoMemory}
 use Rattle.serve_input.proofs.Opened.{first_alone}
 
 -- ---- one list

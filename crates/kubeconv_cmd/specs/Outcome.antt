@@ -20,7 +20,7 @@ use Rattle.edge_io.specs.Connections.{Origin, Ending}
 use Rattle.http_front.specs.Paced.{Handles}
 use Rattle.command_lines.specs.Lines.{Named, from_files, example, Conversion, Task, Line, pipe, task, drill, serve, migrate, dump, load, remote, pipe_by, serve_by}
 use Rattle.kubeconv_cmd.specs.Texts.{Texts}
-use Rattle.kubeconv_cmd.specs.Listening.{Told, ToldSome, Announced}
+use Rattle.output_lines.specs.Listening.{Told, ToldSome, Announced}
 use Rattle.kubeconv_cmd.specs.Beside.{ServesAll}
 use Rattle.kubeconv_cmd.specs.Converting.{ConversesBy, IsConvertible, PacesBy, RefusesConverted, ServesAllBy}
 use Rattle.kubeconv_cmd.specs.Tasks.{AnswersTexts, RefusesTexts, Wrote, Broke}

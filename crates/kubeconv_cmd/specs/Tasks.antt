@@ -18,6 +18,7 @@ use Rattle.crd_meaning.specs.Converted.{IsConverted}
 use Rattle.crd_meaning.specs.Unconverted.{IsUnconverted}
 use Rattle.review_batch.specs.Answer.{IsAnswer, IsNoRequest}
 use Rattle.command_lines.specs.Lines.{Task, convert, review}
+use Rattle.output_lines.specs.Lines.{ended_line}
 use Rattle.kubeconv_cmd.specs.declared.input.TheConstants.{MOST_INPUT_BYTES}
 
 -- ---- a document that is converted
@@ -82,10 +83,6 @@ pub record RefusesTexts (crd rules : List ℕ) (t : Task) (bytes why : List ℕ)
   pub loaded : LoadedView
   pub loads : Loads crd rules loaded
   pub refuses : RefusesDocument (set_of loaded) bytes t why
-
--- a line with its end
-abbrev pub ended_line : List ℕ → List ℕ
-ended_line text = text ++ codes "\n"
 
 -- the whole line was written
 pub record Wrote (answers : List ℕ → Type 0) (before written : Option (List ℕ)) : Type 0 where

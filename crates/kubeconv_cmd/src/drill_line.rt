@@ -9,10 +9,10 @@ ghost use Rattle.kubeconv_cmd.specs.inner.Halts.{OnHalt, Unwritten};
 
 use crate::halt::Halt;
 use crate::loading::load_example;
-use crate::tasks::write_line;
 use drill_steps::drill;
 use edge_io::Sink;
 use kj_value::{NoMemory, Txt};
+use output_lines::write_line;
 use std::alloc::Global;
 use std::sync::Wait;
 

@@ -1,8 +1,7 @@
 //! A line of `serve`.
 ghost use Rattle.std.specs.Prelude.{◌≡◌, ◌<◌, ◌≤◌, ◌⊎◌, ℕ, List, Some, IfSome, IfErr, OnOk};
 ghost use Rattle.std.specs.Io.KnownBytes.{append_known};
-ghost use Rattle.edge_io.specs.Causes.{HasCause, Rose};
-ghost use Rattle.edge_io.specs.Sends.{Sends};
+ghost use Rattle.edge_io.specs.Causes.{Rose};
 ghost use Rattle.kube_meta.specs.declared.limits.TheConstants.Limits.{STANDING};
 ghost use Rattle.turn_cell.specs.Views.{opening_view};
 ghost use Rattle.shared_api.specs.Passes.{IsOf};
@@ -11,17 +10,17 @@ ghost use Rattle.crd_loading.specs.View.{LoadedView};
 ghost use Rattle.crd_loading.specs.Set.{set_of};
 ghost use Rattle.crd_versions.specs.Set.{definition_of};
 ghost use Rattle.kubeconv_cmd.specs.Status.{error_line};
-ghost use Rattle.kubeconv_cmd.specs.Listening.{listening_line, Told, ToldSome, Announced, NamesPlace};
+ghost use Rattle.output_lines.specs.Listening.{Told, ToldSome, Announced, NamesPlace, OnUnheard, OnUntold, Silent};
 ghost use Rattle.kubeconv_cmd.specs.Beside.{AnsweredAll, ServesAll};
-ghost use Rattle.kubeconv_cmd.specs.inner.Served.{OnUnheard, UnlessUnheard, OnUntold, Silent, served_status};
+ghost use Rattle.kubeconv_cmd.specs.inner.Served.{UnlessUnheard, served_status};
 
 use crate::status::{DONE, LISTEN_FAILED, NO_MEMORY, WRITE_FAILED, ended};
-use crate::tasks::write_line;
 use api_calls::{NoTools, Tools, Versions};
 use command_lines::Service;
 use crd_versions::VersionSet;
-use edge_io::{Clock, Ears, Failed, Sink, send};
+use edge_io::{Clock, Ears, Sink};
 use kube_meta::Limits;
+use output_lines::{Unserved, listen_at};
 use serve_many::{ServeEnd, serve_all};
 use shared_api::{Pass, SharedApi};
 use std::alloc::Global;
@@ -29,55 +28,6 @@ use std::sync::Wait;
 use std::thread::Threads;
 use std::time;
 use tcp_ears::Place;
-
-/// Why connections aren't answered any further, or none was.
-pub(crate) enum Unserved {
-    /// Nobody can listen at the place, or no further connection could be had.
-    NotListening,
-    /// It couldn't be told at which place connections come.
-    WriteFailed,
-    NoMemory,
-}
-
-// Tells at which place connections come.
-fn tell_place<K: Sink>(output: &mut K, place: &str) -> Result<(), Failed>
-    ensures sent { Sends (K.written output.old) (K.written output.new) (listening_line place.now) result }
-    ensures flushed { OnOk result (K.flushed output.new ≡ K.written output.new) }
-    ensures cause { HasCause (K.faults output.old) (K.faults output.new) result }
-{
-    send(output, b"listening on ")?;
-    write_line(output, place)
-}
-
-// Listens at a place, and tells which it is.
-fn listen_at<K: Sink, A: Ears + Place>(
-    alloc: Global,
-    place: &str,
-    output: &mut K,
-    ears: &mut A,
-) -> Result<(), Unserved>
-    ensures place { NamesPlace (A.is_told place.now) (K.written output.old) (K.written output.new) }
-    ensures told { OnOk result (Announced (K.written output.old) (K.written output.new) (K.flushed output.new)) }
-    ensures silent { IfErr result (Silent (K.written output.new ≡ K.written output.old) (ToldSome (K.written output.old) (K.written output.new)) (Told (K.written output.old) (K.written output.new))) }
-    ensures unheard_untold { IfErr result (OnUnheard (K.written output.new ≡ K.written output.old)) }
-    ensures unheard { IfErr result (OnUnheard (Rose (A.faults ears.old) (A.faults ears.new))) }
-    ensures later { A.faults ears.old ≤ A.faults ears.new }
-    ensures untold { IfErr result (OnUntold (Rose (K.faults output.old) (K.faults output.new))) }
-    ensures origins { A.origins ears.new ≡ A.origins ears.old }
-    ensures returned { A.returned ears.new ≡ A.returned ears.old }
-{
-    match ears.listen(place) {
-        Ok(()) => {}
-        Err(_) => return Err(Unserved::NotListening),
-    }
-    match ears.place(alloc) {
-        Ok(taken) => match tell_place(output, taken.as_str()) {
-            Ok(()) => Ok(()),
-            Err(_) => Err(Unserved::WriteFailed),
-        },
-        Err(_) => Err(Unserved::NoMemory),
-    }
-}
 
 // Listens at a place, and answers connections there by a server to which nothing has happened.
 fn serve_opened<

@@ -3,8 +3,7 @@ ghost use Rattle.std.specs.Prelude.{◌≡◌, ◌<◌, ◌≤◌, ◌++◌, ℕ
 ghost use Rattle.std.specs.Io.KnownBytes.{append_known, IsAtEnd};
 ghost use Rattle.kj_value.specs.Json.{Json, depth};
 ghost use Rattle.kj_value.specs.Seen.{json};
-ghost use Rattle.edge_io.specs.Causes.{HasCause, Rose};
-ghost use Rattle.edge_io.specs.Sends.{Sends};
+ghost use Rattle.edge_io.specs.Causes.{Rose};
 ghost use Rattle.api_calls.specs.Cause.{cause_of};
 ghost use Rattle.api_calls.specs.Meaning.{Fault, invalid};
 ghost use Rattle.api_calls.specs.Readings.{IsFaulty};
@@ -17,7 +16,7 @@ ghost use Rattle.kj_value.specs.Text.{text_of};
 ghost use Rattle.kubeconv_cmd.specs.declared.input.TheConstants.{MOST_INPUT_BYTES};
 ghost use Rattle.command_lines.specs.Given.{task_of};
 ghost use Rattle.kubeconv_cmd.specs.inner.Halts.{Follows, OnHalt, Unwritten, NoValue, NoAnswer};
-ghost use Rattle.kubeconv_cmd.specs.Tasks.{AnswersDocument, RefusesDocument, Wrote, Broke, IsValueOf, IsWithout, fault_words, no_version as no_version_text, not_review as not_review_text, ended_line};
+ghost use Rattle.kubeconv_cmd.specs.Tasks.{AnswersDocument, RefusesDocument, Wrote, Broke, IsValueOf, IsWithout, fault_words, no_version as no_version_text, not_review as not_review_text};
 
 use crate::halt::Halt;
 use crate::input::{Unread, read_input};
@@ -25,8 +24,9 @@ use api_calls::{AdmitFault, Cause, OBJECT_LEVELS, Versions, Why};
 use command_lines::Task;
 use crd_meaning::one_value;
 use crd_versions::VersionSet;
-use edge_io::{Failed, Sink, Source, send};
+use edge_io::{Sink, Source};
 use kj_value::{JVal, JsonFault, NoMemory, Txt, read, write};
+use output_lines::write_line;
 use review_batch::{ReviewFault, answer};
 use std::alloc::Global;
 
@@ -226,25 +226,6 @@ fn answer_input<S: Source>(
         },
         Task::Review => review_input(alloc, versions, input),
     }
-}
-
-// Writes a line with its end.
-fn send_line<K: Sink>(output: &mut K, text: &[u8]) -> Result<(), Failed>
-    ensures sent { Sends (K.written output.old) (K.written output.new) (ended_line text.now) result }
-    ensures cause { HasCause (K.faults output.old) (K.faults output.new) result }
-{
-    send(output, text)?;
-    send(output, b"\n")
-}
-
-/// Writes that line, and flushes.
-pub(crate) fn write_line<K: Sink>(output: &mut K, text: &str) -> Result<(), Failed>
-    ensures sent { Sends (K.written output.old) (K.written output.new) (ended_line text.now) result }
-    ensures flushed { OnOk result (K.flushed output.new ≡ K.written output.new) }
-    ensures cause { HasCause (K.faults output.old) (K.faults output.new) result }
-{
-    send_line(output, text.as_bytes())?;
-    output.flush()
 }
 
 /// Does the task with the input, and writes its one line.

@@ -4,7 +4,7 @@ use Rattle.std.specs.Prelude.{IfSome}
 use Rattle.http_address.specs.Address.{AddressView, IsAddress}
 use Rattle.command_lines.specs.Lines.{Conversion}
 use Rattle.kubeconv_cmd.specs.Converting.{ConversesBy, PacesBy}
-use Rattle.kubeconv_cmd.specs.Listening.{Announced}
+use Rattle.output_lines.specs.Listening.{Announced}
 use Rattle.kubeconv_cmd.specs.Serving.{WasHeld}
 use Rattle.kubeconv_cmd.specs.Outcome.{World, OfFile, OfFileAndInput, streams_of, HasHandedOn, StoppedBy, unreadable_file, refused_file, wanting_memory, addressless, AnswersSoBy, HearsNobody, PipeByOutcome, talked, unserved, ServeByOutcome, answered, answered_fewer, unheard, untold, wanting_service, unloaded_service, FilesFail, InputFails, OutputFails, EarsFail, InputStays, OutputStays}
 use Rattle.kubeconv_cmd.specs.declared.status.TheConstants.{DONE, BAD_WORDS, REFUSED, READ_FAILED, WRITE_FAILED, NO_MEMORY, LISTEN_FAILED}

@@ -3,7 +3,7 @@ use Rattle.std.proofs.Common.{◌≡◌, ◌≢◌, ◌∙◌, ◌⊎◌, ◌<�
 use Rattle.std.specs.Prelude.{IfSome}
 use Rattle.command_lines.specs.Lines.{Named}
 use Rattle.kubeconv_cmd.specs.Texts.{Texts}
-use Rattle.kubeconv_cmd.specs.Listening.{Announced}
+use Rattle.output_lines.specs.Listening.{Announced}
 use Rattle.kubeconv_cmd.specs.Refusal.{RefusesNamed}
 use Rattle.kubeconv_cmd.specs.Outcome.{World, Stopped, unreadable, refused, wanting, BlamesFile, AnswersSo, HearsNobody, ServeOutcome, answered, answered_fewer, unheard, untold, wanting_service, unloaded_service, FilesFail, OutputFails, EarsFail, OutputStays}
 use Rattle.kubeconv_cmd.specs.declared.status.TheConstants.{DONE, REFUSED, READ_FAILED, WRITE_FAILED, NO_MEMORY, LISTEN_FAILED}

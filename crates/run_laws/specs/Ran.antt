@@ -8,7 +8,7 @@ use Rattle.http_front.specs.Talk.{Conversation}
 use Rattle.crd_loading.specs.Load.{Loads}
 use Rattle.crd_loading.specs.View.{LoadedView}
 use Rattle.command_lines.specs.Lines.{Named, Task, Line, pipe, task, drill, serve, migrate, dump, load, remote, pipe_by, serve_by}
-use Rattle.kubeconv_cmd.specs.Listening.{Told, ToldSome}
+use Rattle.output_lines.specs.Listening.{Told, ToldSome}
 use Rattle.kubeconv_cmd.specs.Refusal.{RefusesNamed}
 use Rattle.serve_input.specs.Conversed.{At, AnswersAndWorks, MayRise, Start, front_of, opening}
 use Rattle.kubeconv_cmd.specs.Serving.{DrillsTexts, no_faults, served_meaning}

@@ -3,7 +3,7 @@ ghost use Rattle.std.specs.Prelude.{◌≡◌, ◌≢◌, ◌⊎◌, ℕ};
 ghost use Rattle.http_address.specs.Address.{AddressView, IsAddress};
 ghost use Rattle.command_lines.specs.Lines.{Conversion, Listening, pipe_by, serve_by};
 ghost use Rattle.kubeconv_cmd.specs.Converting.{ConversesBy, PacesBy};
-ghost use Rattle.kubeconv_cmd.specs.Listening.{Announced};
+ghost use Rattle.output_lines.specs.Listening.{Announced};
 ghost use Rattle.kubeconv_cmd.specs.Outcome.{AnswersSoBy, HasHandedOn, HearsNobody, OfFile, OfFileAndInput, Outcome, World, EarsFail, InputFails, OutputFails, InputStays, OutputStays, streams_of};
 ghost use Rattle.kubeconv_cmd.specs.Serving.{WasHeld};
 ghost use Rattle.kubeconv_cmd.specs.declared.status.TheConstants.{BAD_WORDS, REFUSED, WRITE_FAILED};

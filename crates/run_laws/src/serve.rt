@@ -1,7 +1,7 @@
 //! Of `serve`.
 ghost use Rattle.std.specs.Prelude.{◌≡◌, ◌≢◌, ℕ};
 ghost use Rattle.command_lines.specs.Lines.{Service, from_files, serve};
-ghost use Rattle.kubeconv_cmd.specs.Listening.{Announced};
+ghost use Rattle.output_lines.specs.Listening.{Announced};
 ghost use Rattle.kubeconv_cmd.specs.Outcome.{AnswersSo, HearsNobody, Outcome, World, EarsFail, InputStays};
 ghost use Rattle.kubeconv_cmd.specs.declared.status.TheConstants.{BAD_INPUT};
 ghost use Rattle.run_laws.specs.Ran.{RunsService, SaysOfService};

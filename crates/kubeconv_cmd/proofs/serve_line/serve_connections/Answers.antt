@@ -3,8 +3,8 @@ use Rattle.std.specs.Prelude.{IfErr, IfSome, OnOk}
 use Rattle.edge_io.specs.Causes.{Rose}
 use Rattle.shared_api.specs.declared.cell.CoreBase.{CoreBase}
 use Rattle.kubeconv_cmd.specs.Beside.{AnsweredAll}
-use Rattle.kubeconv_cmd.specs.Listening.{Announced}
-use Rattle.kubeconv_cmd.specs.inner.Served.{OnUnheard}
+use Rattle.output_lines.specs.Listening.{Announced}
+use Rattle.output_lines.specs.Listening.{OnUnheard}
 use Rattle.kubeconv_cmd.proofs.serve_line.serve_connections.Goals as goal
 
 pub serve_opened-requires-clause-limits : goal.serve_opened-requires-clause-limits

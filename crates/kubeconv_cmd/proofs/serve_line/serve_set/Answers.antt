@@ -6,7 +6,7 @@ use Rattle.crd_loading.specs.Set.{set_of}
 use Rattle.crd_loading.specs.View.{LoadedView}
 use Rattle.crd_versions.specs.Set.{definition_of}
 use Rattle.crd_versions.proofs.Crossing.{set_send, set_sync}
-use Rattle.kubeconv_cmd.specs.Listening.{Announced}
+use Rattle.output_lines.specs.Listening.{Announced}
 use Rattle.serve_input.specs.Conversed.{Start}
 use Rattle.kubeconv_cmd.specs.Serving.{meaning_of, no_faults}
 use Rattle.kubeconv_cmd.specs.Beside.{AnsweredAll, ServesAll}

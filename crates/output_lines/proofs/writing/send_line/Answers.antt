@@ -1,7 +1,7 @@
 use Rattle.std.specs.Prelude.{codes}
 use Rattle.std.proofs.lemmas.Result.{err_from_is_err_and}
 use Rattle.edge_io.specs.laws.Sending.{adds_fewer, sends_more}
-use Rattle.kubeconv_cmd.proofs.tasks.send_line.Goals as goal
+use Rattle.output_lines.proofs.writing.send_line.Goals as goal
 
 pub returns-in_err-send-clause-sent : goal.returns-in_err-send-clause-sent
 returns-in_err-send-clause-sent g c =

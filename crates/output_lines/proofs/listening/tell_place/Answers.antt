@@ -1,8 +1,8 @@
 use Rattle.std.specs.Prelude.{codes}
 use Rattle.std.proofs.lemmas.Result.{err_from_is_err_and}
 use Rattle.edge_io.specs.laws.Sending.{adds_fewer, sends_more}
-use Rattle.kubeconv_cmd.specs.Tasks.{ended_line}
-use Rattle.kubeconv_cmd.proofs.serve_line.tell_place.Goals as goal
+use Rattle.output_lines.specs.Lines.{ended_line}
+use Rattle.output_lines.proofs.listening.tell_place.Goals as goal
 
 pub returns-in_err-send-clause-sent : goal.returns-in_err-send-clause-sent
 returns-in_err-send-clause-sent g c =

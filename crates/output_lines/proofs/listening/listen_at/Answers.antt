@@ -1,6 +1,6 @@
 use Rattle.std.proofs.Common.{refl, sym, inl, inr, [], append-nil}
-use Rattle.kubeconv_cmd.specs.Listening.{listening_line}
-use Rattle.kubeconv_cmd.proofs.serve_line.listen_at.Goals as goal
+use Rattle.output_lines.specs.Listening.{listening_line}
+use Rattle.output_lines.proofs.listening.listen_at.Goals as goal
 
 pub returns-in-Err-clause-place : goal.returns-in-Err-clause-place
 returns-in-Err-clause-place g c = inl refl
