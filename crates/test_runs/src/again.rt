@@ -179,6 +179,26 @@ fn run_reads<R: Threads + Wait + Clock + Sync>(
     }
 }
 
+// Whether copies of the input, one for each of its places, come to the same in pieces of one byte more than it has, and to what begins with
+// what it comes to alone. So each copy is parted in two, one byte later than the one before.
+fn copies_same<R: Threads + Wait + Clock + Sync>(
+    rt: &R,
+    alloc: Global,
+    case: &Case,
+    came: &Outcome,
+    places: usize,
+) -> Option<bool> {
+    let outside = case.outside.repeated(places);
+    let Some(whole) = run_case(rt, alloc, case, outside) else {
+        return None;
+    };
+    let parted = outside.parted_each(places.saturating_add(1));
+    match runs_same(rt, alloc, case, &whole, parted) {
+        Some(same) => Some(same && whole.output.starts_with(came.output.as_slice())),
+        None => None,
+    }
+}
+
 // Whether the input comes to the same in two pieces, parted at each place.
 fn run_pairs<R: Threads + Wait + Clock + Sync>(
     rt: &R,
@@ -187,17 +207,15 @@ fn run_pairs<R: Threads + Wait + Clock + Sync>(
     came: &Outcome,
     all: &mut Lines,
 ) {
-    let mut same = true;
     let places = case.asked.input.len();
-    for place in 0..places {
-        match runs_same(rt, alloc, case, came, case.outside.in_two(place)) {
-            Some(is_so) => same = same && is_so,
-            None => all.lose(),
+    match copies_same(rt, alloc, case, came, places) {
+        Some(same) => {
+            all.add(format!(in alloc;
+                "in two pieces, parted at each of {places} places, the same: {same}\n"
+            ).ok());
         }
+        None => all.lose(),
     }
-    all.add(format!(in alloc;
-        "in two pieces, parted at each of {places} places, the same: {same}\n"
-    ).ok());
 }
 
 // What an input comes to that ends sooner. There is no answer where what is written is no front of what the whole comes to.

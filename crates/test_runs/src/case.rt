@@ -51,7 +51,8 @@ pub(crate) struct Connections {
 #[derive(Clone, Copy)]
 pub(crate) struct Outside {
     pub(crate) piece: usize,
-    pub(crate) place: usize,
+    pub(crate) copies: usize,
+    pub(crate) step: usize,
     pub(crate) end: usize,
     pub(crate) failing_read: u64,
     pub(crate) failing_write: u64,
@@ -124,7 +125,8 @@ impl Outside {
     pub(crate) fn new() -> Outside {
         Outside {
             piece: 4_096,
-            place: 0,
+            copies: 1,
+            step: 0,
             end: usize::MAX,
             failing_read: u64::MAX,
             failing_write: u64::MAX,
@@ -145,9 +147,14 @@ impl Outside {
         Outside { piece, ..self }
     }
 
-    /// The same, where no read gives bytes from both sides of a place.
-    pub(crate) fn in_two(self, place: usize) -> Outside {
-        Outside { place, ..self }
+    /// The same, with so many copies of the input, one behind another.
+    pub(crate) fn repeated(self, copies: usize) -> Outside {
+        Outside { copies, ..self }
+    }
+
+    /// The same, where no read gives bytes from both sides of a multiple of this number.
+    pub(crate) fn parted_each(self, step: usize) -> Outside {
+        Outside { step, ..self }
     }
 
     /// The same, with an input that ends at a place.

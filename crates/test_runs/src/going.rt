@@ -42,6 +42,17 @@ fn bytes_of(alloc: Global, text: &str) -> Option<Vec<u8>> {
     text.as_bytes().to_vec(alloc).ok()
 }
 
+// The bytes of so many copies of a text.
+fn copies_of(alloc: Global, text: &str, copies: usize) -> Option<Vec<u8>> {
+    let mut bytes = Vec::new(alloc);
+    for _ in 0..copies {
+        if bytes.extend_from_slice(text.as_bytes()).is_err() {
+            return None;
+        }
+    }
+    Some(bytes)
+}
+
 // Whether a file was added, which has a byte that is no text at its end where it is spoilt.
 fn add_file(alloc: Global, files: &mut Vec<MemFile>, path: &str, text: &str, spoilt: bool) -> bool {
     match bytes_of(alloc, text) {
@@ -96,13 +107,14 @@ fn input_of(alloc: Global, case: &Case, outside: Outside) -> Option<Input> {
         return None;
     }
     let (input, _) = parts(case);
-    match bytes_of(alloc, input) {
+    match copies_of(alloc, input, outside.copies) {
         Some(mut bytes) => {
             bytes.truncate(outside.end);
             Some(Input {
                 bytes,
                 piece: outside.piece,
-                place: outside.place,
+                place: outside.step,
+                step: outside.step,
                 fails: outside.failing_read,
                 at: 0,
                 reads: 0,

@@ -3,12 +3,13 @@ ghost use Rattle.std.specs.Prelude.{None};
 
 use edge_io::{Failed, Source};
 
-/// An input, of which a read gives so many bytes at most, and none behind a place together with one before it. The read with the number
-/// `fails` fails, counted from 0.
+/// An input, of which a read gives so many bytes at most, and none behind a place together with one before it: each place is `step` bytes
+/// behind the one before. The read with the number `fails` fails, counted from 0.
 pub(crate) struct Input {
     pub(crate) bytes: Vec<u8>,
     pub(crate) piece: usize,
     pub(crate) place: usize,
+    pub(crate) step: usize,
     pub(crate) fails: u64,
     pub(crate) at: usize,
     pub(crate) reads: u64,
@@ -21,6 +22,7 @@ impl Drop for Input {
             bytes: _,
             piece: _,
             place: _,
+            step: _,
             fails: _,
             at: _,
             reads: _,
@@ -56,6 +58,9 @@ impl Source for Input {
         let count = next.len().min(self.piece).min(into.len());
         into[..count].copy_from_slice(&next[..count]);
         self.at = self.at.saturating_add(count);
+        if self.place <= self.at {
+            self.place = self.place.saturating_add(self.step);
+        }
         Ok(count)
     }
 }

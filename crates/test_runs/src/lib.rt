@@ -23,7 +23,7 @@
 //! | `last NUMBER` | only so many bytes of the output are printed, behind the number of those before them and their digest (FIPS 180-4) |
 //! | `again NUMBER ..` | the case is run again with reads of so many bytes, and it is said whether it comes to the same |
 //! | `every` | it is run again with each write failing in turn, and with each read |
-//! | `every place` | it is run again with the input in two pieces, parted at each of its places in turn, and ended there |
+//! | `every place` | it is run again with a copy of the input for each of its places, in two pieces parted there, and with the input ended at each |
 //! | `@ FIRST END`, `@` | the lines between the two stand once for each number from FIRST on and below END, which stands for each `@` in them |
 //! | `.` | the case ends |
 //!
