@@ -10,7 +10,7 @@ It prints what the command prints, and then the sum: the processor time of the c
 system counts it when it ends (what the word `times` of a shell gives of its children), the minutes of the clock, and the number
 of processors that it could use. That sum is exact.
 
-Then comes a table by crate for docs/GATE.md, in processor minutes: the proof of the crate, its tests with the proof that these
+Then comes a table by crate for CONTRIBUTING.md, in processor minutes: the proof of the crate, its tests with the proof that these
 begin with, its edits with the check that these begin with, and how many edits it has. It is made of looks: twice a second it
 notes for each process below the command which crate its words name (`--crate-name`), whether they have `--test`, whether it works
 in an edit's folder, and the processor time that it has taken. What a process takes after the last look is lost, so the table
@@ -139,7 +139,7 @@ def order():
 
 
 def table(seen):
-    """Prints the minutes of each crate, as docs/GATE.md has them."""
+    """Prints the minutes of each crate, as CONTRIBUTING.md has them."""
     minutes, each = {}, dict.fromkeys(KINDS, 0.0)
     for crate, kind, seconds in seen:
         minutes.setdefault(crate, dict.fromkeys(KINDS, 0.0))[kind] += seconds / 60
