@@ -8,7 +8,7 @@ It prints a line for each thing that is wrong, and then ends with status 1.
 
 Bounds: a line of text has at most 110 columns, a line of a code block at most 160, and a row of a table, which can't be broken, at most
 300; in README.md each line has 110. PAGES says how many lines and words a document has at most, WORDS how many words a row of its
-tables, and ROWS how many rows a part of it.
+tables, ROWS how many rows a part of it. The words of OWN, which docs/GLOSSARY.md explains, stand in none of PLAIN.
 
 Links: each relative link leads to a file or folder that is there, and its `#anchor` to a heading there. Text in code isn't looked at.
 
@@ -54,6 +54,9 @@ PAGES = {
 WORDS = {"docs/PROMISES.md": 45}
 # The part of a document, by its heading, and how many rows its table has at most.
 ROWS = {"docs/GLOSSARY.md": ("## Words of ours", 40)}
+# Words of ours that these documents, for who doesn't read contracts, do without.
+OWN = re.compile(r"\b(?:birth|cells?|claims?|floor|honest|hub value|kept text|loose|pass|sealed|settle[sd]?|spans?|superseded|trim|tuples?)\b")
+PLAIN = ("README.md", "docs/COMMANDS.md", "docs/RULES.md", "docs/OPERATORS.md")
 # So many marked commands stand in these documents at least.
 MARKED = {"README.md": 1, "docs/COMMANDS.md": 3}
 MARK = re.compile(r"<!-- run(?:: (.*))? -->")
@@ -93,6 +96,10 @@ def bounds(name, lines):
         words = len(line.replace("|", " ").split())
         if kind == "row" and words > WORDS.get(name, words):
             yield f"{name}:{number}: a row of {words} words, at most {WORDS[name]}"
+    for number, (line, kind) in enumerate(lines, 1):
+        own = OWN.search(line) if name in PLAIN and kind in ("text", "row") else None
+        if own:
+            yield f"{name}:{number}: {own[0]} is a word of ours"
     most_lines, most_words = PAGES.get(name, (len(lines), None))
     if len(lines) > most_lines:
         yield f"{name}: {len(lines)} lines, at most {most_lines}"
