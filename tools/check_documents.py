@@ -37,17 +37,17 @@ import walk  # noqa: E402
 TEXT, CODE, ROW = 110, 160, 300
 PAGES = {
     "README.md": (110, 740),
-    "CONTRIBUTING.md": (120, 1400),
-    "docs/API.md": (170, 2320),
+    "CONTRIBUTING.md": (115, 1400),
+    "docs/API.md": (160, 2300),
     "docs/ARCHITECTURE.md": (200, 2570),
-    "docs/COMMANDS.md": (250, 2500),
+    "docs/COMMANDS.md": (260, 2700),
     "docs/DECISIONS.md": (285, 4040),
     "docs/GLOSSARY.md": (95, 1540),
     "docs/OPERATORS.md": (130, 950),
     "docs/PERFORMANCE.md": (65, 750),
     "docs/POST.md": (45, 500),
     "docs/PROMISES.md": (250, 5900),
-    "docs/RULES.md": (195, 2300),
+    "docs/RULES.md": (195, 2350),
     "bench/README.md": (22, 275),
     "checks/README.md": (20, 310),
 }
