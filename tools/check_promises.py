@@ -9,7 +9,7 @@ Told is, on standard error, with status 1:
 - a row that names no crate, and a call or a clause whose name the crates of its row don't have,
 - an edit that no crate has in must-fail/, and one in must-fail/ that no row names,
 - a test that is no function, no case behind `# ` on the `stdin` of a program of cases, no crate, no file of proofs/, and no
-  function of a script that `.ci/run` or `./check` names.
+  function of a script that `.ci/run` or tools/own_checks.py names.
 
 It says nothing of what a row promises: that is held against the clause by who writes it.
 """
@@ -38,7 +38,7 @@ class Tree:
             text = read(path)
             self.words[path.split("/")[1]].update(re.findall(r"\w+", text))
             self.functions.update(re.findall(r"\bfn (\w+)", text))
-        runs = "".join(read(path) for path in (".ci/run", "check") if os.path.exists(path))
+        runs = "".join(read(path) for path in (".ci/run", "tools/own_checks.py") if os.path.exists(path))
         for script in filter(os.path.exists, re.findall(r"[\w/]+\.py", runs)):
             self.functions.update(re.findall(r"^def (\w+)", read(script), re.MULTILINE))
         self.edits = {os.path.basename(path)[: -len(".edit")] for path in glob("crates/*/must-fail/*.edit")}
