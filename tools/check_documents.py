@@ -43,7 +43,7 @@ PAGES = {
     "docs/COMMANDS.md": (275, 2950),
     "docs/DECISIONS.md": (285, 4040),
     "docs/GLOSSARY.md": (95, 1540),
-    "docs/OPERATORS.md": (135, 960),
+    "docs/OPERATORS.md": (140, 960),
     "docs/PERFORMANCE.md": (65, 750),
     "docs/POST.md": (45, 500),
     "docs/PROMISES.md": (250, 5900),
