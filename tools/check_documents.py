@@ -40,7 +40,7 @@ PAGES = {
     "CONTRIBUTING.md": (115, 1400),
     "docs/API.md": (160, 2300),
     "docs/ARCHITECTURE.md": (200, 2570),
-    "docs/COMMANDS.md": (275, 2950),
+    "docs/COMMANDS.md": (275, 3050),
     "docs/DECISIONS.md": (285, 4040),
     "docs/GLOSSARY.md": (95, 1540),
     "docs/OPERATORS.md": (140, 960),
