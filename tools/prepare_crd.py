@@ -60,7 +60,7 @@ KINDS = {dict: "an object", list: "a list", str: "a text", int: "a whole number"
 class Prepared:
     """What was left out so far, and what the definition can't be prepared for."""
 
-    def __init__(self):
+    def __init__(self, for_webhook=False, rules=None):
         self.left_out = []
         self.impossible = []
         self.counts = {what: collections.Counter() for what in LOST}

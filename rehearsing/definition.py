@@ -1,0 +1,65 @@
+"""A definition with its rules, as far as rehearsing needs them."""
+from __future__ import annotations
+
+from typing import Any, Dict, FrozenSet, Iterator, Optional, Set, Tuple
+
+from .schema import Node, canonical
+
+Names = Tuple[str, ...]
+
+
+class Faulty(Exception):
+    """A file that is no definition or no rules, and why."""
+
+
+class Definition:
+    """The versions of a definition, and which of them is the hub."""
+
+    def __init__(self, document: Dict[str, Any], rules: Optional[Dict[str, Any]], hub: Optional[str]) -> None:
+        spec = document.get("spec") or {}
+        versions = spec.get("versions") or []
+        try:
+            self.name: str = document["metadata"]["name"]
+            self.group, self.kind = spec["group"], spec["names"]["kind"]
+            self.nodes = {it["name"]: Node(it["schema"]["openAPIV3Schema"], is_root=True) for it in versions}
+        except (KeyError, TypeError, AttributeError) as why:
+            raise Faulty(f"no CustomResourceDefinition of apiextensions.k8s.io/v1 with a schema at each version: {why!r}") from None
+        if len(self.nodes) < 2:
+            raise Faulty("one version alone: nothing is converted; tools/prepare_crd.py --add-version NAME gives it a second one")
+        stored = [it["name"] for it in versions if it.get("storage")]
+        self.hub = hub or (rules or {}).get("hub") or (stored or list(self.nodes))[0]
+        if self.hub not in self.nodes:
+            raise Faulty(f"no version {self.hub}, which is to be the hub")
+        self.by_rules = rules is not None
+        self.hidden = hidden_by(rules) if rules else frozenset()
+        self.defaults = {canonical(it.doc["default"]) for node in self.nodes.values() for it in node.each() if "default" in it.doc}
+
+    def api_version(self, version: str) -> str:
+        return f"{self.group}/{version}"
+
+    def names_way(self, *way: str) -> str:
+        """What a way is, in words: `spoke to hub to spoke`."""
+        return " to ".join("hub" if it == self.hub else "spoke" for it in way)
+
+    def is_hidden(self, at: str, to: str, path: Names) -> bool:
+        """Whether by the rules a field of one version is never shown at another."""
+        return (at, to, path) in self.hidden
+
+
+def hidden_by(rules: Dict[str, Any]) -> FrozenSet[Tuple[str, str, Names]]:
+    """The fields that are never shown at another version: of which version, at which, and their path."""
+    hub, found = rules.get("hub", ""), set()  # type: str, Set[Tuple[str, str, Names]]
+
+    def look(inner: Any, spoke: str, at_spoke: Names, at_hub: Names) -> Iterator[Tuple[str, str, Names]]:
+        for rule in inner or []:
+            if "spokeOnly" in rule:
+                yield spoke, hub, at_spoke + (rule["spokeOnly"],)
+            if "hubOnly" in rule:
+                yield hub, spoke, at_hub + (rule["hubOnly"],)
+            if "object" in rule:
+                one, two = rule["object"]["names"]
+                yield from look(rule["object"]["rules"], spoke, at_spoke + (one,), at_hub + (two,))
+
+    for spoke, inner in (rules.get("spokes") or {}).items():
+        found.update(look(inner, spoke, (), ()))
+    return frozenset(found)
