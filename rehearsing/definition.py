@@ -1,7 +1,9 @@
 """A definition with its rules, as far as rehearsing needs them."""
 from __future__ import annotations
 
-from typing import Any, Dict, FrozenSet, Iterator, Optional, Set, Tuple
+from typing import Any, Dict, FrozenSet, Optional, Tuple
+
+import rule_fields
 
 from .schema import Node, canonical
 
@@ -48,18 +50,4 @@ class Definition:
 
 def hidden_by(rules: Dict[str, Any]) -> FrozenSet[Tuple[str, str, Names]]:
     """The fields that are never shown at another version: of which version, at which, and their path."""
-    hub, found = rules.get("hub", ""), set()  # type: str, Set[Tuple[str, str, Names]]
-
-    def look(inner: Any, spoke: str, at_spoke: Names, at_hub: Names) -> Iterator[Tuple[str, str, Names]]:
-        for rule in inner or []:
-            if "spokeOnly" in rule:
-                yield spoke, hub, at_spoke + (rule["spokeOnly"],)
-            if "hubOnly" in rule:
-                yield hub, spoke, at_hub + (rule["hubOnly"],)
-            if "object" in rule:
-                one, two = rule["object"]["names"]
-                yield from look(rule["object"]["rules"], spoke, at_spoke + (one,), at_hub + (two,))
-
-    for spoke, inner in (rules.get("spokes") or {}).items():
-        found.update(look(inner, spoke, (), ()))
-    return frozenset(found)
+    return frozenset((at, to, path) for word, at, to, path in rule_fields.of_rules(rules) if word in ("spokeOnly", "hubOnly"))
