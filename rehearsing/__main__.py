@@ -60,16 +60,17 @@ class Files:
     def load(self, document: Dict[str, Any], rules: Dict[str, Any]) -> None:
         self.write(self.rules, rules)
         self.write(self.crd, document)
-        if not self.fault():
+        if not self.given.open and not self.fault():
             return
         prepared = prepare_crd.Prepared(for_webhook=True, rules=rules)
-        self.write(self.crd, prepare_crd.definition(prepared, document))
+        self.write(self.crd, prepare_crd.definition(prepared, document, self.given.open))
         if prepared.impossible:
             raise Faulty("\n".join(f"{self.given.crd}: {why}" for why in prepared.impossible))
         said = self.fault()
         if said:
             raise Faulty(f"{said}\n./explain with the same files tells where and how to mend it")
-        print(f"rehearse: for kubeconv {len(prepared.left_out)} parts of the definition are left out, as by tools/prepare_crd.py --webhook", file=sys.stderr)
+        told = f"{len(prepared.left_out)} parts of the definition are left out and {len(prepared.put_in)} put in"
+        print(f"rehearse: for kubeconv {told}, as tools/prepare_crd.py --webhook tells", file=sys.stderr)
 
 
 def prepare(given: Any, room: str) -> Tuple[Definition, Dict[str, Optional[str]]]:

@@ -40,6 +40,7 @@ def read() -> argparse.Namespace:
     parser.add_argument("--name", help="which of several definitions in FILE is meant, as crontabs.example.com")
     by = parser.add_mutually_exclusive_group(required=True)
     by.add_argument("--rules", metavar="FILE", help="rules, by which kubeconv converts")
+    parser.add_argument("--open", metavar="PATH", action="append", default=[], help="a part that kubeconv takes open, as tools/prepare_crd.py has it")
     by.add_argument("--webhook", type=address, metavar="URL", help="a conversion webhook, ours or another's, over http or https")
     parser.add_argument("--ca", metavar="FILE", help="the authority of the webhook's certificate, in PEM")
     parser.add_argument("--hub", metavar="VERSION", help="the hub of a webhook; the storage version where it isn't given")
@@ -50,6 +51,8 @@ def read() -> argparse.Namespace:
     given = parser.parse_args()
     if given.ca and not (given.webhook or "").startswith("https:"):
         parser.error("--ca goes with --webhook https://..")
+    if given.open and not given.rules:
+        parser.error("--open goes with --rules")
     if given.hub and not given.webhook:
         parser.error("--hub goes with --webhook; rules name their hub")
     return given

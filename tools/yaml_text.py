@@ -121,7 +121,13 @@ class Reader:
                 self.wrong(f"the name {key!r} stands twice", at)
             else:
                 found[key] = value
-        for each in merged:
+        return self.merged(found, merged)
+
+    def merged(self, found: Dict[str, Any], others: List[Any]) -> Dict[str, Any]:
+        """A mapping with the fields of others that it doesn't have itself."""
+        for each in others:
+            if not isinstance(each, dict):
+                self.wrong("what is merged by << is no mapping")
             found.update({key: it for key, it in each.items() if key not in found})
         return found
 
@@ -236,13 +242,18 @@ class Reader:
             return self.flow_fields(at + 1)
         if first and first in "\"'":
             return self.quoted(self.text, at)
+        if first == "&":
+            anchor = re.compile(r"&([^\s,\[\]{}]+)").match(self.text, at)
+            value, end = self.flow(self.blanks(anchor.end() if anchor else at + 1))
+            self.anchors[anchor[1] if anchor else ""] = value
+            return value, end
         found = re.compile(r"(?:[^,\[\]{}:#\n]|:(?![\s,\[\]{}])|(?<!\s)#)+").match(self.text, at)
         if first == "*":
             name = re.compile(r"\*([^\s,\[\]{}]+)").match(self.text, at)
             if name is None or name[1] not in self.anchors:
                 self.wrong("an alias without an anchor before")
             return self.anchors[name[1]], name.end()
-        if found is None or first in "!&":
+        if found is None or first == "!":
             self.wrong(f"{first or 'the end'} in place of a value")
         return scalar(found[0].strip(), self.wrong), found.end()
 
@@ -258,10 +269,11 @@ class Reader:
 
     def flow_fields(self, at: int) -> Tuple[Dict[str, Any], int]:
         found: Dict[str, Any] = {}
+        merged: List[Any] = []
         while True:
             at = self.blanks(at)
             if self.text[at : at + 1] == "}":
-                return found, at + 1
+                return self.merged(found, merged), at + 1
             name, at = self.flow(at)
             at = self.blanks(at)
             if not isinstance(name, str):
@@ -273,7 +285,10 @@ class Reader:
                 at = self.blanks(at + 1)
                 if self.text[at : at + 1] not in (",", "}"):
                     value, at = self.flow(at)
-            found[name] = value
+            if name == "<<":
+                merged += value if isinstance(value, list) else [value]
+            else:
+                found[name] = value
             at = self.behind(at, "}")
 
     def behind(self, at: int, end: str) -> int:
