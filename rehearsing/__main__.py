@@ -69,8 +69,8 @@ class Files:
         said = self.fault()
         if said:
             raise Faulty(f"{said}\n./explain with the same files tells where and how to mend it")
-        told = f"{len(prepared.left_out)} parts of the definition are left out and {len(prepared.put_in)} put in"
-        print(f"rehearse: for kubeconv {told}, as tools/prepare_crd.py --webhook tells", file=sys.stderr)
+        counts = f"left out {len(prepared.left_out)}, put in {len(prepared.put_in)}"
+        print(f"rehearse: the definition is prepared for kubeconv ({counts}); tools/prepare_crd.py --webhook tells each", file=sys.stderr)
 
 
 def prepare(given: Any, room: str) -> Tuple[Definition, Dict[str, Optional[str]]]:
