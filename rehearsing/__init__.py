@@ -4,3 +4,9 @@ Data passes the modules in this order: `words` (the command line), `definition` 
 files, one by one), `workers` (batches of them over processes), `trips` (there and back) by `converters` (the program, or a webhook),
 `differences`, `kept`, `tally` (what was found), `report` (how it is told).
 """
+import pathlib
+import sys
+
+# The tools that read YAML, definitions and rules stand beside.
+TOP = pathlib.Path(__file__).resolve().parent.parent
+sys.path.append(str(TOP / "tools"))

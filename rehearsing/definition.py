@@ -5,7 +5,7 @@ from typing import Any, Dict, FrozenSet, Optional, Tuple
 
 import rule_fields
 
-from .schema import Node, canonical
+from .schema import Node, Path, canonical
 
 Names = Tuple[str, ...]
 
@@ -42,6 +42,11 @@ class Definition:
     def names_way(self, *way: str) -> str:
         """What a way is, in words: `spoke to hub to spoke`."""
         return " to ".join("hub" if it == self.hub else "spoke" for it in way)
+
+    def is_default(self, version: str, path: Path, value: object) -> bool:
+        """Whether a value is what the schema of a version sets at a path."""
+        node = self.nodes[version].below(path)
+        return node is not None and "default" in node.doc and canonical(node.doc["default"]) == canonical(value)
 
     def is_hidden(self, at: str, to: str, path: Names) -> bool:
         """Whether by the rules a field of one version is never shown at another."""

@@ -36,8 +36,7 @@ def mend(rule: str, node: Optional[Node], path: Path, limit: object = None) -> s
     if rule not in BY_KEYWORD:
         return BY_RULE.get(rule, OTHER)
     if limit is None:
-        for step in path:
-            node = node.child(step) if node else None
+        node = node.below(path) if node else None
         keyword = rule[0].lower() + rule[1:]
         limit = (node.kind if rule == "Type" else node.doc.get(keyword)) if node else None
     told = limit if isinstance(limit, str) else ", ".join(map(canonical, limit)) if isinstance(limit, list) else canonical(limit)

@@ -90,6 +90,13 @@ class Node:
             return self.items
         return self.properties.get(name) or self.additional  # type: ignore[arg-type]
 
+    def below(self, path: Path) -> Optional[Node]:
+        """The node at a path, where there is one."""
+        node: Optional[Node] = self
+        for step in path:
+            node = node.child(step) if node else None
+        return node
+
     def settle(self, value: object, path: Path, notes: List[Note]) -> None:
         """Prunes a value in place, and fills it, as a server does."""
         if isinstance(value, list):

@@ -160,7 +160,8 @@ class Trips:
         node.settle(it, (), notes)
         there = one._replace(value=it, text=canonical(it))
         if is_first:
-            self.note_settled(notes, way[1:], one)
+            comes_back = [it for it in notes if it.rule == "pruned" and self.definition.is_default(way[0], it.path, it.value)]
+            self.note_settled([it for it in notes if it not in comes_back], way[1:], one)
             self.note_first(one, there, way)
         return there
 

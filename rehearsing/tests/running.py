@@ -3,19 +3,19 @@ from __future__ import annotations
 
 import contextlib
 import os
-import pathlib
 import re
 import subprocess
 import sys
 from typing import Iterator, Tuple
 
-TOP = pathlib.Path(__file__).resolve().parent.parent.parent
+from .. import TOP
+
 SECONDS = re.compile(r"( +seconds| +\d+\.\d|; \d+\.\d seconds, .*)$", re.MULTILINE)
 
 
 def rehearsed(program: str, *words: object, given: str = "") -> Tuple[int, str, str]:
     """The status, what is told, and what is told on standard error."""
-    paths = {**os.environ, "PYTHONPATH": f"{TOP}{os.pathsep}{TOP / 'tools'}", "PYTHONDONTWRITEBYTECODE": "1"}
+    paths = {**os.environ, "PYTHONPATH": str(TOP), "PYTHONDONTWRITEBYTECODE": "1"}
     command = [sys.executable, "-m", "rehearsing", "--program", program, "--processes", "2", *map(str, words)]
     done = subprocess.run(command, input=given, stdout=subprocess.PIPE, stderr=subprocess.PIPE, universal_newlines=True, env=paths)
     return done.returncode, SECONDS.sub("", done.stdout), done.stderr
