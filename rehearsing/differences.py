@@ -23,11 +23,13 @@ def alike(one: object, two: object) -> bool:
     """Whether two values are the same JSON: 1 is 1.0, and no truth value is a number."""
     if is_number(one) and is_number(two):
         return one == two
-    return type(one) is type(two) and (one == two and canonical(one) == canonical(two))
+    return type(one) is type(two) and one == two and canonical(one) == canonical(two)
 
 
 def between(one: object, two: object, path: Path = ()) -> Iterator[Difference]:
     """What of a value is gone in another, what is new there, and what differs. Fields and items are told by themselves."""
+    if type(one) is type(two) and one == two and canonical(one) == canonical(two):
+        return
     if isinstance(one, dict) and isinstance(two, dict):
         for name in sorted({**one, **two}):
             yield from between(one.get(name, ABSENT), two.get(name, ABSENT), path + (name,))

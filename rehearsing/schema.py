@@ -20,8 +20,8 @@ class Note(NamedTuple):
     limit: object = None
 
 
-def canonical(value: object) -> str:
-    return json.dumps(value, sort_keys=True, separators=(",", ":"), ensure_ascii=False)
+# A value's text: two values are the same where it is.
+canonical = json.JSONEncoder(sort_keys=True, separators=(",", ":"), ensure_ascii=False).encode
 
 
 def is_number(value: object) -> bool:
