@@ -5,6 +5,7 @@ import json
 import os
 import sys
 import tempfile
+from concurrent.futures.process import BrokenProcessPool
 from typing import Any, Dict, Optional, Tuple
 
 import prepare_crd
@@ -89,12 +90,14 @@ def prepare(given: Any, room: str) -> Tuple[Definition, Dict[str, Optional[str]]
 
 def main() -> int:
     given = words.read()
+    for stream in (sys.stdout, sys.stderr):
+        stream.reconfigure(errors="backslashreplace")  # type: ignore[union-attr]
     progress = Progress(given.objects)
     try:
         with tempfile.TemporaryDirectory() as room:
             definition, chosen = prepare(given, room)
             tally = rehearse(of_files(given.objects), definition, chosen, given.most, given.processes, progress)
-    except (Faulty, Unreadable, Unreachable) as why:
+    except (Faulty, Unreadable, Unreachable, BrokenProcessPool) as why:
         for line in str(why).splitlines():
             print(f"rehearse: {line}", file=sys.stderr)
         return WRONG

@@ -35,7 +35,7 @@ def review(texts: Sequence[str], to: str) -> bytes:
     return (
         '{"apiVersion":"apiextensions.k8s.io/v1","kind":"ConversionReview","request":{"uid":"rehearse","desiredAPIVersion":'
         f'{json.dumps(to)},"objects":[{",".join(texts)}]}}}}'
-    ).encode("utf-8", "surrogatepass")
+    ).encode("utf-8", "backslashreplace")  # half a surrogate pair stays an escape
 
 
 def read(body: bytes, count: int) -> Answer:

@@ -9,10 +9,19 @@ from typing import Iterator, List, NamedTuple, TextIO, Tuple
 import yaml_text
 
 CHUNK = 262_144  # characters that are read at once
+DEEPEST = 128  # levels of an object; kubeconv takes 64
 # As far before the end of what was read a fault may come of its being cut.
 CUT = 16
 DECODER = json.JSONDecoder()
 BLANKS = re.compile(r"[ \t\r\n]*")
+
+
+def is_deeper(value: object, most: int) -> bool:
+    level = [value]
+    while level and most >= 0:
+        inner = [it for it in level if isinstance(it, (dict, list))]
+        level, most = [field for it in inner for field in (it.values() if isinstance(it, dict) else it)], most - 1
+    return bool(level)
 
 
 class Unreadable(Exception):
@@ -24,9 +33,16 @@ class Text(NamedTuple):
 
     text: str
     line: int = 0  # 0 of JSON
+    path: str = ""
 
     def value(self) -> object:
-        return yaml_text.read(self.text, self.line) if self.line else json.loads(self.text)
+        """What it says; an object that is too deep to be looked at is nothing."""
+        try:
+            value = yaml_text.read(self.text, self.line) if self.line else json.loads(self.text)
+        except yaml_text.NotYaml as why:
+            raise Unreadable(f"{self.path}: {why}" if self.path else str(why)) from None
+        may_be_deep = self.line or self.text.count("{") + self.text.count("[") > DEEPEST
+        return None if may_be_deep and is_deeper(value, DEEPEST) else value
 
 
 class Scanner:
@@ -223,6 +239,6 @@ def of_files(paths: List[str]) -> Iterator[Text]:
             else:
                 stream = open(path, encoding="utf-8")
             with stream:
-                yield from of_stream(stream)
-        except (OSError, ValueError, Unreadable, yaml_text.NotYaml) as why:
+                yield from (it._replace(path=path) for it in of_stream(stream))
+        except (OSError, ValueError, Unreadable) as why:
             raise Unreadable(f"{path}: {why}") from None

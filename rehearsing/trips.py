@@ -82,7 +82,9 @@ class Trips:
         for number, text in enumerate(texts, first):
             value = text.value()
             if not isinstance(value, dict):
-                value = {}
+                said = "what stands here is no object of at most 128 levels"
+                self.tally.note(Key("refused", (), "", "NotObject"), Example(number, f"object {number + 1}", "", cut(text.text)), said)
+                continue
             one = Subject(number, name_of(value), value, "")
             group, _, version = str(value.get("apiVersion")).rpartition("/")
             if group != self.definition.group or value.get("kind") != self.definition.kind:

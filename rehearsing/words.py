@@ -34,7 +34,7 @@ def address(text: str) -> str:
 
 
 def read() -> argparse.Namespace:
-    parser = argparse.ArgumentParser(prog="rehearse", description=ABOUT, formatter_class=argparse.RawDescriptionHelpFormatter)
+    parser = argparse.ArgumentParser(prog="rehearse", description=ABOUT, formatter_class=argparse.RawDescriptionHelpFormatter, allow_abbrev=False)
     parser.add_argument("--program", help=argparse.SUPPRESS)
     parser.add_argument("--crd", required=True, metavar="FILE", help="the definition, as JSON or YAML, as the cluster has it")
     parser.add_argument("--name", help="which of several definitions in FILE is meant, as crontabs.example.com")
