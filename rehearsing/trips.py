@@ -1,6 +1,7 @@
 """Takes objects to other versions and back, and notes what that did to them."""
 from __future__ import annotations
 
+import re
 from typing import Any, Dict, Iterable, Iterator, List, NamedTuple, Optional, Tuple
 
 from . import kept
@@ -140,12 +141,13 @@ class Trips:
         return None
 
     def note_refused(self, one: Subject, message: str, way: Way) -> None:
-        if not self.definition.by_rules or " " in message.replace(": ", "").strip():
+        said_by_kubeconv = re.fullmatch(r"(?:(\S*): )?([A-Z][A-Za-z]+) ?", message)
+        if said_by_kubeconv is None:
             self.note("refused", way, one, (), "", ABSENT, message)
             return
-        path, _, rule = message.rpartition(": ")
+        path, rule = said_by_kubeconv[1] or "", said_by_kubeconv[2]
         steps, value = find(one.value, path)
-        if rule.strip() in UNREAD:
+        if rule in UNREAD:
             steps, value = next(unread(one.value), ((), ABSENT))
             rule = "NotWhole" if steps else "TooDeep"
         said = mend(rule, self.definition.nodes[way[0]], steps)

@@ -2,7 +2,9 @@
 import copy
 import json
 import unittest
+from unittest import mock
 
+from .. import trips
 from ..converters import Answer, Converter, read
 from ..definition import Definition
 from ..report import document, lines
@@ -122,6 +124,11 @@ class Noted(unittest.TestCase):
         self.assertFalse(tally.is_faulty(), tally.found)
         self.assertEqual(list(found(tally, "hidden")), [("hidden", "v1->v2", "spec.port", "own/kept")])
         self.assertEqual(list(found(tally, "kept")), [("kept", "v1->v2", "spec.mode", "own/kept")])
+
+    def test_a_slow_review(self):
+        with mock.patch.object(trips, "SLOW", -1.0):
+            _, tally = noted(lambda it: it, thing("a"), thing("b"))
+        self.assertEqual(list(found(tally, "slow")), [("slow", "", "a review of 2 objects", "")])
 
     def test_others_are_passed_over(self):
         _, tally = noted(lambda it: it, {"apiVersion": "v1", "kind": "Pod"}, {**thing("a"), "apiVersion": "g/v9"})
