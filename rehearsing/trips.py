@@ -110,16 +110,21 @@ class Trips:
 
     # One conversion.
 
-    def cross(self, ones: Subjects, at: str, to: str, pair: Way, is_first: bool) -> Subjects:
-        """The objects at another version, as a server keeps them. What is noted of the first way isn't again of the others."""
+    def cross(self, ones: Subjects, at: str, to: str, pair: Way, hoped: Optional[Subjects] = None) -> Subjects:
+        """The objects at another version, as a server keeps them. On a way back it is known what they are hoped to be, which is as
+        they were; then less is looked at, and noted."""
         counts, there = self.tally.pair(*pair), {}  # type: Any, Subjects
         before = self.converter.seconds
         told = self.converter.convert([it.text for it in ones.values()], self.definition.api_version(to))
         counts.seconds += self.converter.seconds - before
         for one, it in zip(ones.values(), told):
+            as_was = hoped and hoped[one.number]
+            if as_was and not isinstance(it, Refusal) and canonical(it) == as_was.text:
+                there[one.number] = as_was
+                continue
             why = it if isinstance(it, Refusal) else self.unlike(it, one, to)
             if why is None:
-                there[one.number] = self.arrived(one, it, (at, to), is_first)
+                there[one.number] = self.arrived(one, it, (at, to), hoped is None)
             else:
                 counts.refused += 1
                 self.refused[one.number] = True
@@ -245,11 +250,11 @@ class Trips:
 
     def there_and_back(self, ones: Subjects, at: str, via: str, goes_on: bool) -> Subjects:
         """What objects are at the other version. Where the trip goes on they are brought there once more."""
-        there = self.cross(ones, at, via, (at, via), True)
-        back = self.cross(there, via, at, (at, via), False)
+        there = self.cross(ones, at, via, (at, via))
+        back = self.cross(there, via, at, (at, via), ones)
         self.compare(ones, back, (at, via, at))
         if goes_on:
-            self.compare(there, self.cross(back, at, via, (via, at), False), (via, at, via))
+            self.compare(there, self.cross(back, at, via, (via, at), there), (via, at, via))
         return there
 
 
