@@ -69,7 +69,7 @@ class Files:
             raise Faulty("\n".join(f"{self.given.crd}: {why}" for why in prepared.impossible))
         said = self.fault()
         if said:
-            raise Faulty(f"{said}\n./explain with the same files tells where and how to mend it")
+            raise Faulty(f"{said}\n./explain with these rules and what tools/prepare_crd.py --webhook makes of the definition tells how to mend it")
         counts = f"left out {len(prepared.left_out)}, put in {len(prepared.put_in)}"
         print(f"rehearse: the definition is prepared for kubeconv ({counts}); tools/prepare_crd.py --webhook tells each", file=sys.stderr)
 
