@@ -5,6 +5,7 @@ from typing import Any, Dict, FrozenSet, Optional, Tuple
 
 import rule_fields
 
+from .kept import SPOKE
 from .schema import Node, Path, canonical
 
 Names = Tuple[str, ...]
@@ -48,9 +49,10 @@ class Definition:
         node = self.nodes[version].below(path)
         return node is not None and "default" in node.doc and canonical(node.doc["default"]) == canonical(value)
 
-    def is_hidden(self, at: str, to: str, path: Names) -> bool:
-        """Whether by the rules a field of one version is never shown at another."""
-        return (at, to, path) in self.hidden
+    def is_hidden(self, key: str, to: str, path: Names) -> bool:
+        """Whether by the rules a field that an annotation keeps is never shown at a version."""
+        spoke = key[len(SPOKE) :] if key.startswith(SPOKE) else None
+        return ((spoke, self.hub, path) if spoke else (self.hub, to, path)) in self.hidden
 
 
 def hidden_by(rules: Dict[str, Any]) -> FrozenSet[Tuple[str, str, Names]]:

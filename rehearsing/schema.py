@@ -104,7 +104,7 @@ class Node:
                 for i, item in enumerate(value):
                     if isinstance(item, (dict, list)):
                         self.items.settle(item, path + (i,), notes)
-        elif isinstance(value, dict):
+        elif isinstance(value, dict) and self.kind in ("object", None):
             self.settle_fields(value, path, notes)
 
     def settle_fields(self, value: dict, path: Path, notes: List[Note]) -> None:

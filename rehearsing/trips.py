@@ -192,7 +192,7 @@ class Trips:
         self.tally.pair(*way).kept += bool(found)
         values = kept.shown_values(there.value) if found and not self.definition.by_rules else set()
         for it in found:
-            is_hidden = self.definition.is_hidden(*way, it.path) if self.definition.by_rules else canonical(it.value) not in values
+            is_hidden = self.definition.is_hidden(it.key, way[1], it.path) if self.definition.by_rules else canonical(it.value) not in values
             self.note("hidden" if is_hidden else "kept", way, one, it.path, it.key, it.value)
 
     # There and back.
