@@ -67,7 +67,9 @@ class Trips:
 
     # What is noted.
 
-    def note(self, kind: str, way: Way, one: Subject, path: Path, rule: str = "", before: object = ABSENT, after: object = ABSENT, said: str = "") -> None:
+    def note(
+        self, kind: str, way: Way, one: Subject, path: Path, rule: str = "", before: object = ABSENT, after: object = ABSENT, said: str = ""
+    ) -> None:
         key = Key(kind, way, pattern(self.definition.nodes.get(way[0]), path), rule)
         self.tally.note(key, Example(one.number, one.name, spelled(path), shown(before), shown(after)), said)
 

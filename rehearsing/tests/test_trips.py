@@ -13,9 +13,15 @@ from ..texts import Text
 from ..trips import Trips
 
 PORT = {"type": "integer", "maximum": 100}
-SPEC = {"type": "object", "properties": {"port": PORT, "mode": {"type": "string", "default": "slow"}, "tags": {"type": "object", "additionalProperties": {"type": "string"}}}}
-V2 = {"type": "object", "properties": {"spec": {**SPEC, "properties": {**SPEC["properties"], "port": {"type": "integer", "maximum": 50}, "level": {"type": "integer", "default": 7}}}}}
-VERSIONS = [{"name": "v1", "storage": True, "schema": {"openAPIV3Schema": {"type": "object", "properties": {"spec": SPEC}}}}, {"name": "v2", "schema": {"openAPIV3Schema": V2}}]
+FIELDS = {"port": PORT, "mode": {"type": "string", "default": "slow"}, "tags": {"type": "object", "additionalProperties": {"type": "string"}}}
+
+
+def version(name, **others):
+    spec = {"type": "object", "properties": {**FIELDS, **others}}
+    return {"name": name, "storage": name == "v1", "schema": {"openAPIV3Schema": {"type": "object", "properties": {"spec": spec}}}}
+
+
+VERSIONS = [version("v1"), version("v2", port={"type": "integer", "maximum": 50}, level={"type": "integer", "default": 7})]
 CRD = {"metadata": {"name": "things.g"}, "spec": {"group": "g", "names": {"kind": "Thing"}, "versions": VERSIONS}}
 
 
@@ -47,14 +53,16 @@ def noted(turn, *objects, most=0):
 
 
 def found(tally, *kinds):
-    return {(key.kind, "->".join(key.way), key.path, key.rule): [(it.name, it.before, it.after) for it in its.examples] for key, its in tally.found.items() if key.kind in kinds}
+    of_kinds = [(key, its.examples) for key, its in tally.found.items() if key.kind in kinds]
+    return {(key.kind, "->".join(key.way), key.path, key.rule): [(it.name, it.before, it.after) for it in its] for key, its in of_kinds}
 
 
 class Noted(unittest.TestCase):
     def test_nothing_is_lost(self):
         _, tally = noted(lambda it: it, thing("a", port=1, mode="fast"), {**thing("b", port=2), "apiVersion": "g/v2"})
         self.assertFalse(tally.is_faulty())
-        self.assertEqual({way: (it.objects, it.same, it.refused) for way, it in tally.pairs.items()}, {("v1", "v2"): (2, 2, 0), ("v2", "v1"): (2, 2, 0)})
+        counts = {way: (it.objects, it.same, it.refused) for way, it in tally.pairs.items()}
+        self.assertEqual(counts, {("v1", "v2"): (2, 2, 0), ("v2", "v1"): (2, 2, 0)})
 
     def test_defaults_are_no_loss(self):
         _, tally = noted(lambda it: it, thing("a"))
@@ -97,7 +105,8 @@ class Noted(unittest.TestCase):
         _, tally = noted(turn, thing("a"))
         self.assertEqual(found(tally, "metadata")["metadata", "v1->v2", "metadata.labels.a", ""], [("n/a", '"b"', None)])
         _, tally = noted(lambda it: {**it, "metadata": {**it["metadata"], "uid": "w"}}, thing("a"))
-        self.assertEqual(found(tally, "refused"), {("refused", "v1->v2", "", ""): [("n/a", None, "\"the answer has metadata.uid 'w' in place of 'u'\"")]})
+        said = "\"the answer has metadata.uid 'w' in place of 'u'\""
+        self.assertEqual(found(tally, "refused"), {("refused", "v1->v2", "", ""): [("n/a", None, said)]})
 
     def test_lost_and_changed(self):
         def turn(it):
@@ -137,7 +146,8 @@ class Noted(unittest.TestCase):
     def test_tallies_add_up(self):
         one, two = (noted(lambda it: copy.deepcopy(it), *(thing(f"{name}{i}", port=99) for i in range(3)), most=2)[1] for name in "xy")
         one.add(two)
-        self.assertEqual([(it["objects"], len(it["examples"])) for it in document(Definition(CRD, None, None), one, 0)["findings"] if it["kind"] == "breaks"], [(6, 2)])
+        told = document(Definition(CRD, None, None), one, 0)["findings"]
+        self.assertEqual([(it["objects"], len(it["examples"])) for it in told if it["kind"] == "breaks"], [(6, 2)])
         self.assertEqual(one.pair("v1", "v2").objects, 6)
 
 

@@ -13,10 +13,8 @@ OPEN = "x-kubernetes-preserve-unknown-fields"
 def definition(spec, scope="Namespaced", names=("v1beta1", "v1"), name="things.example.com"):
     """A definition whose versions have these fields in `spec`: of all of them, or of each."""
     each = spec if isinstance(spec, list) else [spec] * len(names)
-    versions = [
-        {"name": n, "served": True, "storage": n == "v1", "schema": {"openAPIV3Schema": {"type": "object", "properties": {"spec": {"type": "object", "properties": it}}}}}
-        for n, it in zip(names, each)
-    ]
+    schemas = ({"type": "object", "properties": {"spec": {"type": "object", "properties": it}}} for it in each)
+    versions = [{"name": n, "served": True, "storage": n == "v1", "schema": {"openAPIV3Schema": it}} for n, it in zip(names, schemas)]
     kind = {"apiVersion": "apiextensions.k8s.io/v1", "kind": "CustomResourceDefinition", "metadata": {"name": name}}
     return {**kind, "spec": {"group": "example.com", "scope": scope, "names": {"plural": "things", "kind": "Thing"}, "versions": versions}}
 
@@ -24,7 +22,8 @@ def definition(spec, scope="Namespaced", names=("v1beta1", "v1"), name="things.e
 def prepared(text, *words):
     """The status, the definition, and the lines of standard error."""
     given = text if isinstance(text, str) else json.dumps(text)
-    done = subprocess.run([sys.executable, TOOLS / "prepare_crd.py", *words, "-"], input=given, stdout=subprocess.PIPE, stderr=subprocess.PIPE, universal_newlines=True)
+    command = [sys.executable, TOOLS / "prepare_crd.py", *words, "-"]
+    done = subprocess.run(command, input=given, stdout=subprocess.PIPE, stderr=subprocess.PIPE, universal_newlines=True)
     return done.returncode, json.loads(done.stdout) if done.stdout else None, done.stderr.splitlines()
 
 
@@ -48,7 +47,8 @@ class Webhook(unittest.TestCase):
         self.assertIn("isn't checked any more: 2 enum, 2 format, 2 maxLength, 2 maximum, 2 minimum, 2 pattern", said)
 
     def test_bounds_stay_that_a_rule_scales_by(self):
-        rules = {"hub": "v1", "spokes": {"v1beta1": [{"object": {"names": ["spec", "spec"], "rules": [{"scale": {"names": ["port", "port"], "by": 10}}]}}]}}
+        scale = {"scale": {"names": ["port", "port"], "by": 10}}
+        rules = {"hub": "v1", "spokes": {"v1beta1": [{"object": {"names": ["spec", "spec"], "rules": [scale]}}]}}
         with tempfile.NamedTemporaryFile("w", suffix=".json") as file:
             json.dump(rules, file)
             file.flush()
@@ -63,13 +63,17 @@ class Webhook(unittest.TestCase):
         status, made, said = prepared(crd, "--webhook")
         self.assertEqual((status, made["spec"]["scope"]), (0, "Namespaced"))
         open_object = {"type": "object", OPEN: True}
-        self.assertEqual(fields(made), {"share": {OPEN: True}, "any": open_object, "list": {"type": "array", "items": {OPEN: True}}, "pod": open_object})
+        open_list = {"type": "array", "items": {OPEN: True}}
+        self.assertEqual(fields(made), {"share": {OPEN: True}, "any": open_object, "list": open_list, "pod": open_object})
         self.assertEqual(sum(line.startswith("opened: ") for line in said), 4)
         self.assertEqual(prepared(crd)[:2], (1, None))
 
 
 class Opened(unittest.TestCase):
-    deep = {"a": {"type": "object", "properties": {"ratio": {"type": "number"}}}, "l": {"type": "array", "items": {"type": "object", "properties": {"x": {"type": "string"}}}}}
+    deep = {
+        "a": {"type": "object", "properties": {"ratio": {"type": "number"}}},
+        "l": {"type": "array", "items": {"type": "object", "properties": {"x": {"type": "string"}}}},
+    }
 
     def test_by_path_in_each_version_that_has_it(self):
         status, made, said = prepared(definition([self.deep, {"l": self.deep["l"]}]), "--open", "spec.a", "--open", "spec.l[*]")
@@ -81,7 +85,9 @@ class Opened(unittest.TestCase):
         self.assertEqual(prepared(definition({}), "--open", "spec.b"), (1, None, ["prepare_crd.py: -: --open spec.b: no version has such a field"]))
 
     def test_by_itself_where_there_are_too_many_nodes(self):
-        many = {name: {"type": "object", "properties": {f"f{i}": {"type": "string"} for i in range(size)}} for name, size in (("big", 900), ("some", 150))}
+        many = {
+            name: {"type": "object", "properties": {f"f{i}": {"type": "string"} for i in range(size)}} for name, size in (("big", 900), ("some", 150))
+        }
         status, made, said = prepared(definition([many, {"big": many["big"]}]))
         self.assertEqual(status, 0)
         self.assertEqual((fields(made)["some"], len(fields(made)["big"]["properties"])), ({"type": "object", OPEN: True}, 900))
@@ -96,7 +102,8 @@ class Completed(unittest.TestCase):
         self.assertTrue(said[1].endswith("properties.a.default (with the defaults inside)"), said)
 
     def test_a_type_that_is_told_is_set(self):
-        _, made, said = prepared(definition({"a": {"properties": {}}, "b": {"items": {"type": "string"}}, "c": {"additionalProperties": {"type": "string"}}}))
+        text = {"type": "string"}
+        _, made, said = prepared(definition({"a": {"properties": {}}, "b": {"items": text}, "c": {"additionalProperties": text}}))
         self.assertEqual({name: it["type"] for name, it in fields(made).items()}, {"a": "object", "b": "array", "c": "object"})
         self.assertTrue(said[0].startswith("set: ") and said[0].endswith("properties.a.type (object)"), said)
 
@@ -111,7 +118,8 @@ class Read(unittest.TestCase):
     def test_several_forms(self):
         one, two = definition({}), definition({}, name="others.example.com")
         as_list = {"apiVersion": "v1", "kind": "List", "items": [one, two]}
-        for text in (json.dumps(as_list), f"{json.dumps(one)}\n---\n# more\n{json.dumps(two)}\n", "kind: List\nitems:\n- " + json.dumps(one) + "\n- " + json.dumps(two)):
+        one, two = json.dumps(one), json.dumps(two)
+        for text in (json.dumps(as_list), f"{one}\n---\n# more\n{two}\n", f"kind: List\nitems:\n- {one}\n- {two}"):
             self.assertEqual(prepared(text, "--name", "others.example.com")[1]["metadata"]["name"], "others.example.com")
             self.assertIn("of which --name chooses one: others.example.com, things.example.com", prepared(text)[2][0])
 

@@ -10,12 +10,17 @@ import yaml_text  # noqa: E402
 
 GOOD = {
     "a: 1\nb: -0x1f\nc: 1.5\nd: 1e3\ne: 010\nf: +7": {"a": 1, "b": -31, "c": 1.5, "d": 1000.0, "e": 8, "f": 7},
-    "a: yes\nb: Off\nc: ~\nd:\ne: 'no'\nf: 2020-01-01T00:00:00Z\ng: 12:30": {"a": True, "b": False, "c": None, "d": None, "e": "no", "f": "2020-01-01T00:00:00Z", "g": "12:30"},
-    "a:\n- x\n-   y: 1\n    z: 2\n- - 1\n  - 2\n-\n- 'q'\nb: {c: [1, 'd', {e: f}], }": {"a": ["x", {"y": 1, "z": 2}, [1, 2], None, "q"], "b": {"c": [1, "d", {"e": "f"}]}},
-    "a: |\n  one\n    two\n\n  three\n\nb: >-\n  one\n  two\n\n  three\n    more\n  end\nc: |+\n  x\n\nd: |2-\n    y\n": {"a": "one\n  two\n\nthree\n", "b": "one two\nthree\n  more\nend", "c": "x\n\n", "d": "  y"},
-    "a: one\n  two\n\n  three # no\nb: \"x \\\n  y \\u00e9\n\n  z\"\nc: 'it''s\n  so'\nd: http://h/p#q": {"a": "one two\nthree", "b": "x y é\nz", "c": "it's so", "d": "http://h/p#q"},
+    "a: yes\nb: Off\nc: ~\nd:\ne: 'no'\nf: 2020-01-01T00:00:00Z\ng: 12:30":
+        {"a": True, "b": False, "c": None, "d": None, "e": "no", "f": "2020-01-01T00:00:00Z", "g": "12:30"},
+    "a:\n- x\n-   y: 1\n    z: 2\n- - 1\n  - 2\n-\n- 'q'\nb: {c: [1, 'd', {e: f}], }":
+        {"a": ["x", {"y": 1, "z": 2}, [1, 2], None, "q"], "b": {"c": [1, "d", {"e": "f"}]}},
+    "a: |\n  one\n    two\n\n  three\n\nb: >-\n  one\n  two\n\n  three\n    more\n  end\nc: |+\n  x\n\nd: |2-\n    y\n":
+        {"a": "one\n  two\n\nthree\n", "b": "one two\nthree\n  more\nend", "c": "x\n\n", "d": "  y"},
+    "a: one\n  two\n\n  three # no\nb: \"x \\\n  y \\u00e9\n\n  z\"\nc: 'it''s\n  so'\nd: http://h/p#q":
+        {"a": "one two\nthree", "b": "x y é\nz", "c": "it's so", "d": "http://h/p#q"},
     "# c\n'a b': {x: 1, # c\n  y: [2,\n  3]}\n\"c:d\":\n-\nk.x/y: -z": {"a b": {"x": 1, "y": [2, 3]}, "c:d": [None], "k.x/y": "-z"},
-    "a: &x {n: 1, o: &y [2]}\nb: *x\nc: {<<: *x, n: 3}\nd:\n  <<: *x\n  p: *y": {"a": {"n": 1, "o": [2]}, "b": {"n": 1, "o": [2]}, "c": {"n": 3, "o": [2]}, "d": {"n": 1, "o": [2], "p": [2]}},
+    "a: &x {n: 1, o: &y [2]}\nb: *x\nc: {<<: *x, n: 3}\nd:\n  <<: *x\n  p: *y":
+        {"a": {"n": 1, "o": [2]}, "b": {"n": 1, "o": [2]}, "c": {"n": 3, "o": [2]}, "d": {"n": 1, "o": [2], "p": [2]}},
     "'text'": "text",
     "%YAML 1.1\n---\n- 1\n...\n": [1],
 }
@@ -51,7 +56,8 @@ class Yaml(unittest.TestCase):
     def test_the_command(self):
         def ask(text):
             tool = pathlib.Path(yaml_text.__file__).with_name("yaml2json.py")
-            done = subprocess.run([sys.executable, tool, "-"], input=text, stdout=subprocess.PIPE, stderr=subprocess.PIPE, universal_newlines=True)
+            pipes = {"stdout": subprocess.PIPE, "stderr": subprocess.PIPE}
+            done = subprocess.run([sys.executable, tool, "-"], input=text, universal_newlines=True, **pipes)
             return done.returncode, done.stdout or done.stderr
 
         self.assertEqual(ask("a: [x, 1]"), (0, json.dumps({"a": ["x", 1]}) + "\n"))
