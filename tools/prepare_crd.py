@@ -77,7 +77,7 @@ def with_added(prepared, versions, name):
 
 def try_versions(prepared, versions):
     if len(versions) == 1 and prepared.for_webhook:
-        prepared.put("added", "no version", "one alone has nothing to be converted to; --add-version NAME gives a second one")
+        prepared.put("kept", "spec.versions", "one alone, so nothing is converted; --add-version NAME gives a second one")
     elif not 2 <= len(versions) <= VERSIONS:
         mend = "; --add-version NAME gives a second one" if len(versions) == 1 else ""
         prepared.cannot(f"spec.versions has {len(versions)} of them, and kubeconv takes 2 to {VERSIONS}{mend}")
