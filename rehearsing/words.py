@@ -12,6 +12,8 @@ OBJECTS are files, or standard input where there is none: what `kubectl get -o j
 `kubeconv dump`. The status is 0 where nothing is lost or refused, 1 where something is, and 2 where the words are wrong, a file can't be
 read, or there is nothing that converts."""
 
+MOST = 6  # processes, unless more are asked for: each takes some 25 MB
+
 
 def at_least(least: int):  # type: ignore[no-untyped-def]
     def number(text: str) -> int:
@@ -45,7 +47,7 @@ def read() -> argparse.Namespace:
     parser.add_argument("--ca", metavar="FILE", help="the authority of the webhook's certificate, in PEM")
     parser.add_argument("--hub", metavar="VERSION", help="the hub of a webhook; the storage version where it isn't given")
     parser.add_argument("--most", type=at_least(0), default=10, metavar="N", help="so many objects are named for each finding; 0 for all (10)")
-    parser.add_argument("--processes", type=at_least(1), default=processors(), metavar="N", help="one for each processor where it isn't given")
+    parser.add_argument("--processes", type=at_least(1), default=min(MOST, processors()), metavar="N", help="one for each processor, 6 at most")
     parser.add_argument("--json", action="store_true", help="tells the same as one JSON document")
     parser.add_argument("objects", nargs="*", default=["-"], metavar="OBJECTS")
     given = parser.parse_args()

@@ -13,7 +13,7 @@ from .tally import Tally
 from .texts import Text
 from .trips import Trips
 
-CHARACTERS = 200_000  # of a batch
+CHARACTERS = 800_000  # of a batch
 MOST = 400  # objects of a batch
 AHEAD = 2  # batches for each process that are read already
 
