@@ -1,392 +1,336 @@
-"""All faults of one spoke's rules, held against the schemas of its version and of the hub. It is no command: tools/find_faults.py finds
-faults by it, and tools/default_faults.py those of all spokes together.
+"""What is said of rules that don't fit their schemas, and how they are mended. It is no command: tools/find_faults.py tells faults by it.
 
-It goes over the levels as loading does: a level whole before those inside it, and at a level the reasons in one order; but it goes on
-behind the first fault. A rule that names what isn't there is told of that alone.
+The program says what doesn't fit, by its path and its word. Here the rule is found that stands there. Then mends are tried, the likely ones
+first, until the program takes one; so what is told to be pasted was taken.
 """
-from fault_texts import alike, is_whole, meant, shown
-from schemas import are_alike, differences, fault
+from __future__ import annotations
 
-SPOKE, HUB = 0, 1
-MOST_PAIRS = 2_000
+import re
+from typing import Any, Callable, Dict, Iterator, List, NamedTuple, Optional, Tuple
+
+from document_faults import Told, why_not
+from fault_texts import Document, Edit, alike, nearest, shown
+from program_asks import Fault, Program
+from rule_levels import (HUB, OF_OBJECT, ONLY, SIDES, SPOKE, Level, Rule, Spot, differences, draft, free_rules, kept, kind_of, levels,
+                         names_of, refused, unclosed, wider, with_names)
+
 INT64 = (-(2**63), 2**63 - 1)
 BLANKS = ("spokeBlank", "hubBlank")
+UNITS = (1000, 60, 3600, 1000000, 1000000000, 1024, 24, 86400, 100)
+KEPT = "keep the fields at both sides: then neither is shown at the other version"
+MOST_TRIED = 6
+PLAIN = ("enum", "maxLength", "minLength")
+# What the rules of each kind take.
+TAKES = {
+    "": "fields without a rule, as by `same`, have equal schemas, and both are required or neither",
+    "same": "`same` takes equal schemas, and both required or neither",
+    "object": "an `object` rule takes two objects with `properties`, without a default, and both required or neither",
+    "split": "a `split` takes texts with no keyword beside `type`, of which none is required",
+    "table": "a `table` takes values of both schemas, each once; defaults are a pair, and then, or where it is required, no blank is null",
+    "scale": "a `scale` takes whole numbers, and at the hub the bounds of the spoke times `by`",
+    **{it: "what is kept at one side has no default there, and isn't required" for it in ONLY},
+}
 
 
-class Spot:
-    """A name at a side."""
+class Way(NamedTuple):
+    """What may be done: in words, the edits that do it, and others that do too."""
 
-    def __init__(self, side, name):
-        self.side, self.name = side, name
-
-
-class Rule:
-    """A rule with its place in its list, and its names: at the spoke and at the hub, and of a split the second at the hub."""
-
-    def __init__(self, place, rule):
-        ((self.kind, self.value),) = rule.items()
-        self.place = place
-        self.spots = [Spot(side, name) for side, name in self.named()]
-        self.is_two = self.kind in ("same", "object", "split", "table", "scale")
-
-    def named(self):
-        v = self.value
-        if self.kind == "split":
-            return [(SPOKE, v["spoke"]), (HUB, v["hub"][0]), (HUB, v["hub"][1])]
-        if self.kind in ("spokeOnly", "hubOnly"):
-            return [(SPOKE if self.kind == "spokeOnly" else HUB, v)]
-        names = v if self.kind == "same" else v["names"]
-        return [(SPOKE, names[0]), (HUB, names[1])]
-
-    def has(self, side, name):
-        return any(it.side == side and it.name == name for it in self.spots)
+    says: str
+    mends: List[Edit]
+    others: List[Edit] = []
 
 
-class Level:
-    """A level of rules at both sides: the versions, the paths that lead to it, the schemas, and the place of its rules and these."""
+class Case:
+    """A fault of a spoke's rules, with the level and the rule, if any, and the names that it is about."""
 
-    def __init__(self, faults, versions, paths, schemas, place, lines):
-        self.faults, self.versions, self.paths, self.schemas, self.place = faults, versions, paths, schemas, place
-        self.rules = [Rule(i, it) for i, it in enumerate(lines)]
+    def __init__(self, program: Program, crd: Document, rules: Document, root: Level, fault: Fault) -> None:
+        self.program, self.crd, self.rules, self.root, self.fault = program, crd, rules, root, fault
+        near = [level for level in levels(root) if any(fault.path.startswith(it) for it in level.paths)]
+        found = [it for level in near for it in self.of_rules(level)] or [it for level in near for it in self.of_none(level)]
+        if found and not found[0][1] and fault.word == "NameMissing":  # a rule may stand at another level that is meant for the name
+            found = [(level, rule, names_of(rule)) for level in levels(root) for rule in level.rules or [] for it in found[0][2]
+                     if it in names_of(rule) and not any(level.node(*name) for name in names_of(rule))] + found  # fmt: skip
+        self.level, self.rule, self.spots = found[0] if found else (root, None, [])
 
-    def is_ruled(self, side, name):
-        return any(rule.has(side, name) for rule in self.rules)
+    def of_rules(self, level: Level) -> Iterator[Tuple[Level, Optional[Rule], List[Spot]]]:
+        """The rules of a level that the fault may be of: those with the name, or else with it as the first one."""
+        for rule in level.rules or []:
+            names = names_of(rule) if self.fault.word in ("NameTwice", "NameMissing") else names_of(rule)[:1]
+            at = [it for it in names if level.paths[it[0]] + it[1] == self.fault.path]
+            if any(self.fault.word != "NameMissing" or not level.node(*it) for it in at):
+                yield level, rule, names_of(rule)
 
-    def cells(self):
-        """The rules of fields that aren't opened, and one for each name that no rule has and that goes over as it is."""
-        there = self.schemas[HUB]
-        names = [it for it in self.schemas[SPOKE].properties if not self.is_ruled(SPOKE, it) and not self.is_ruled(HUB, it)]
-        free = [Rule(None, {"same": [name, name]}) for name in names if there.field(name)]
-        return [rule for rule in self.rules if rule.kind != "object"] + free
+    def of_none(self, level: Level) -> Iterator[Tuple[Level, Optional[Rule], List[Spot]]]:
+        """The names of a level that no rule has."""
+        path = self.fault.path
+        spots = [(side, path[len(level.paths[side]) :]) for side in SIDES if path.startswith(level.paths[side])]
+        spots = [it for it in spots if (level.node(*it) or level.is_required(*it)) and not level.is_ruled(*it)]
+        if spots:
+            yield level, None, spots
 
-    def node(self, spot):
-        return self.schemas[spot.side].field(spot.name)
+    def takes(self, rules: List[Rule], level: Optional[Level] = None) -> bool:
+        return bool(rules) and not refused(self.program, level or self.level, rules)
 
-    def is_required(self, spot):
-        return spot.name in self.schemas[spot.side].required
+    def nodes(self) -> List[Dict[str, Any]]:
+        return [self.level.node(*it) or {} for it in self.spots]
 
-    def of(self, spot):
-        """The name with its path and its version."""
-        return f"`{self.paths[spot.side]}{spot.name}` of {self.versions[spot.side]}"
+    def instead(self, new: List[Rule]) -> List[Edit]:
+        """New rules in the place of the one, or at the end where there is none."""
+        rules = self.level.rules if self.level.rules is not None else []
+        return [self.rules.add(rules, new) if self.rule is None else self.rules.swap(rules, self.rule, new)]
 
-    def tell(self, word, says, spot, rule=None):
-        """Tells a fault at a name of a side: of a rule, or of none."""
-        where = f"{self.place}[{rule.place}] ({rule.kind})" if rule else f"{self.versions[SPOKE]} and {self.versions[HUB]}"
-        self.faults.tell(self.paths[spot.side] + spot.name, word, f"{where}: {says}")
-
-    def tell_rule(self, word, says, rule):
-        """Tells a fault of a whole rule, which stands at its first name."""
-        self.tell(word, says, rule.spots[0], rule)
-
-
-# ---- names
-
-def twice(level, rule):
-    """Names of the rule that a later one of the level has too."""
-    for spot in rule.spots:
-        later = [it for it in level.rules[rule.place + 1 :] if it.has(spot.side, spot.name)]
-        if later:
-            there = f"{level.place}[{later[0].place}]"
-            says = f"`{spot.name}` of {level.versions[spot.side]} is also named by {there}; keep one of the two rules"
-            level.tell("NameTwice", says, spot, rule)
-        if spot.side == SPOKE and rule.kind == "split" and rule.spots[1].name == rule.spots[2].name:
-            level.tell("NameTwice", "the two names under `hub` are one; name two fields", rule.spots[1], rule)
-
-
-def absent(level, rule):
-    """Names of the rule that its schemas don't have."""
-    for spot in rule.spots:
-        if not level.node(spot):
-            path = level.paths[spot.side] + spot.name
-            near = meant(spot.name, level.schemas[spot.side].properties)
-            says = f"the schema of {level.versions[spot.side]} has no `{path}`{near}"
-            level.tell("NameMissing", says, spot, rule)
+    def without(self, *names: str) -> List[Edit]:
+        """The fields without keywords; `required` is that of the objects around."""
+        edits = [self.crd.drop(node, name) for node in self.nodes() for name in names if name in node]
+        for side, name in self.spots if "required" in names else []:
+            node = self.level.nodes[side]
+            rest = [it for it in node.get("required", []) if it != name]
+            if self.level.is_required(side, name):
+                edits.append(self.crd.put(node, "required", rest) if rest else self.crd.drop(node, "required"))
+        return edits
 
 
-def unpaired(level, side):
-    """Names of a side that no rule has, and that aren't free at the other: it has them, and no rule there."""
-    there = level.schemas[1 - side]
-    version, other = level.versions[side], level.versions[1 - side]
-    for name in level.schemas[side].properties:
-        is_free = there.field(name) and not level.is_ruled(1 - side, name)
-        if is_free or level.is_ruled(side, name):
-            continue
-        if there.field(name):
-            why = f"the `{name}` of {other} belongs to another rule"
-        else:
-            why = f"{other} has no field of that name{meant(name, there.properties)}"
-        pair = f'"{name}", FIELD' if side == SPOKE else f'FIELD, "{name}"'
-        alone = "spokeOnly" if side == SPOKE else "hubOnly"
-        cure = f'{{"same": [{pair}]}} where {other} calls it FIELD, or {{"{alone}": "{name}"}}'
-        says = f"no rule has `{name}` of {version}, and {why}; write a rule into {level.place}, as {cure}"
-        level.tell("NameMissing", says, Spot(side, name))
+# ---- rules of other names, or at other levels
 
 
-# ---- schemas
+def reversed_names(rule: Rule) -> Optional[Rule]:
+    (kind, v), = rule.items()
+    if kind in ONLY:
+        return {ONLY[1 - ONLY.index(kind)]: v}
+    return with_names(rule, [name for _, name in names_of(rule)][::-1]) if kind != "split" else None
 
-def try_alone(level, spots, word, rule):
-    """Tells where one side alone requires its name."""
-    if level.is_required(spots[0]) == level.is_required(spots[1]):
+
+def turned(case: Case) -> Iterator[Way]:
+    """The names, the pairs or both the other way round."""
+    other = reversed_names(case.rule) if case.rule else None
+    tries = [other] if other else []
+    if other and kind_of(other) == "table":
+        pairs = [it[::-1] for it in other["table"]["pairs"]]
+        tries = [{"table": {**it["table"], "pairs": pairs}} for it in (case.rule, other)] + tries
+    for rule in tries:
+        if case.takes([rule]):
+            yield Way("the other way round it fits", case.instead([rule]))
+
+
+def of_object(case: Case) -> Iterator[Way]:
+    if case.rule and any(name.split(".")[0] in OF_OBJECT for _, name in case.spots if not case.level.node(HUB, name)):
+        says = "`metadata`, `apiVersion` and `kind` go over by themselves, and no rule names them; take the rule out"
+        yield Way(says, case.instead([]))
+
+
+def moved_to(case: Case, adds: List[Tuple[Level, List[Rule]]]) -> List[Edit]:
+    """The edits by which rules stand at their levels, within `object` rules where no rule opens one, and the one rule not any more."""
+    lists: Dict[int, Tuple[List[Any], List[Rule]]] = {}
+    for level, rules in adds:
+        while level.rules is None and level.around:
+            rules, level = [{"object": {"names": list(level.names), "rules": rules}}], level.around
+        lists.setdefault(id(level.rules), (level.rules or [], []))[1].extend(rules)
+    own = lists.pop(id(case.level.rules), ([], []))[1]
+    return case.instead(own) + [case.rules.add(items, rules) for items, rules in lists.values()]
+
+
+def could_be(level: Level, side: int, name: str) -> bool:
+    """Whether a name may mean the field of the level that its last part names."""
+    steps = [it for it in re.split(r"[./$]+", name) if it]
+    around = ".".join(steps[:-1])
+    return bool(steps) and bool(level.node(side, steps[-1])) and (not around or f".{level.paths[side]}".endswith(f".{around}."))
+
+
+def elsewhere(case: Case) -> Iterator[Way]:
+    """The rule at a level where it fits, or, where its names stand at two levels, both fields kept."""
+    if not case.rule:
         return
-    own, beside = spots if level.is_required(spots[0]) else spots[::-1]
-    first = f"`required` of {level.versions[own.side]} has `{own.name}`"
-    second = f"that of {level.versions[beside.side]} doesn't have `{beside.name}`"
-    level.tell(word, f"{first}, and {second}; both have to, or neither", spots[0], rule)
+    rule = case.rule if kind_of(case.rule) != "move" else {"same": [name for _, name in case.spots]}
+    last = with_names(rule, [re.split(r"[./$]", name)[-1] for _, name in case.spots])
+    dotted = "a name is one level; " if any(re.search(r"[./$]", name) for _, name in case.spots) else ""
+    every = list(levels(case.root, with_closed=True))
+    for level in every:
+        if all(could_be(level, *it) for it in case.spots) and last != case.rule and case.takes([last], level) or (
+            level.paths != case.level.paths and all(could_be(level, *it) for it in case.spots) and case.takes([last], level)):  # fmt: skip
+            fields = " and ".join(dict.fromkeys(level.of(*it) for it in names_of(last)))
+            where = f"the `object` rule of `{level.paths[SPOKE][:-1]}`" if level.around else "the list of the spoke"
+            yield Way(f"{dotted}{fields}: put the rule into {where}", moved_to(case, [(level, [last])]))
+    found = [next(((level, (side, steps)) for level in every if could_be(level, side, name)), None)
+             for (side, name), (_, steps) in zip(case.spots, names_of(last))]  # fmt: skip
+    there = [it for it in found if it]
+    if len(there) > 1 and len({level.paths[side] for level, (side, _) in there}) > 1:
+        adds = [(level, kept(level, [it])) for level, it in there]
+        if all(case.takes(rules, level) for level, rules in adds):
+            moves = " is ".join(level.of(*it) for level, it in there)
+            yield Way(f"{moves}, at another level, and no rule moves a field: {KEPT}", moved_to(case, adds))
 
 
-def cure_of(one, two):
-    """Which rule takes two fields that differ."""
-    only = "`spokeOnly` and `hubOnly` rules: then neither is shown at the other version"
-    if not one.unclosed() and not two.unclosed():
-        return "write an `object` rule with rules for what is inside"
-    if one.kind == two.kind == "integer":
-        return "write a `scale` or `table` rule"
-    if {one.kind, two.kind} & {"object", "array"}:
-        return f"write {only}"
-    return f"write a `table` rule of the values that are one, or {only}"
+def renamed(case: Case) -> Iterator[Way]:
+    """The nearest names in the place of those that aren't there."""
+    names = [name if case.level.node(side, name) else nearest(name, case.level.free(side)) or nearest(name, case.level.fields(side)) or name
+             for side, name in case.spots]  # fmt: skip
+    rule = with_names(case.rule, names) if case.rule else None
+    if rule and rule != case.rule and case.takes([rule]):
+        yield Way(" and ".join(f"`{it}`" for it in names if (HUB, it) not in case.spots and (SPOKE, it) not in case.spots) + " is meant",
+                  case.instead([rule]))  # fmt: skip
 
 
-def try_same(level, spots, rule=None):
-    """Tells where two fields differ in more than their own defaults, or one side alone requires its own."""
-    one, two = map(level.node, spots)
-    if not are_alike(one, two):
-        found = f"the two schemas differ: {differences(level.versions, one, two)}"
-        level.tell("SchemaDiffers", f"{found}; make them equal, or {cure_of(one, two)}", spots[0], rule)
-    try_alone(level, spots, "SchemaDiffers", rule)
+def partner(case: Case) -> Iterator[Way]:
+    """A field without a rule: kept, or paired with the one of the other side that it may be."""
+    if case.rule or not case.spots:
+        return
+    (side, name), level = case.spots[0], case.level
+    taken = [it["same"][0] for it in free_rules(level)]
+    free = [it for it in level.free(1 - side) if it not in taken]
+    near = [it for it in [nearest(name, free)] if it] or free[: MOST_TRIED if len(free) <= MOST_TRIED else 0]
+    fitting = [it for it in near if case.takes([{"same": [name, it][:: 1 if side == SPOKE else -1]}])]
+    other = [{"same": [name, it][:: 1 if side == SPOKE else -1]} for it in fitting if len(fitting) == 1]
+    says = f"keep it, where {level.versions[1 - side]} has nothing like it" + (f", or pair it with `{fitting[0]}`" if other else "")
+    if case.takes(kept(level, case.spots[:1])):
+        yield Way(says, case.instead(kept(level, case.spots[:1])), case.instead(other) if other else [])
 
 
-def unfit(rule, node):
-    """What of a node the rule doesn't take."""
-    if rule.kind == "object":
-        why = node.unclosed()
-        return why and f"{why}; an `object` rule takes two objects with `properties` and without these"
-    wanted = {"split": "string", "table": node.kind, "scale": "integer"}.get(rule.kind)
-    if wanted and node.kind != wanted:
-        return f"is of type {node.kind}, and this rule takes {wanted}"
-    if wanted and node.nullable:
-        return "has `nullable`; take it out: this rule has no pair for null"
+# ---- other rules
+
+
+def opened(case: Case) -> Iterator[Way]:
+    """An `object` rule for two objects, or a `scale` or a `table`, for two fields that differ."""
+    if len(case.spots) != 2 or kind_of(case.rule) not in ("", "same", "scale"):
+        return
+    names = [name for _, name in case.spots]
+    below, (one, two) = case.level.inner(names, None), case.nodes()
+    rules: List[Tuple[str, Rule]] = []
+    if below:
+        rules = [("make them equal, or open both by an `object` rule", {"object": {"names": names, "rules": draft(case.program, below)}})]
+    if one.get("type") == two.get("type") == "integer":
+        rules += [("by the bounds it is another unit", {"scale": {"names": names, "by": it}}) for it in UNITS]
+    lists = [it["enum"] for it in (one, two) if "enum" in it]
+    shared = [it for it in lists[0] if all(any(alike(it, other) for other in list_) for list_ in lists)] if lists else []
+    for blank in (None, *shared[:1]):
+        table = {"names": names, "pairs": [[it, it] for it in shared], "spokeBlank": blank, "hubBlank": blank}
+        rules += [("pair the values that both have; any other is kept", {"table": table})] if shared else []
+    yield from (Way(says, case.instead([it])) for says, it in rules if it != case.rule and case.takes([it]))
+
+
+def both_kept(case: Case) -> Iterator[Way]:
+    """Both fields kept, or where bounds alone differ those that take the values of both."""
+    one, two = case.nodes() if len(case.spots) == 2 else ({}, {})
+    wide = wider(one, two) if one and kind_of(case.rule) in ("", "same") else None
+    edits = []
+    for node in (one, two) if wide else ():
+        edits += [case.crd.put(node, it, v) for it, v in wide.items() if not alike(node.get(it), v)]
+        edits += [case.crd.drop(node, it) for it in node if it not in wide and it not in ("default", "description")]
+    new = kept(case.level, case.spots)
+    if case.takes(new):
+        yield Way(KEPT + (", or give both the wider bounds" if edits else ""), case.instead(new), edits)
+    elif edits:
+        yield Way("give both the wider bounds", edits)
+    if case.rule:
+        yield Way("take out what isn't there", case.instead([it for it in new if case.takes([it])]))
+
+
+def other_hub(case: Case) -> Iterator[Way]:
+    """A number with the finer unit at the spoke."""
+    other, level = reversed_names(case.rule) if kind_of(case.rule) == "scale" else None, case.level
+    if other and case.takes([other], Level(level.versions[::-1], level.nodes[::-1], None)):
+        spoke, hub = level.versions
+        says = f"the finer unit stands at {spoke}, and a `scale` wants it at the hub: make {spoke} the hub, with {shown(other)} for {hub}, or {KEPT}"
+        yield Way(says, case.instead(kept(level, case.spots)))
+
+
+# ---- the definition mended
+
+
+def stripped(case: Case) -> Iterator[Way]:
+    """The definition without what the rule doesn't take."""
+    word, kind = case.fault.word, kind_of(case.rule)
+    names = {"UnpairedDefault": ("default",), "RangeLost": PLAIN if kind == "split" else ("enum",) if kind == "scale" else ()}
+    edits = case.without(*names.get(word, ("required", "nullable") if kind in ("split", "table", "scale") else ("required",)))
+    if edits:
+        yield Way("take it out of the schema", edits)
+
+
+def pair_fault(case: Case, i: int) -> Optional[str]:
+    """What is wrong with a pair of a table."""
+    pairs = case.rule["table"]["pairs"] if case.rule else []
+    for side, node in zip(SIDES, case.nodes()):
+        v, version = pairs[i][side], case.level.versions[side]
+        first = next(j for j, it in enumerate(pairs) if alike(it[side], v))
+        why = f"a value stands once at a side, and {shown(v)} is in `pairs`[{first}] too" if first < i else why_not(case.program, node, v)
+        if why:
+            return f"`pairs`[{i}]: {version} doesn't take {shown(v)}: {why}"
     return None
 
 
-def rule_schemas(level, rule):
-    for spot in rule.spots:
-        why = unfit(rule, level.node(spot))
-        if why:
-            level.tell_rule("SchemaDiffers", f"{level.of(spot)} {why}", rule)
-    if rule.kind == "same":
-        try_same(level, rule.spots, rule)
-    if rule.kind == "object":
-        try_alone(level, rule.spots, "SchemaDiffers", rule)
+def tables(case: Case) -> Iterator[Way]:
+    """A table with pairs and blanks that the schemas take, and with defaults that are a pair."""
+    if kind_of(case.rule) != "table":
+        return
+    table, two = case.rule["table"], case.nodes()
+    found = [pair_fault(case, i) for i in range(len(table["pairs"]))] if case.fault.word == "RangeLost" else []
+    pairs = [it for it, why in zip(table["pairs"], found or [None] * len(table["pairs"])) if not why]
+    own = next((side for side in SIDES if "default" in two[side]), None)
+    filled = next((it for it in pairs if own is None or alike(it[own], two[own]["default"])), None)
+    defaults = [case.crd.put(node, "default", v) for node, v in zip(two, filled or []) if own is not None and not alike(node.get("default"), v)]
+    blanks = {name: None for name, node in zip(BLANKS, two) if table[name] is not None and why_not(case.program, node, table[name])}
+    filled_blanks = {name: v for name, v in zip(BLANKS, filled or []) if table[name] is None}
+    for blank in (blanks, filled_blanks):
+        rule = {"table": {**table, "pairs": pairs, **blank}}
+        says = "; ".join([it for it in found if it] + [f"`{it}`: {shown(table[it])} isn't taken" for it in blanks]) or "so it goes over"
+        if rule != case.rule and (case.takes([rule]) or defaults):
+            yield Way(says, defaults + case.instead([rule]))
+    if defaults:
+        yield Way("so the defaults are a pair", defaults)
 
 
-def free_schemas(level):
-    """Names without a rule whose schemas aren't equal."""
-    for name in level.schemas[SPOKE].properties:
-        if not level.is_ruled(SPOKE, name) and not level.is_ruled(HUB, name) and level.schemas[HUB].field(name):
-            try_same(level, [Spot(SPOKE, name), Spot(HUB, name)])
+def bounds(case: Case) -> Iterator[Way]:
+    """The bounds that fit, at the hub or else at the spoke."""
+    if kind_of(case.rule) != "scale":
+        return
+    by, two = case.rule["scale"]["by"], case.nodes()
+    ends = [(it.get("minimum", low), it.get("maximum", high)) for it in two
+            for low, high in [(-(2**31), 2**31 - 1) if it.get("format") == "int32" else INT64]]  # fmt: skip
+    fits = [(-(-ends[HUB][0] // by), ends[HUB][1] // by), (ends[SPOKE][0] * by, min(ends[SPOKE][1] * by + by - 1, INT64[1]))]
+    for side in (HUB, SPOKE):
+        low, high = fits[side]
+        node = {**{it: v for it, v in two[side].items() if it not in ("format", "default")}, "minimum": low, "maximum": high}
+        around = [dict(it) for it in case.level.nodes]
+        around[side]["properties"] = {**around[side]["properties"], case.spots[side][1]: node}
+        if INT64[0] <= low and not refused(case.program, case.level, [case.rule], around):
+            edits = [case.crd.put(two[side], it, node[it]) for it in ("minimum", "maximum") if two[side].get(it) != node[it]]
+            yield Way(f"{low} to {high} would fit at {case.level.versions[side]}", edits)
 
 
-# ---- defaults
+# ---- what is told
 
-def wanted_default(rule, side, v):
-    """What the default of the table's other side has to be: in words, and as a list of the one value where there is one."""
-    for pair in rule.value["pairs"]:
-        if alike(pair[side], v):
-            return f"the default {shown(pair[1 - side])}", [pair[1 - side]]
-    return "a pair in the table and its value there", []
-
-
-def try_pair(level, rule):
-    """Where the defaults of two names aren't one by the table."""
-    one, two = map(level.node, rule.spots)
-    versions = level.versions
-    for own, side, beside in ((one, SPOKE, two), (two, HUB, one)):
-        if own.has_default and not beside.has_default:
-            words, _ = wanted_default(rule, side, own.default)
-            has = f"{level.of(rule.spots[side])} has the default {shown(own.default)}"
-            lacks = f"{level.of(rule.spots[1 - side])} has none"
-            says = f"{has} and {lacks}; give it {words}, or take the one out"
-            level.tell_rule("UnpairedDefault", says, rule)
-    if one.has_default and two.has_default:
-        words, values = wanted_default(rule, SPOKE, one.default)
-        if not any(alike(it, two.default) for it in values):
-            both = f"{shown(one.default)} of {versions[SPOKE]} and {shown(two.default)} of {versions[HUB]}"
-            says = f"the defaults {both} aren't one by this rule; for the first, the second has to be {words}"
-            level.tell_rule("UnpairedDefault", says, rule)
+Ways = Callable[[Case], Iterator[Way]]
+# The ways to mend what a word is of, in the order in which they are tried.
+WAYS: Dict[str, List[Ways]] = {
+    "NameMissing": [of_object, turned, elsewhere, renamed, partner, both_kept, stripped],
+    "SchemaDiffers": [turned, elsewhere, opened, stripped, both_kept],
+    "UnpairedDefault": [tables, stripped],
+    "RequiredLost": [tables, stripped],
+    "RangeLost": [turned, other_hub, stripped, tables, bounds, both_kept],
+}
 
 
-def rule_defaults(level, rule):
-    """Where defaults of a rule's names don't go together. At `same` and `scale` any do."""
-    if rule.kind == "table":
-        try_pair(level, rule)
-        for blank in BLANKS if level.node(rule.spots[0]).has_default else ():
-            if rule.value[blank] is None:
-                why = f"`{blank}` is null and the fields have defaults, by which an absent field is filled"
-                says = f"{why}; give `{blank}` a value, or take the defaults out"
-                level.tell_rule("UnpairedDefault", says, rule)
-    elif rule.kind not in ("same", "scale"):
-        for spot in rule.spots:
-            node = level.node(spot)
-            if node.has_default:
-                why = f"which this rule can't give at {level.versions[1 - spot.side]}; take the default out"
-                says = f"{level.of(spot)} has the default {shown(node.default)}, {why}"
-                level.tell_rule("UnpairedDefault", says, rule)
+def why(case: Case) -> str:
+    level, word, two = case.level, case.fault.word, case.nodes()
+    if word == "NameMissing" and not case.rule:
+        (side, name), = case.spots[:1]
+        return f"no rule has {level.of(side, name)}, and {level.versions[1 - side]} has no field of that name that is free"
+    if word == "NameMissing":
+        return " and ".join(f"{level.versions[side]} has no `{level.paths[side]}{name}`" for side, name in case.spots if not level.node(side, name))
+    if len(two) == 2 and word == "SchemaDiffers" and kind_of(case.rule) in ("", "same") and differences(level.versions, *two):
+        return f"the two schemas differ: {differences(level.versions, *two)}"
+    facts = [f"{level.of(*it)} is {shown(node)}{' and required' * level.is_required(*it)}" for it, node in zip(case.spots, two)]
+    facts += [f"that of {level.versions[side]} {why}" for side, node in enumerate(two) for why in [unclosed(node)] if kind_of(case.rule) == "object" and why]
+    return f"{TAKES[kind_of(case.rule)]}: {', '.join(facts)}"
 
 
-# ---- required names
-
-def rule_required(level, rule):
-    """Where names of a rule are required and the rule can't give them."""
-    if rule.kind in ("table", "scale"):
-        try_alone(level, rule.spots, "RequiredLost", rule)
-    for spot in filter(level.is_required, rule.spots):
-        there = f"`{level.paths[spot.side]}{spot.name}` is required at {level.versions[spot.side]}"
-        if rule.kind == "table" and rule.value[BLANKS[spot.side]] is None:
-            blank = BLANKS[spot.side]
-            none = f"`{blank}` is null, so that a value that the table doesn't list shows none"
-            says = f"{there}, and {none}; give `{blank}` a value that the schema takes"
-            level.tell_rule("RequiredLost", says, rule)
-        elif rule.kind in ("spokeOnly", "hubOnly", "split"):
-            other = level.versions[1 - spot.side]
-            says = f"{there}, and an object of {other} may not give it; take it out of `required`"
-            level.tell_rule("RequiredLost", says, rule)
-
-
-def lost(level, side):
-    """Required names that the schema of a side doesn't have."""
-    schema = level.schemas[side]
-    for name in schema.required:
-        if not schema.field(name):
-            near = meant(name, schema.properties)
-            path = level.paths[side] + name
-            says = f"`required` of {level.versions[side]} has `{path}`, and its `properties` don't{near}"
-            level.tell("RequiredLost", says, Spot(side, name))
-
-
-# ---- ranges
-
-def try_plain(level, rule, spot):
-    node = level.node(spot)
-    has = [f"`{name}`: {node.doc[name]}" for name in ("minLength", "maxLength") if name in node.doc]
-    has += [f"`enum`: {dict(node.keywords())['enum']}"] if node.choices is not None else []
-    if has:
-        only = "a split takes texts with no keyword beside `type`, so take it out"
-        level.tell_rule("RangeLost", f"{level.of(spot)} has {', '.join(has)}; {only}", rule)
-
-
-def try_value(level, rule, side, v, where, cure):
-    """Tells a value of a table that its side doesn't take."""
-    found = fault(level.node(rule.spots[side]), v)
-    if found:
-        says = f"{where}: the schema of {level.versions[side]} doesn't take {shown(v)} ({found[1]}); {cure}"
-        level.tell_rule("RangeLost", says, rule)
-
-
-def try_column(level, rule, side):
-    """The values of a table at a side: each has to be taken, and stands once."""
-    values = [pair[side] for pair in rule.value["pairs"]]
-    for i, v in enumerate(values):
-        try_value(level, rule, side, v, f"`pairs`[{i}]", "mend the pair or the schema")
-        again = [j for j in range(i + 1, len(values)) if alike(values[j], v)] if i < MOST_PAIRS else []
-        if again:
-            both = f"`pairs`[{i}] and [{again[0]}] both have {shown(v)} at {level.versions[side]}"
-            says = f"{both}; each value stands once at a side, so keep one of the two pairs"
-            level.tell_rule("RangeLost", says, rule)
-
-
-def bound_cure(level, by, spoke, hub, is_low):
-    """The numbers that would fit, at the one side or at the other."""
-    at_spoke = None if is_low and hub % by else hub // by
-    cures = []
-    if INT64[0] <= by * spoke <= INT64[1]:
-        most = "" if is_low else f" to {min(by * spoke + by, INT64[1]) - 1}"
-        cures.append(f"{by * spoke}{most} would fit at {level.versions[HUB]}")
-        if at_spoke is not None:
-            cures.append(f"or {at_spoke} at {level.versions[SPOKE]}")
-    elif at_spoke is not None:
-        cures.append(f"{at_spoke} would fit at {level.versions[SPOKE]}")
-    return ", ".join(cures) or "give both one that is far below 64 bits"
-
-
-def try_bounds(level, rule, one, two):
-    """Tells the bounds of two schemas of whole numbers that a factor doesn't keep."""
-    by = rule.value["by"]
-    for is_low, keyword in ((True, "minimum"), (False, "maximum")):
-        spoke, hub = one.ends()[not is_low], two.ends()[not is_low]
-        product = by * spoke
-        keeps = product == hub if is_low else product <= hub and hub // by <= spoke
-        if keeps and INT64[0] <= product <= INT64[1]:
-            continue
-        first = f"`{keyword}` is {one.doc.get(keyword, 'none')} at {level.versions[SPOKE]}"
-        second = f"{two.doc.get(keyword, 'none')} at {level.versions[HUB]}, where it has to be {by} times as much"
-        cure = bound_cure(level, by, spoke, hub, is_low)
-        level.tell_rule("RangeLost", f"{first} and {second}: {cure}", rule)
-
-
-def rule_ranges(level, rule):
-    """Where what goes over by a rule isn't taken at the other side."""
-    for spot in rule.spots:
-        if rule.kind == "split":
-            try_plain(level, rule, spot)
-        elif rule.kind == "table":
-            try_column(level, rule, spot.side)
-        elif rule.kind == "scale" and level.node(spot).choices is not None:
-            says = f"{level.of(spot)} has an `enum`; take it out, or write a `table` rule of its values"
-            level.tell_rule("RangeLost", says, rule)
-    for side, blank in enumerate(BLANKS) if rule.kind == "table" else ():
-        if rule.value[blank] is not None:
-            try_value(level, rule, side, rule.value[blank], f"`{blank}`", "give a value that it takes, or null")
-    if rule.kind == "scale":
-        one, two = map(level.node, rule.spots)
-        if one.kind == two.kind == "integer":
-            try_bounds(level, rule, one, two)
-
-
-# ---- levels
-
-def try_level(level):
-    whole = [rule for rule in level.rules if all(map(level.node, rule.spots))]
-    for rule in level.rules:
-        twice(level, rule)
-    for rule in level.rules:
-        absent(level, rule)
-    unpaired(level, SPOKE)
-    unpaired(level, HUB)
-    for rule in whole:
-        rule_schemas(level, rule)
-    free_schemas(level)
-    for rule in whole:
-        rule_defaults(level, rule)
-    for rule in whole:
-        rule_required(level, rule)
-    lost(level, SPOKE)
-    lost(level, HUB)
-    for rule in whole:
-        rule_ranges(level, rule)
-
-
-def levels_inside(level):
-    """The levels inside the `object` rules whose names have two objects with properties."""
-    for rule in level.rules:
-        nodes = [level.node(spot) for spot in rule.spots]
-        if rule.kind == "object" and all(nodes) and not any(node.unclosed() for node in nodes):
-            paths = [f"{path}{spot.name}." for path, spot in zip(level.paths, rule.spots)]
-            place = f"{level.place}[{rule.place}].object.rules"
-            yield Level(level.faults, level.versions, paths, nodes, place, rule.value["rules"])
-
-
-def fit_faults(root):
-    """All faults of a spoke's rules, whose first level this is, for its schema and the hub's."""
-    faults, is_open = root.faults, False
-    for version, schema in zip(root.versions, root.schemas):
-        if schema.unclosed():
-            why = "its root has to be an object with `properties` and without these"
-            faults.tell("", "SchemaDiffers", f"the schema of {version} {schema.unclosed()}; {why}")
-            is_open = True
-        elif schema.has_default:
-            faults.tell("", "UnpairedDefault", f"the schema of {version} has a default at its root; take it out")
-    levels = [] if is_open else [root]
-    while levels:
-        level = levels.pop()
-        try_level(level)
-        levels += reversed(list(levels_inside(level)))
+def fit_told(case: Case) -> Told:
+    """What is told of rules that don't fit."""
+    level, place = case.level, case.rules.of(case.rule if case.rule else case.level.rules)
+    start = f"{place}{f' ({kind_of(case.rule)})' if case.rule else ''}, {level.versions[SPOKE]} to {level.versions[HUB]}: "
+    if case.fault.word == "NameTwice":
+        named = [it for it in level.rules or [] if any(level.paths[side] + name == case.fault.path for side, name in names_of(it))]
+        out = min(named, key=lambda it: len(names_of(it)))
+        says = f"`{case.fault.path}` is named twice, by {' and '.join(map(case.rules.of, named))}; keep one of them"
+        return Told(case.fault, start + says, [case.rules.swap(level.rules or [], out, [])], [])
+    way = next((it for make in WAYS[case.fault.word] for it in make(case)), Way("no mend is known", []))
+    return Told(case.fault, f"{start}{why(case)}; {way.says}", way.mends, way.others)
