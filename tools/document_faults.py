@@ -8,21 +8,20 @@ from __future__ import annotations
 import re
 from typing import Any, Dict, Iterator, List, NamedTuple, Tuple
 
-from fault_texts import Document, Edit, at, edits, list_at, nearest, shown, text_at
-from program_asks import Fault, Program
+from fault_texts import Document, Edit, at, list_at, nearest, shown, text_at
+from program_asks import API, Fault, Program, definition
+from schemas import MIXED, OPEN
 
 TYPES = ("object", "array", "string", "integer", "boolean")
-MIXED, OPEN = "x-kubernetes-int-or-string", "x-kubernetes-preserve-unknown-fields"
 KNOWN_TYPES = f"object, array, string, integer or boolean, or else `{MIXED}` or `{OPEN}` is true"
 ORDER = [{"type": "integer"}, {"type": "string"}]
 LABEL = "small letters, digits and `-`, at most 63"
 KIND = "letters and digits, of which the first is a letter, at most 63"
-API = {"apiVersion": "apiextensions.k8s.io/v1", "kind": "CustomResourceDefinition"}
+AN_OBJECT = ("an object", None)
 # What has to stand under each name of a definition: in words, where it isn't this very value, and a value that may stand there.
 WANTED: Dict[str, Tuple[str, Any]] = {
-    **{name: ("", it) for name, it in API.items()},
-    "metadata": ("an object", None), "metadata.name": ("the plural, a point and the group", None), "spec": ("an object", None),
-    "spec.group": ("small letters, digits, `-` and points, as example.com", "example.com"), "spec.names": ("an object", None),
+    **{name: ("", it) for name, it in API.items()}, "metadata": AN_OBJECT, "metadata.name": ("the plural, a point and the group", None),
+    "spec": AN_OBJECT, "spec.group": ("small letters, digits, `-` and points, as example.com", "example.com"), "spec.names": AN_OBJECT,
     "spec.names.kind": (KIND, "Kind"), "spec.names.listKind": (KIND, "KindList"), "spec.names.plural": (LABEL, "plurals"),
     "spec.preserveUnknownFields": ("", False), "spec.scope": ("", "Namespaced"), "spec.versions": ("a list of versions", None),
     "spec.versions[].deprecated": ("", False), "spec.versions[].name": (LABEL, "v1"),
@@ -75,9 +74,6 @@ def nodes(node: Any, path: str) -> Iterator[Tuple[str, Dict[str, Any]]]:
             yield from nodes(it, path + step)
 
 
-# ---- all but schemas
-
-
 def of_versions(crd: Document) -> Tuple[str, List[Edit]]:
     """What is said of the list of versions."""
     versions = list_at(crd.value, "spec", "versions")
@@ -96,13 +92,11 @@ def of_versions(crd: Document) -> Tuple[str, List[Edit]]:
 
 def near(value: Any, words: str, made_up: Any) -> Any:
     """What may stand in the place of a value: one that is near to it, or else one that is made up."""
-    if not isinstance(value, str):
-        return made_up
+    if not isinstance(value, str) or not words or not isinstance(made_up, str):
+        return {"true": True, "false": False}.get(value, made_up) if isinstance(value, str) and isinstance(made_up, bool) else made_up
     if words == KIND:
         return re.sub(r"^\d+|[^A-Za-z0-9]", "", value) or made_up
-    if isinstance(made_up, str) and words:
-        return re.sub(r"[^a-z0-9-]" if words == LABEL else r"[^a-z0-9.-]", "-", value.lower()).strip("-.") or made_up
-    return {"true": True, "false": False}.get(value, made_up) if isinstance(made_up, bool) else made_up
+    return re.sub(r"[^a-z0-9-]" if words == LABEL else r"[^a-z0-9.-]", "-", value.lower()).strip("-.") or made_up
 
 
 def of_name(crd: Document, path: str, word: str) -> Tuple[str, List[Edit]]:
@@ -110,19 +104,19 @@ def of_name(crd: Document, path: str, word: str) -> Tuple[str, List[Edit]]:
     holder, name = spot(crd.value, path)
     pattern = re.sub(r"\[\d+\]", "[]", path)
     if word == "Unknown":
-        around = pattern.rpartition(".")[0]
-        lacking = [it.rpartition(".")[2] for it in WANTED if it.rpartition(".")[0] == around]
-        found = nearest(name, [it for it in lacking if it not in holder])
-        says = f"`{name}` isn't taken here; " + (f"`{found}` is meant" if found else "leave it out, as tools/prepare_crd.py does")
-        return says, [crd.rename(holder, name, found) if found else crd.drop(holder, name)]
+        found = nearest(name, [it.rpartition(".")[2] for it in WANTED if it.rpartition(".")[0] == pattern.rpartition(".")[0]])
+        if found and found not in holder:
+            return f"`{name}` isn't taken here; `{found}` is meant", [crd.rename(holder, name, found)]
+        return f"`{name}` isn't taken here; leave it out, as tools/prepare_crd.py does", [crd.drop(holder, name)]
     if path == "spec.versions" and isinstance(holder.get(name), list):
         return of_versions(crd)
-    words, value = WANTED.get(pattern, ("an object", None))
+    words, value = WANTED.get(pattern, AN_OBJECT)
     whole = f"{text_at(crd.value, 'spec', 'names', 'plural')}.{text_at(crd.value, 'spec', 'group')}"
     there = isinstance(holder, dict) and name in holder
     value = {"metadata": {"name": whole}, "metadata.name": whole}.get(path) or near(holder[name] if there else None, words, value)
     has = f"it is {shown(holder[name])}" if there else "it isn't there"
-    return f"`{name or 'a definition'}` has to be {words or shown(value)}; {has}", [crd.put(holder, name, value)] if value is not None else []
+    mends = [crd.put(holder, name, value)] if value is not None and isinstance(holder, dict) else []
+    return f"`{name or 'a definition'}` has to be {words or shown(value)}; {has}", mends
 
 
 # ---- schemas
@@ -130,22 +124,21 @@ def of_name(crd: Document, path: str, word: str) -> Tuple[str, List[Edit]]:
 
 def why_not(program: Program, node: Dict[str, Any], value: Any) -> str:
     """Why a schema doesn't take a value, as the program says of an object with that field."""
-    plain = {name: it for name, it in node.items() if name != "default"}
-    crd, rules = program.definition({name: {"type": "object", "properties": {"f": plain}} for name in ("v1", "v2")}), {"hub": "v1", "spokes": {}}
+    schema = {"type": "object", "properties": {"f": {name: it for name, it in node.items() if name != "default"}}}
+    crd, rules = definition({"v1": schema, "v2": schema}), {"hub": "v1", "spokes": {}}
     if program.first(crd, rules):
         return ""
     into, refused = program.convert(crd, rules, {"apiVersion": "a/v1", "kind": "A", "metadata": {"name": "a"}, "f": value}, "v1")
-    if refused:
-        return re.sub(r"^f\b[.: ]*", "", refused)
-    return "" if at(into, "f") == value else "a name of it isn't in the schema, or one inside has a default that it lacks"
+    lacks = "" if at(into, "f") == value else "a name of it isn't in the schema, or one inside has a default that it lacks"
+    return re.sub(r"^f\b[.: ]*", "", refused) or lacks
 
 
 def twin(crd: Document, path: str, name: str) -> Any:
-    """What the node of the same path has in another version, where that is one of the known forms."""
+    """What the node of the same path has in another version."""
     for i in range(len(list_at(crd.value, "spec", "versions"))):
         holder, step = spot(crd.value, re.sub(r"^spec\.versions\[\d+\]", f"spec.versions[{i}]", path))
         found = at(holder, step, name) if isinstance(step, str) else None
-        if found is not None and (name != "type" or found in TYPES) and not isinstance(found, (bool, int)):
+        if isinstance(found, (dict, list)) and name != "type" or name == "type" and found in TYPES:
             return found
     return None
 
@@ -156,9 +149,7 @@ def fixed(name: str, value: Any) -> Any:
         return int(value)
     if name == "required" and isinstance(value, list):
         return sorted({it for it in value if isinstance(it, str)})
-    if name == "additionalProperties" and value is True:
-        return {OPEN: True}
-    return {"true": True, "false": False}.get(value) if isinstance(value, str) else None
+    return {OPEN: True} if name == "additionalProperties" and value is True else near(value, "", None) if isinstance(value, str) else None
 
 
 def of_keyword(crd: Document, program: Program, path: str, node: Dict[str, Any], name: str) -> Tuple[str, List[Edit]]:
@@ -168,17 +159,17 @@ def of_keyword(crd: Document, program: Program, path: str, node: Dict[str, Any],
         told = "properties" in node and "object" or "items" in node and "array" or twin(crd, path, "type") or "string"
         value = "object" if is_root else "integer" if has == "number" else isinstance(has, str) and nearest(has, TYPES) or told
         note = "; numbers with a fraction can't be kept, so make it an integer or a string" if has == "number" else ""
-        at_root = "at the root object, else " * is_root
-        return f"`type` has to be {at_root}{KNOWN_TYPES}; it is {shown(has) if has else 'not there'}{note}", [crd.put(node, "type", value)]
+        says = f"`type` has to be {'at the root object, else ' * is_root}{KNOWN_TYPES}; it is {shown(has) if has else 'not there'}{note}"
+        return says, [crd.put(node, "type", value)]
     if name not in KEYWORDS:
-        slip = next((it for it in KEYWORDS if edits(name, it) < 3 and it[:3] == name[:3] and it not in node), "")
+        slip = nearest(name, [it for it in KEYWORDS if it not in node], 0.8)
         says = f"`{slip}` is meant" if slip else "leave it out, as tools/prepare_crd.py does: then nothing checks it"
         return f"the keyword `{name}` isn't taken; {says}", [crd.rename(node, name, slip) if slip else crd.drop(node, name)]
     if name == "default" and not is_root:
         why = why_not(program, node, node[name])
         return f"the schema doesn't take its default {shown(node[name])}{f': {why}' if why else ''}", [crd.drop(node, name)]
-    if name in ("additionalProperties", "default") and (is_root or "properties" in node):
-        return f"`{name}` can't stand at a root, nor `additionalProperties` beside `properties`; take it out", [crd.drop(node, name)]
+    if name == "default" or name == "additionalProperties" and (is_root or "properties" in node):
+        return f"`{name}` can't stand {'at the root of a schema' if is_root else 'beside `properties`'}; take it out", [crd.drop(node, name)]
     wanted, kind = KEYWORDS[name]
     value = fixed(name, node.get(name)) if kind in ("", has) else None
     value = ORDER if name == "anyOf" and node.get(MIXED) is True else twin(crd, path, name) if value is None and kind == has else value
@@ -187,22 +178,18 @@ def of_keyword(crd: Document, program: Program, path: str, node: Dict[str, Any],
     return says, [crd.drop(node, name) if value is None or value == node.get(name) else crd.put(node, name, value)]
 
 
-def of_schemas(crd: Document, program: Program, fault: Fault) -> Iterator[Told]:
-    """What is told of a keyword that isn't taken, at each node that has it."""
-    for i, version in enumerate(list_at(crd.value, "spec", "versions")):
-        for path, node in nodes(at(version, "schema", "openAPIV3Schema"), f"spec.versions[{i}].schema.openAPIV3Schema"):
-            if path == fault.path or fault.word not in KEYWORDS and fault.word in node:
-                says, mends = of_keyword(crd, program, path, node, fault.word)
-                yield Told(Fault("crd", path, fault.word), f"{text_at(version, 'name')}: {says}", mends, [])
-
-
 def definition_told(crd: Document, program: Program, fault: Fault) -> List[Told]:
-    """What is told of a fault of a definition, and of those that are the same."""
+    """What is told of a fault of a definition; of a keyword that isn't taken, at each node that has it."""
     if fault.word in ("Shape", "Unknown"):
         return [Told(fault, *of_name(crd, fault.path, fault.word), [])]
     if fault.word == "Limit":
         says = f"a version's schema has too many nodes, or this one stands too deep; put `{OPEN}`: true in place of a part further out"
         return [Told(fault, says, [], [])]
+    told = []
+    for i, version in enumerate(list_at(crd.value, "spec", "versions")):
+        for path, node in nodes(at(version, "schema", "openAPIV3Schema"), f"spec.versions[{i}].schema.openAPIV3Schema"):
+            if path == fault.path or fault.word not in KEYWORDS and fault.word in node:
+                says, mends = of_keyword(crd, program, path, node, fault.word)
+                told.append(Told(Fault("crd", path, fault.word), f"{text_at(version, 'name')}: {says}", mends, []))
     holder, step = spot(crd.value, fault.path)
-    mends = [crd.put(holder, step, {OPEN: True})] if isinstance(holder, dict) else []
-    return list(of_schemas(crd, program, fault)) or [Told(fault, "a schema has to be an object", mends, [])]
+    return told or [Told(fault, "a schema has to be an object", [crd.put(holder, step, {OPEN: True})] if isinstance(holder, dict) else [], [])]

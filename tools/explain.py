@@ -17,10 +17,9 @@ import sys
 from typing import Any, List, Sequence, Tuple
 
 from document_faults import Told
-from fault_texts import at
+from fault_texts import at, read
 from field_rows import rows
 from find_faults import Search
-from json_texts import read, said
 from object_report import report
 from program_asks import FAULTY, UNREADABLE, Failed, Fault, Program
 
@@ -44,7 +43,7 @@ def all_faults(program: Program, texts: List[str], names: Sequence[str]) -> List
     """All faults of two texts: what of them is no JSON, or is passed over, and what is refused of the documents."""
     first = program.first(*(it.encode() for it in texts))
     (crd, of_crd), (rules, of_rules) = map(read, texts)
-    told = [Told(Fault(file, it.path if it.word == "Duplicate" else "", it.word), said(it, name), [], [])
+    told = [Told(Fault(file, it.path if it.word == "Duplicate" else "", it.word), it.said(name), [], [])
             for file, name, marks in (("crd", names[0], of_crd), ("rules", names[1], of_rules)) for it in marks]  # fmt: skip
     if first and swapped(crd, rules, names):
         return [Told(first, swapped(crd, rules, names), [], [])]

@@ -1,17 +1,35 @@
-"""What the texts of faults are made of: values as they are shown, the nearest name, paths, and a document with the place of each of its
-parts. It is no command: tools/find_faults.py tells faults by it.
+"""What the texts of faults are made of: texts of JSON with lines and columns, values as they are shown, and a document that is mended with
+the place of each of its parts. It is no command: tools/explain.py tells faults by it.
 """
 from __future__ import annotations
 
+import copy
+import difflib
 import json
-from typing import Any, Callable, Dict, Iterable, List, NamedTuple, Tuple
+import re
+from typing import Any, Callable, Dict, Iterable, Iterator, List, NamedTuple, Tuple
 
 SHOWN_BYTES = 80
-MOST_BYTES = 128
+TOKEN = re.compile(r'"(?:[^"\\]|\\.)*"|[\[\]{}:,]|[^\s\[\]{}:,"]+', re.DOTALL)
+YAML = "YAML is turned into JSON by tools/yaml2json.py"
+# What is said of a text that stops being JSON: by what stands before and behind.
+HINTS = (
+    (r",\s*\Z", r"[\]}]", "a comma stands behind the last one; take it out"),
+    (r"", r"//|/\*|#", "JSON has no comments"),
+    (r"", r"'", "texts stand in double quotes"),
+    (r"", r"\Z", "the text ends too early; a `}` or a `]` is missing"),
+    (r'["\]}\w]\s*\Z', r'["{\[]', "a comma or a colon is missing before it"),
+    (r"(\A|[{,])\s*\Z", r"\w", f"names stand in double quotes; {YAML}"),
+)
 
 
 def compact(value: Any) -> str:
     return json.dumps(value, sort_keys=True, separators=(",", ":"), ensure_ascii=False)
+
+
+def alike(a: Any, b: Any) -> bool:
+    """Whether two values are the same; Python takes true for 1."""
+    return compact(a) == compact(b)
 
 
 def pasted(value: Any) -> str:
@@ -29,31 +47,9 @@ def inside(path: str, name: str) -> str:
     return f"{path}.{name}" if path else name
 
 
-def edits(one: str, two: str) -> int:
-    """How many characters have to be put in, taken out or changed to make the one text the other."""
-    before = list(range(len(two) + 1))
-    for i, a in enumerate(one):
-        row = [i + 1]
-        for j, b in enumerate(two):
-            row.append(min(before[j] + (a != b), before[j + 1] + 1, row[j] + 1))
-        before = row
-    return before[-1]
-
-
-def nearest(sought: str, names: Iterable[str]) -> str:
-    """The first name with the fewest edits, where they are few enough to be a slip, or nothing."""
-    least, found = len(sought.encode("utf-8", "replace")) // 2 + 2, ""
-    for name in names if len(sought) <= MOST_BYTES else ():
-        now = edits(sought, name) if len(name) <= MOST_BYTES else least
-        if now < least:
-            least, found = now, name
-    return found
-
-
-def meant(sought: str, names: Iterable[str]) -> str:
-    """The question whether another name is meant."""
-    found = nearest(sought, names)
-    return f" (is `{found}` meant?)" if found else ""
+def nearest(sought: str, names: Iterable[str], least: float = 0.6) -> str:
+    """The name that is most like the sought one, where it is much like it, or nothing."""
+    return next(iter(difflib.get_close_matches(sought, list(names), 1, least)), "")
 
 
 def at(value: Any, *names: str) -> Any:
@@ -77,9 +73,87 @@ def is_whole(value: Any) -> bool:
     return isinstance(value, int) and not isinstance(value, bool)
 
 
-def alike(a: Any, b: Any) -> bool:
-    """Whether two values are the same; Python takes true for 1."""
-    return compact(a) == compact(b)
+# ---- texts of JSON
+
+
+class Mark(NamedTuple):
+    """What is told of a place in a text."""
+
+    path: str
+    word: str
+    where: str
+    says: str
+
+    def said(self, file: str) -> str:
+        """As it is told of a file; a place in what was YAML is none of its author's."""
+        return self.says if file.endswith((".yaml", ".yml")) or not self.where else f"{self.where}: {self.says}"
+
+
+def whole(text: str) -> int:
+    """A number that is taken for one that is written."""
+    try:
+        return max(-(2**63), min(2**63 - 1, int(text) if text.lstrip("-").isdigit() else int(float(text))))
+    except (OverflowError, ValueError):
+        return 0
+
+
+def line_at(text: str, start: int) -> str:
+    return f"line {text.count(chr(10), 0, start) + 1}, column {start - text.rfind(chr(10), 0, start)}"
+
+
+def tokens(text: str) -> Iterator[Tuple[str, str, int, bool]]:
+    """Each name and each plain value of a text that is JSON: its path, itself, where it begins, and whether it is a name."""
+    ways: List[List[Any]] = []  # of each object or list around: its path, the number of its item, or else whether a name is next
+    path = ""
+    for found in TOKEN.finditer(text):
+        token = found.group()
+        if token in ("{", "["):
+            ways.append([path, 0 if token == "[" else None, token == "{"])
+            path = path if token == "{" else f"{path}[0]"
+        elif token in ("}", "]"):
+            path = ways.pop()[0]
+        elif token == ",":
+            around, item, _ = ways[-1]
+            ways[-1] = [around, item, True] if item is None else [around, item + 1, False]
+            path = around if item is None else f"{around}[{item + 1}]"
+        elif token != ":":
+            is_name = bool(ways) and ways[-1][2]
+            if is_name:
+                path, ways[-1][2] = inside(ways[-1][0], json.loads(token)), False
+            yield path, token, found.start(), is_name
+
+
+def marks(text: str) -> Iterator[Mark]:
+    """Each name that stands twice in an object, and each number that isn't whole."""
+    seen: Dict[str, int] = {}
+    for path, token, start, is_name in tokens(text):
+        if is_name and path in seen:
+            says = f"the name {token} stands in this object already, at {line_at(text, seen[path])}; the last one counts alone. Keep one of them"
+            yield Mark(path, "Duplicate", line_at(text, start), says)
+            seen = {it: at for it, at in seen.items() if not it.startswith((f"{path}.", f"{path}["))}
+        elif is_name:
+            seen[path] = start
+        elif token[0] in "-0123456789" and token != str(whole(token)):
+            says = f"the number {token} at `{path}` has a fraction or an exponent, or is beyond 64 bits; write it as a whole number, or as a text"
+            yield Mark(path, "NotWhole", line_at(text, start), says)
+
+
+def read(text: str) -> Tuple[Any, List[Mark]]:
+    """A text as a document, whose numbers are all whole, and what is told of it; the document is nothing where the text is no JSON."""
+    def no_number(name: str) -> None:
+        raise json.JSONDecodeError(f"{name} is no JSON", text, text.find(name))
+
+    try:
+        return json.loads(text, parse_int=whole, parse_float=whole, parse_constant=no_number), list(marks(text))
+    except json.JSONDecodeError as fault:
+        before, behind = text[: fault.pos], text[fault.pos :].lstrip()
+        hint = next((says for one, two, says in HINTS if re.search(one, before) and re.match(two, behind)), fault.msg)
+        return None, [Mark("", "NotJson", line_at(text, len(text) - len(behind)), f"the text stops being JSON there: {hint}")]
+    except RecursionError:
+        return None, [Mark("", "TooDeep", "", "lists and objects stand too deep inside each other; at most 100 levels are taken")]
+
+
+# ---- documents that are mended
 
 
 class Edit(NamedTuple):
@@ -99,61 +173,44 @@ class Document:
         self.kept: List[Any] = []  # so that no other part gets the identity of one that was taken out
         self.place(value, "")
 
-    def place(self, value: Any, path: str) -> None:
+    def place(self, value: Any, path: str) -> Any:
         """Takes the path for the place of a value, and of what is inside it."""
-        self.places[id(value)] = path
-        self.kept.append(value)
-        parts: Iterable[Tuple[Any, str]] = ()
-        if isinstance(value, dict):
-            parts = [(it, inside(path, name)) for name, it in value.items()]
-        elif isinstance(value, list):
-            parts = [(it, f"{path}[{i}]") for i, it in enumerate(value)]
-        for it, where in parts:
-            if isinstance(it, (dict, list)):
-                self.place(it, where)
+        if isinstance(value, (dict, list)):
+            self.places[id(value)] = path
+            self.kept.append(value)
+        for name, it in value.items() if isinstance(value, dict) else ():
+            self.place(it, inside(path, name))
+        for i, it in enumerate(value) if isinstance(value, list) else ():
+            self.place(it, f"{path}[{i}]")
+        return value
 
     def of(self, value: Any) -> str:
         return self.places.get(id(value), "what was added")
 
     def put(self, node: Dict[str, Any], name: str, value: Any) -> Edit:
         """The value under a name of an object."""
-        where = self.of(node)
+        where, value = self.of(node), copy.deepcopy(value)
         text = f"in place of {inside(where, name)}: {pasted(value)}"
         if name not in node:
             text = f"add{f' to {where}' if where else ''}: {pasted(name)}: {pasted(value)}"
-
-        def do() -> None:
-            node[name] = value
-            self.place(value, inside(where, name))
-
-        return Edit(self.file, text, do)
+        return Edit(self.file, text, lambda: node.update({name: self.place(value, inside(where, name))}))
 
     def drop(self, node: Dict[str, Any], name: str) -> Edit:
-        return Edit(self.file, f"take out {inside(self.of(node), name)}", lambda: node.pop(name))
+        return Edit(self.file, f"take out {inside(self.of(node), name)}", lambda: node.pop(name, None))
 
     def rename(self, node: Dict[str, Any], name: str, to: str) -> Edit:
-        """Another name for what stands under one."""
-        where = self.of(node)
-
-        def do() -> None:
-            node[to] = node.pop(name)
-            self.place(node[to], inside(where, to))
-
-        return Edit(self.file, f"rename {inside(where, name)} to {to}", do)
+        where = inside(self.of(node), name)
+        return Edit(self.file, f"rename {where} to {to}", lambda: node.update({to: self.place(node.pop(name), inside(self.of(node), to))}))
 
     def add(self, items: List[Any], new: List[Any]) -> Edit:
-        """New items of a list."""
         return Edit(self.file, f"add to {self.of(items)}: {', '.join(map(pasted, new))}", lambda: items.extend(new))
 
     def swap(self, items: List[Any], item: Any, new: List[Any]) -> Edit:
         """Items in the place of one of a list."""
         i = next(i for i, it in enumerate(items) if it is item)
         where = self.places.get(id(item)) or f"{self.of(items)}[{i}]"
-        text = f"in place of {where}: {', '.join(map(pasted, new))}" if new else f"take out {where}"
 
         def do() -> None:
-            items[i : i + 1] = new
-            for it in new if len(new) == 1 else ():
-                self.place(it, where)
+            items[i : i + 1] = [self.place(it, where) if len(new) == 1 else it for it in new]
 
-        return Edit(self.file, text, do)
+        return Edit(self.file, f"in place of {where}: {', '.join(map(pasted, new))}" if new else f"take out {where}", do)

@@ -7,7 +7,7 @@ from typing import Any, Dict, Iterator, List
 
 from fault_texts import alike, at, shown
 from program_asks import Program
-from rule_levels import HUB, ONLY, SIDES, SPOKE, Level, Rule, free_rules, kind_of, levels, names_of, root_level
+from schemas import HUB, ONLY, SIDES, SPOKE, Level, Rule, kind_of, levels, names_of, root_level
 
 PATH_WIDTH, RULE_WIDTH = 32, 12
 
@@ -41,10 +41,6 @@ def kept(rule: Rule, spoke: str, hub: str) -> str:
     return f"{one}, one of {hub} at {spoke} as {ours} and kept there"
 
 
-def steps(level: Level, side: int) -> List[str]:
-    return [*steps(level.around, side), level.names[side]] if level.around else []
-
-
 def unrequired(value: Any) -> Any:
     """A definition in which no field of an object is required."""
     if isinstance(value, list):
@@ -60,14 +56,14 @@ def filled(program: Program, crd: Any, rules: Any, root: Level, side: int) -> An
     body: Dict[str, Any] = {"apiVersion": f"{spec['group']}/{root.versions[side]}", "kind": spec["names"]["kind"], "metadata": {"name": "a"}}
     for level in levels(root):
         node = body
-        for step in steps(level, side):
+        for step in level.steps[side]:
             node = node.setdefault(step, {})
     return program.convert(unrequired(crd), rules, body, root.versions[HUB])[0]
 
 
 def where_absent(level: Level, rule: Rule, bodies: List[Any]) -> str:
     """What the hub's field is set to in an object that lacks it."""
-    own, of_spoke = ([at(bodies[side], *steps(level, HUB), name) for where, name in names_of(rule) if where == HUB] for side in (HUB, SPOKE))
+    own, of_spoke = ([at(bodies[side], *level.steps[HUB], name) for where, name in names_of(rule) if where == HUB] for side in (HUB, SPOKE))
     if kind_of(rule) == "object" or own == of_spoke == [None] * len(own):
         return ""
     says = f"; where it isn't there, {level.versions[HUB]} gets {shown(own[0])}"
@@ -92,7 +88,7 @@ def spoke_rows(program: Program, crd: Any, rules: Any, root: Level) -> Iterator[
     for level in levels(root):
         own = sorted(level.rules or [], key=lambda it: kind_of(it) == "object")
         objects = [it for it in own if kind_of(it) == "object"]
-        for rule in own[: len(own) - len(objects)] + free_rules(level) + objects:
+        for rule in own[: len(own) - len(objects)] + [{"same": [it, it]} for it in level.equal()] + objects:
             yield rule_row(level, rule, bodies)
 
 

@@ -5,25 +5,104 @@ definition, then the form of the rules, then each spoke by itself, and last all 
 """
 from __future__ import annotations
 
-from typing import Any, Dict, Iterator, List, Optional, Tuple
+import re
+from typing import Any, Dict, List, Optional, Tuple
 
-from document_faults import Told, definition_told
-from fault_texts import Document, Edit, compact, shown
-from fit_faults import Case, fit_told
+from document_faults import Told, definition_told, spot
+from fault_texts import Document, at, is_whole, list_at, nearest, shown, text_at
+from fit_faults import KEPT, UNITS, Case, elsewhere, fit_told
 from program_asks import Fault, Program
-from rule_faults import rules_told
-from rule_levels import HUB, SPOKE, Level, draft, kind_of, levels, names_of, refused, root_level
+from schemas import HUB, ONLY, SIDES, SPOKE, Level, Rule, draft, fits, kept, kind_of, levels, names_of, root_level
 
-MOST_TOLD = 500
+MOST_TOLD, MOST_TIMES = 500, 3
 PLAIN = ("same", "scale")
+FORM = '{"hub": VERSION, "spokes": {VERSION: [RULE, ..]}}'
+TWO = '["SPOKE", "HUB"]'
+# What each rule takes, and the names of its parts.
+TAKES = {
+    "same": (TWO,), "spokeOnly": ('"NAME"',), "hubOnly": ('"NAME"',), "object": (f'{{"names": {TWO}, "rules": [RULE, ..]}}', "names", "rules"),
+    "split": ('{"spoke": "NAME", "hub": ["FIRST", "SECOND"]}, and cuts at the last colon, nowhere else', "spoke", "hub"),
+    "table": (f'{{"names": {TWO}, "pairs": [[SPOKE, HUB], ..], "spokeBlank": VALUE, "hubBlank": VALUE}}, of texts, whole numbers, true and false',
+              "names", "pairs", "spokeBlank", "hubBlank"),
+    "scale": (f'{{"names": {TWO}, "by": NUMBER}}, of a number from 2 to 1000000000', "names", "by"),
+}  # fmt: skip
+RULE = re.compile(r"spokes\.(.+?)(?:\[\d+\]\.object\.rules)*\[\d+\]")
+MOST = "a spoke has at most 64 rules, those inside others among them, and `object` rules stand at most eight deep; equal names need no rule"
 
 
-def of_spoke(crd: Any, rules: Any, spoke: str) -> Tuple[Any, Any]:
-    """A definition of a spoke and the hub alone, and its rules."""
-    hub = rules["hub"]
-    versions = [{**v, "served": True, "storage": v["name"] == hub} for v in crd["spec"]["versions"] if v["name"] in (spoke, hub)]
-    lists = {name: it for name, it in rules["spokes"].items() if name == spoke}
-    return {**crd, "spec": {**crd["spec"], "versions": versions}}, {"hub": hub, "spokes": lists}
+def texts(v: Any) -> List[str]:
+    """All texts in a value, in their order."""
+    if isinstance(v, str):
+        return [v]
+    return [it for part in (v.values() if isinstance(v, dict) else v if isinstance(v, list) else ()) for it in texts(part)]
+
+
+def repaired(level: Optional[Level], kind: str, v: Any) -> List[List[Rule]]:
+    """What a rule that isn't of its form may be meant as, the likely ones first. A part of another name stands for one that is lacking."""
+    names = texts(v)
+    if kind in ONLY:
+        return [[{kind: it} for it in names]]
+    if kind == "same":
+        free = level.free(HUB) if level else []
+        return [[{kind: names * (3 - len(names))}]] * (0 < len(names) < 3) + [[{kind: [*names, it]}] for it in free if len(names) == 1]
+    given, wanted = v if isinstance(v, dict) else {"names": v}, TAKES[kind][1:]
+    parts = {name: given[name] for name in wanted if name in given}
+    for name in [it for it in given if it not in parts]:
+        lacking = [it for it in wanted if it not in parts]
+        parts.update({nearest(name, lacking) or lacking[0]: given[name]} if nearest(name, lacking) or len(lacking) == 1 else {})
+    if kind == "split":
+        is_plain = isinstance(parts.get("spoke"), str) and set(given) <= set(parts)
+        return [[{kind: {**parts, "hub": texts(parts.get("hub"))}}]] if is_plain else []
+    names = texts(parts.get("names"))[:2]
+    parts["names"] = names * (2 if len(names) == 1 else 1)
+    if kind == "scale":
+        by = [int(it) for it in [parts.get("by")] if is_whole(it) or (isinstance(it, str) and it.isdigit())]
+        return [[{kind: {**parts, "by": it}}] for it in [*by, *UNITS] if it > 1] + [[{"same": parts["names"]}]]
+    if kind == "object":
+        inner = parts.get("rules", [])
+        return [[{kind: {**parts, "rules": inner if isinstance(inner, list) else [inner]}}]]
+    pairs = parts.get("pairs")
+    items = [list(it) for it in pairs.items()] if isinstance(pairs, dict) else list_at(parts, "pairs")
+    items = [it for it in items if isinstance(it, list) and len(it) == 2 and not any(isinstance(x, (list, dict)) or x is None for x in it)]
+    return [[{kind: {"spokeBlank": None, "hubBlank": None, **parts, "pairs": items}}]]
+
+
+def meant(level: Optional[Level], rule: Any) -> Tuple[str, List[List[Rule]]]:
+    """What is said of what is no rule, and what it may be meant as."""
+    kind, known = kind_of(rule), f"the rules are {', '.join(TAKES)}"
+    v = rule[kind] if kind else None
+    if kind in TAKES:
+        return f"`{kind}` takes {TAKES[kind][0]}; this is {shown(v)}", repaired(level, kind, v)
+    if not kind:
+        several = rule.items() if isinstance(rule, dict) else []
+        both = [it for name, part in several if name in TAKES for found in repaired(level, name, part)[:1] for it in found]
+        return f"a rule has to be an object with one name, and {known}; this is {shown(rule)}", [both]
+    if level and any(level.node(side, kind) for side in SIDES):
+        inner = [it for it in (v if isinstance(v, list) else [v]) if kind_of(it) in TAKES]
+        says = f"`{kind}` is a field, and no rule; rules for what is inside of it stand in an `object` rule"
+        return says, [[{"object": {"names": [kind, kind], "rules": inner}}]]
+    near = next((it for it in TAKES if it.lower() == nearest(kind.lower(), [it.lower() for it in TAKES])), "")
+    return f"there is no rule `{kind}`; " + (f"`{near}` is meant" if near else known), repaired(level, near, v) if near else []
+
+
+def rule_told(case: Case, items: List[Any], rule: Any, rest: str) -> Told:
+    """What is told of a rule in a list that isn't of its form."""
+    level = next((it for it in levels(case.root) if it.rules is items), None)
+    says, tries = meant(level, rule) if rest or kind_of(rule) not in TAKES else (MOST, [])
+    place = case.rules.of(rule) if isinstance(rule, dict) else case.rules.of(items)
+    names = [(side, it) for it in texts(rule) for side in SIDES]
+    if level and kind_of(rule) == "move" and len(names) == 4:
+        case.level, case.rule, case.kind, case.spots = level, rule, "move", list(zip(SIDES, texts(rule)))
+        for way in elsewhere(case):
+            return Told(case.fault, f"{place}: {says}: {way.says}", way.mends, [])
+    if level:
+        ruled = [it for other in items if other is not rule for it in names_of(other)]
+        tries = [*tries, kept(level, [it for it in dict.fromkeys(names) if it not in ruled])]
+    new = next((it for it in tries if it and (not level or fits(case.program, level, it))), [])
+    if level and new is tries[-1] and len(new) > 1:
+        two = f", or make {level.versions[SPOKE]} the hub, where the two texts stand" * (len(texts(at(rule, "split", "spoke"))) == 2)
+        says += f"; else {KEPT}{two}"
+    return Told(case.fault, f"{place}: {says}", [case.rules.swap(items, rule, new)], [])
 
 
 class Search:
@@ -35,82 +114,100 @@ class Search:
 
     def tell(self, *told: Told) -> bool:
         """Tells faults and mends them, and returns whether there is more to look for."""
-        for it in told:
-            self.told.append(it)
-            for edit in it.mends:
-                edit.do()
-        return bool(told) and all(it.mends for it in told) and len(self.told) < MOST_TOLD
+        self.told += told
+        for edit in [edit for it in told for edit in it.mends]:
+            edit.do()
+        return all(it.mends for it in told) and len(self.told) < MOST_TOLD
 
     def first(self) -> Optional[Fault]:
         return self.program.first(self.crd.value, self.rules.value)
 
-    def forms(self) -> Optional[Fault]:
-        """Tells the faults of both documents by themselves; then what is refused is of both together, or nothing."""
+    def versions(self) -> List[str]:
+        return [text_at(v, "name") for v in list_at(self.crd.value, "spec", "versions")]
+
+    def case(self, name: str, fault: Fault) -> Case:
+        return Case(self.program, self.crd, self.rules, root_level(self.crd.value, self.rules.value, name), fault)
+
+    def of_form(self, fault: Fault) -> Told:
+        """What is told of a fault of a document of rules by itself."""
+        doc, path, names = self.rules.value, fault.path, self.versions()
+        found = RULE.match(path)
+        if found:
+            items, i = spot(doc, found.group())
+            return rule_told(self.case(found.group(1).split("[")[0], fault), items, items[i], path[found.end() :])
+        if path.startswith("spokes."):
+            return self.of_spoke(fault, doc["spokes"], path[len("spokes.") :])
+        near = nearest(text_at(doc, "hub"), names) or next((it for it in names if at(doc, "spokes", it) is None), names[0])
+        other = doc.get(nearest(path, [it for it in doc if it != "hub"])) if isinstance(doc, dict) else None
+        value = {"hub": near, "spokes": other if isinstance(other, dict) else {}}.get(path)
+        has = f"`{path}` is {shown(doc[path])}" if at(doc, path) is not None else f"there is no `{path}`" if path else f"this is {shown(doc)}"
+        edits = [self.rules.put(doc, path, value) if value is not None else self.rules.drop(doc, path)] if path else []
+        return Told(fault, f"rules are {FORM}, of the versions {', '.join(names)}; {has}", edits, [])
+
+    def of_spoke(self, fault: Fault, spokes: Dict[str, Any], name: str) -> Told:
+        """What is told of the name of a spoke, or of what stands there in the place of a list."""
+        doc, names = self.rules.value, self.versions()
+        lacking = [it for it in names if it not in spokes and it != doc["hub"]]
+        if name == doc["hub"]:
+            edit = self.rules.put(doc, "hub", lacking[0]) if len(lacking) == 1 and spokes[name] else self.rules.drop(spokes, name)
+            return Told(fault, f"`{name}` is the hub, which has no rules; each rule stands at the other version", [edit], [])
+        if name not in names:
+            near = nearest(name, lacking)
+            says = f"the definition has no version `{name}`{f'; `{near}` is meant' if near else ''}; its versions are {', '.join(names)}"
+            return Told(fault, says, [self.rules.rename(spokes, name, near) if near else self.rules.drop(spokes, name)], [])
+        items = [spokes[name]] if kind_of(spokes[name]) in TAKES else draft(self.program, root_level(self.crd.value, doc, name))
+        says = f"a spoke has a list of rules, [RULE, ..]; here stands {shown(spokes[name])}"
+        return Told(fault, says, [self.rules.put(spokes, name, items)], [])
+
+    def forms(self) -> bool:
+        """Tells the faults of both documents by themselves, and returns whether there is more to look for."""
         fault = self.first()
         while fault and (fault.file == "crd" or fault.word == "Shape"):
-            of_crd = fault.file == "crd"
-            told = definition_told(self.crd, self.program, fault) if of_crd else [rules_told(self.crd, self.rules, self.program, fault)]
-            if not self.tell(*told):
-                return None
+            if not self.tell(*(definition_told(self.crd, self.program, fault) if fault.file == "crd" else [self.of_form(fault)])):
+                return False
             fault = self.first()
-        return fault
+        return fault is not None
 
     def spoke(self, name: str) -> bool:
-        """Tells the faults of a spoke by itself."""
-        seen: Dict[Fault, int] = {}
+        """Tells the faults of a spoke by itself, and returns whether there is more to look for."""
+        hub, seen = self.rules.value["hub"], []  # type: str, List[Fault]
         while True:
-            fault = self.program.first(*of_spoke(self.crd.value, self.rules.value, name))
+            crd, spokes = self.crd.value, self.rules.value["spokes"]
+            versions = [{**v, "served": True, "storage": v["name"] == hub} for v in crd["spec"]["versions"] if v["name"] in (name, hub)]
+            alone = {**crd, "spec": {**crd["spec"], "versions": versions}}
+            fault = self.program.first(alone, {"hub": hub, "spokes": {name: spokes[name]} if name in spokes else {}})
             if not fault:
                 return True
-            root = root_level(self.crd.value, self.rules.value, name)
-            seen[fault] = seen.get(fault, 0) + 1
-            told = self.no_list(root, fault) if root.rules is None else fit_told(Case(self.program, self.crd, self.rules, root, fault))
-            if seen[fault] > 3 or not self.tell(told):
+            seen.append(fault)
+            told = fit_told(self.case(name, fault)) if name in spokes else self.no_list(name, fault)
+            if seen.count(fault) > MOST_TIMES or not self.tell(told):
                 return False
 
-    def no_list(self, root: Level, fault: Fault) -> Told:
+    def no_list(self, name: str, fault: Fault) -> Told:
         """What is told of a version that has no list of rules."""
-        name, spokes = root.versions[SPOKE], self.rules.value["spokes"]
-        rules = draft(self.program, root)
+        root = root_level(self.crd.value, self.rules.value, name)
         says = f"`spokes` has no list for {name}, which differs from {root.versions[HUB]}; to begin with, a list that keeps what differs"
-        return Told(fault, says, [self.rules.put(spokes, name, rules)], [])
+        return Told(fault, says, [self.rules.put(self.rules.value["spokes"], name, draft(self.program, root))], [])
 
     def late(self, fault: Fault) -> Told:
         """What is told of a field of the hub's whose default comes from a spoke, too late for others."""
-        has, lacks = [], []
-        hub = self.rules.value["hub"]
-        for name in [v["name"] for v in self.crd.value["spec"]["versions"] if v["name"] != hub]:
-            for level in levels(root_level(self.crd.value, self.rules.value, name)):
-                rule, field = rule_at(level, fault.path)
-                node = level.node(*names_of(rule)[0]) if rule else None
-                if rule and kind_of(rule) in PLAIN:
-                    has += [(level, names_of(rule)[0], node)] if node and "default" in node else []
-                    break
-            else:
-                lacks.append(name)
-        level, own, node = has[0]
-        says = f"{level.of(*own)} has the default {shown(node['default'])}, which `{fault.path}` of {hub} gets where an object lacks it; "
-        why = f"{hub} has no default there, and {' and '.join(lacks)} don't pair the field by `same` or `scale`, so that it could take the "
-        cure = f"place of a value that is kept for them; take the default out, or let {' and '.join(lacks)} have `{fault.path}` by `same` or `scale`"
-        return Told(fault, says + why + cure, [self.crd.drop(it, "default") for _, _, it in has], [])
+        has, lacks, hub = [], [], self.rules.value["hub"]
+        for spoke in [it for it in self.versions() if it != hub]:
+            found = [(level, (HUB, fault.path[len(level.paths[HUB]) :])) for level in levels(root_level(self.crd.value, self.rules.value, spoke))
+                     if fault.path.startswith(level.paths[HUB])]  # fmt: skip
+            rules = [(level, it) for level, spot in found for it in [*(level.rules or []), *({"same": [n, n]} for n in level.equal())]
+                     if spot in names_of(it) and kind_of(it) in PLAIN]  # fmt: skip
+            has += [(level, names_of(it)[0]) for level, it in rules if "default" in (level.node(*names_of(it)[0]) or {})]
+            lacks += [] if rules else [spoke]
+        fields, others = " and ".join(level.of(*it) for level, it in has), " and ".join(lacks)
+        says = f"{fields} has a default, which `{fault.path}` of {hub} gets where an object lacks it; but {hub} has none there, and {others} has the "
+        says += f"field by neither `same` nor `scale`, so that it could take the place of what is kept; take it out, or pair the field at {others} so"
+        return Told(fault, says, [self.crd.drop(level.node(*it) or {}, "default") for level, it in has], [])
 
     def all(self) -> List[Told]:
         """All faults, the first one first."""
-        fault = self.forms()
-        names = [v["name"] for v in self.crd.value["spec"]["versions"]] if fault else []
-        for name in names:
-            if name != self.rules.value["hub"] and not self.spoke(name):
-                return self.told
-        fault = self.first() if names else None
-        while fault and self.tell(self.late(fault)):
+        if self.forms() and all(self.spoke(name) for name in self.versions() if name != self.rules.value["hub"]):
             fault = self.first()
+            while fault and self.tell(self.late(fault)):
+                fault = self.first()
         return self.told
-
-
-def rule_at(level: Level, path: str) -> Tuple[Any, str]:
-    """The rule of a level that has a field of the hub's, by its path, and the field; the rule is `same` where none has it."""
-    name = path[len(level.paths[HUB]) :]
-    if not path.startswith(level.paths[HUB]) or not level.node(HUB, name):
-        return None, name
-    rule = next((it for it in level.rules or [] if (HUB, name) in names_of(it)), None)
-    return rule or ({"same": [name, name]} if level.node(SPOKE, name) else None), name

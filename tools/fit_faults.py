@@ -6,28 +6,29 @@ first, until the program takes one; so what is told to be pasted was taken.
 from __future__ import annotations
 
 import re
+from itertools import islice
 from typing import Any, Callable, Dict, Iterator, List, NamedTuple, Optional, Tuple
 
 from document_faults import Told, why_not
 from fault_texts import Document, Edit, alike, nearest, shown
 from program_asks import Fault, Program
-from rule_levels import (HUB, OF_OBJECT, ONLY, SIDES, SPOKE, Level, Rule, Spot, differences, draft, free_rules, kept, kind_of, levels,
-                         names_of, refused, unclosed, wider, with_names)
+from schemas import (HUB, MOST_TOLD, OF_OBJECT, ONLY, PASSED, SIDES, SPOKE, Level, Node, Rule, Spot, differences, draft, fits, kept, kind_of,
+                     levels, names_of, wider, with_names)
 
-INT64 = (-(2**63), 2**63 - 1)
+MOST_TRIED = 6
+INT32, INT64 = (-(2**31), 2**31 - 1), (-(2**63), 2**63 - 1)
 BLANKS = ("spokeBlank", "hubBlank")
 UNITS = (1000, 60, 3600, 1000000, 1000000000, 1024, 24, 86400, 100)
 KEPT = "keep the fields at both sides: then neither is shown at the other version"
-MOST_TRIED = 6
-PLAIN = ("enum", "maxLength", "minLength")
+GO_OVER = "`metadata`, `apiVersion` and `kind` go over by themselves, and no rule names them; take the rule out"
 # What the rules of each kind take.
 TAKES = {
     "": "fields without a rule, as by `same`, have equal schemas, and both are required or neither",
     "same": "`same` takes equal schemas, and both required or neither",
-    "object": "an `object` rule takes two objects with `properties`, without a default, and both required or neither",
-    "split": "a `split` takes texts with no keyword beside `type`, of which none is required",
-    "table": "a `table` takes values of both schemas, each once; defaults are a pair, and then, or where it is required, no blank is null",
-    "scale": "a `scale` takes whole numbers, and at the hub the bounds of the spoke times `by`",
+    "object": "`object` takes two objects with `properties` and nothing beside, without a default, and both required or neither",
+    "split": "`split` takes texts with no keyword beside `type`, of which none is required",
+    "table": "`table` takes values of both schemas, each once; defaults are a pair, and then, or where it is required, no blank is null",
+    "scale": "`scale` takes whole numbers, and at the hub the bounds of the spoke times `by`",
     **{it: "what is kept at one side has no default there, and isn't required" for it in ONLY},
 }
 
@@ -45,77 +46,63 @@ class Case:
 
     def __init__(self, program: Program, crd: Document, rules: Document, root: Level, fault: Fault) -> None:
         self.program, self.crd, self.rules, self.root, self.fault = program, crd, rules, root, fault
-        near = [level for level in levels(root) if any(fault.path.startswith(it) for it in level.paths)]
-        found = [it for level in near for it in self.of_rules(level)] or [it for level in near for it in self.of_none(level)]
-        if found and not found[0][1] and fault.word == "NameMissing":  # a rule may stand at another level that is meant for the name
-            found = [(level, rule, names_of(rule)) for level in levels(root) for rule in level.rules or [] for it in found[0][2]
-                     if it in names_of(rule) and not any(level.node(*name) for name in names_of(rule))] + found  # fmt: skip
+        every = [(level, rule, names_of(rule)) for level in levels(root) for rule in level.rules or []]
+        found: List[Tuple[Level, Any, List[Spot]]] = [it for it in every if self.is_of(it[0], it[2])]
+        for level in [] if found else levels(root):
+            spots = [(side, fault.path[len(level.paths[side]) :]) for side in SIDES if fault.path.startswith(level.paths[side])]
+            spots = [it for it in spots if it[1] in level.free(it[0]) or level.is_required(*it) and not level.node(*it)]
+            # a rule at another level may be meant for the name
+            found += [it for it in every for spot in spots if spot in it[2] and not any(it[0].node(*name) for name in it[2])]
+            found += [(level, None, spots)] if spots else []
         self.level, self.rule, self.spots = found[0] if found else (root, None, [])
+        self.kind = kind_of(self.rule)
 
-    def of_rules(self, level: Level) -> Iterator[Tuple[Level, Optional[Rule], List[Spot]]]:
-        """The rules of a level that the fault may be of: those with the name, or else with it as the first one."""
-        for rule in level.rules or []:
-            names = names_of(rule) if self.fault.word in ("NameTwice", "NameMissing") else names_of(rule)[:1]
-            at = [it for it in names if level.paths[it[0]] + it[1] == self.fault.path]
-            if any(self.fault.word != "NameMissing" or not level.node(*it) for it in at):
-                yield level, rule, names_of(rule)
+    def is_of(self, level: Level, names: List[Spot]) -> bool:
+        """Whether the fault is of a rule: NameTwice and NameMissing of one with the name, others of one whose first name it is."""
+        near = names if self.fault.word in ("NameTwice", "NameMissing") else names[:1]
+        found = [it for it in near if level.paths[it[0]] + it[1] == self.fault.path]
+        return any(self.fault.word != "NameMissing" or not level.node(*it) for it in found)
 
-    def of_none(self, level: Level) -> Iterator[Tuple[Level, Optional[Rule], List[Spot]]]:
-        """The names of a level that no rule has."""
-        path = self.fault.path
-        spots = [(side, path[len(level.paths[side]) :]) for side in SIDES if path.startswith(level.paths[side])]
-        spots = [it for it in spots if (level.node(*it) or level.is_required(*it)) and not level.is_ruled(*it)]
-        if spots:
-            yield level, None, spots
+    def takes(self, *rules: Rule, level: Optional[Level] = None) -> bool:
+        return bool(rules) and fits(self.program, level or self.level, list(rules))
 
-    def takes(self, rules: List[Rule], level: Optional[Level] = None) -> bool:
-        return bool(rules) and not refused(self.program, level or self.level, rules)
-
-    def nodes(self) -> List[Dict[str, Any]]:
+    def nodes(self) -> List[Node]:
         return [self.level.node(*it) or {} for it in self.spots]
 
-    def instead(self, new: List[Rule]) -> List[Edit]:
+    def instead(self, *new: Rule) -> List[Edit]:
         """New rules in the place of the one, or at the end where there is none."""
         rules = self.level.rules if self.level.rules is not None else []
-        return [self.rules.add(rules, new) if self.rule is None else self.rules.swap(rules, self.rule, new)]
-
-    def without(self, *names: str) -> List[Edit]:
-        """The fields without keywords; `required` is that of the objects around."""
-        edits = [self.crd.drop(node, name) for node in self.nodes() for name in names if name in node]
-        for side, name in self.spots if "required" in names else []:
-            node = self.level.nodes[side]
-            rest = [it for it in node.get("required", []) if it != name]
-            if self.level.is_required(side, name):
-                edits.append(self.crd.put(node, "required", rest) if rest else self.crd.drop(node, "required"))
-        return edits
+        return [self.rules.add(rules, list(new)) if self.rule is None else self.rules.swap(rules, self.rule, list(new))]
 
 
 # ---- rules of other names, or at other levels
 
 
-def reversed_names(rule: Rule) -> Optional[Rule]:
-    (kind, v), = rule.items()
+def reversed_names(rule: Any) -> List[Rule]:
+    """A rule with its names the other way round, as a list of none or one."""
+    kind = kind_of(rule)
     if kind in ONLY:
-        return {ONLY[1 - ONLY.index(kind)]: v}
-    return with_names(rule, [name for _, name in names_of(rule)][::-1]) if kind != "split" else None
+        return [{ONLY[1 - ONLY.index(kind)]: rule[kind]}]
+    return [with_names(rule, [name for _, name in names_of(rule)][::-1])] if kind not in ("", "split") else []
 
 
 def turned(case: Case) -> Iterator[Way]:
     """The names, the pairs or both the other way round."""
-    other = reversed_names(case.rule) if case.rule else None
-    tries = [other] if other else []
-    if other and kind_of(other) == "table":
-        pairs = [it[::-1] for it in other["table"]["pairs"]]
-        tries = [{"table": {**it["table"], "pairs": pairs}} for it in (case.rule, other)] + tries
-    for rule in tries:
-        if case.takes([rule]):
-            yield Way("the other way round it fits", case.instead([rule]))
+    tries = reversed_names(case.rule)
+    for rule in [case.rule, *tries] if case.kind == "table" else []:
+        tries = [{"table": {**rule["table"], "pairs": [it[::-1] for it in rule["table"]["pairs"]]}}, *tries]
+    yield from (Way("the other way round it fits", case.instead(it)) for it in tries if case.takes(it))
 
 
 def of_object(case: Case) -> Iterator[Way]:
     if case.rule and any(name.split(".")[0] in OF_OBJECT for _, name in case.spots if not case.level.node(HUB, name)):
-        says = "`metadata`, `apiVersion` and `kind` go over by themselves, and no rule names them; take the rule out"
-        yield Way(says, case.instead([]))
+        yield Way(GO_OVER, case.instead())
+
+
+def could_be(level: Level, side: int, name: str) -> bool:
+    """Whether a name, perhaps a dotted one, may mean the field of the level that its last part names."""
+    steps = [it for it in re.split(r"[./$]+", name) if it]
+    return bool(steps) and level.node(side, steps[-1]) is not None and f".{level.paths[side]}".endswith("".join(f".{it}" for it in steps[:-1]) + ".")
 
 
 def moved_to(case: Case, adds: List[Tuple[Level, List[Rule]]]) -> List[Edit]:
@@ -126,48 +113,36 @@ def moved_to(case: Case, adds: List[Tuple[Level, List[Rule]]]) -> List[Edit]:
             rules, level = [{"object": {"names": list(level.names), "rules": rules}}], level.around
         lists.setdefault(id(level.rules), (level.rules or [], []))[1].extend(rules)
     own = lists.pop(id(case.level.rules), ([], []))[1]
-    return case.instead(own) + [case.rules.add(items, rules) for items, rules in lists.values()]
-
-
-def could_be(level: Level, side: int, name: str) -> bool:
-    """Whether a name may mean the field of the level that its last part names."""
-    steps = [it for it in re.split(r"[./$]+", name) if it]
-    around = ".".join(steps[:-1])
-    return bool(steps) and bool(level.node(side, steps[-1])) and (not around or f".{level.paths[side]}".endswith(f".{around}."))
+    return case.instead(*own) + [case.rules.add(items, rules) for items, rules in lists.values()]
 
 
 def elsewhere(case: Case) -> Iterator[Way]:
     """The rule at a level where it fits, or, where its names stand at two levels, both fields kept."""
-    if not case.rule:
+    rule = {"same": [name for _, name in case.spots]} if case.kind == "move" else case.rule
+    if not rule or case.kind == "object":
         return
-    rule = case.rule if kind_of(case.rule) != "move" else {"same": [name for _, name in case.spots]}
     last = with_names(rule, [re.split(r"[./$]", name)[-1] for _, name in case.spots])
-    dotted = "a name is one level; " if any(re.search(r"[./$]", name) for _, name in case.spots) else ""
+    dotted = "a name is one level; " * (last != rule)
     every = list(levels(case.root, with_closed=True))
     for level in every:
-        if all(could_be(level, *it) for it in case.spots) and last != case.rule and case.takes([last], level) or (
-            level.paths != case.level.paths and all(could_be(level, *it) for it in case.spots) and case.takes([last], level)):  # fmt: skip
+        is_other = level.paths != case.level.paths or last != case.rule
+        if is_other and all(could_be(level, *it) for it in case.spots) and case.takes(last, level=level):
             fields = " and ".join(dict.fromkeys(level.of(*it) for it in names_of(last)))
             where = f"the `object` rule of `{level.paths[SPOKE][:-1]}`" if level.around else "the list of the spoke"
-            yield Way(f"{dotted}{fields}: put the rule into {where}", moved_to(case, [(level, [last])]))
-    found = [next(((level, (side, steps)) for level in every if could_be(level, side, name)), None)
-             for (side, name), (_, steps) in zip(case.spots, names_of(last))]  # fmt: skip
-    there = [it for it in found if it]
-    if len(there) > 1 and len({level.paths[side] for level, (side, _) in there}) > 1:
-        adds = [(level, kept(level, [it])) for level, it in there]
-        if all(case.takes(rules, level) for level, rules in adds):
-            moves = " is ".join(level.of(*it) for level, it in there)
-            yield Way(f"{moves}, at another level, and no rule moves a field: {KEPT}", moved_to(case, adds))
+            yield Way(f"{dotted}put the rule into {where}, for {fields}", moved_to(case, [(level, [last])]))
+    there = [(level, it) for spot, it in zip(case.spots, names_of(last)) for level in islice((at for at in every if could_be(at, *spot)), 1)]
+    adds = [(level, kept(level, [it])) for level, it in there]
+    if len({level.paths[side] for level, (side, _) in there}) > 1 and all(case.takes(*rules, level=level) for level, rules in adds):
+        yield Way(f"{' is '.join(level.of(*it) for level, it in there)}, and no rule moves a field to another level: {KEPT}", moved_to(case, adds))
 
 
 def renamed(case: Case) -> Iterator[Way]:
     """The nearest names in the place of those that aren't there."""
-    names = [name if case.level.node(side, name) else nearest(name, case.level.free(side)) or nearest(name, case.level.fields(side)) or name
-             for side, name in case.spots]  # fmt: skip
-    rule = with_names(case.rule, names) if case.rule else None
-    if rule and rule != case.rule and case.takes([rule]):
-        yield Way(" and ".join(f"`{it}`" for it in names if (HUB, it) not in case.spots and (SPOKE, it) not in case.spots) + " is meant",
-                  case.instead([rule]))  # fmt: skip
+    level = case.level
+    near = [name if level.node(side, name) else nearest(name, level.free(side)) or nearest(name, level.fields(side)) for side, name in case.spots]
+    if case.rule and all(near) and case.takes(with_names(case.rule, near)):
+        names = [it for it, (_, name) in zip(near, case.spots) if it != name]
+        yield Way(f"{' and '.join(f'`{it}`' for it in names)} is meant", case.instead(with_names(case.rule, near)))
 
 
 def partner(case: Case) -> Iterator[Way]:
@@ -175,14 +150,15 @@ def partner(case: Case) -> Iterator[Way]:
     if case.rule or not case.spots:
         return
     (side, name), level = case.spots[0], case.level
-    taken = [it["same"][0] for it in free_rules(level)]
-    free = [it for it in level.free(1 - side) if it not in taken]
-    near = [it for it in [nearest(name, free)] if it] or free[: MOST_TRIED if len(free) <= MOST_TRIED else 0]
-    fitting = [it for it in near if case.takes([{"same": [name, it][:: 1 if side == SPOKE else -1]}])]
-    other = [{"same": [name, it][:: 1 if side == SPOKE else -1]} for it in fitting if len(fitting) == 1]
-    says = f"keep it, where {level.versions[1 - side]} has nothing like it" + (f", or pair it with `{fitting[0]}`" if other else "")
-    if case.takes(kept(level, case.spots[:1])):
-        yield Way(says, case.instead(kept(level, case.spots[:1])), case.instead(other) if other else [])
+    free = [it for it in level.free(1 - side) if it not in level.equal()]
+    near = nearest(name, free)
+    pairs = {it: {"same": [name, it][:: 1 - 2 * side]} for it in ([near] if near else free if len(free) <= MOST_TRIED else [])}
+    fitting = [it for it in pairs if case.takes(pairs[it])]
+    other = fitting[0] if len(fitting) == 1 else ""
+    alone = kept(level, case.spots[:1])
+    if case.takes(*alone):
+        says = f"keep it, where {level.versions[1 - side]} has nothing like it{f', or pair it with `{other}`' if other else ''}"
+        yield Way(says, case.instead(*alone), case.instead(pairs[other]) if other else [])
 
 
 # ---- other rules
@@ -190,7 +166,7 @@ def partner(case: Case) -> Iterator[Way]:
 
 def opened(case: Case) -> Iterator[Way]:
     """An `object` rule for two objects, or a `scale` or a `table`, for two fields that differ."""
-    if len(case.spots) != 2 or kind_of(case.rule) not in ("", "same", "scale"):
+    if len(case.spots) != 2 or case.kind not in ("", "same", "scale"):
         return
     names = [name for _, name in case.spots]
     below, (one, two) = case.level.inner(names, None), case.nodes()
@@ -204,43 +180,43 @@ def opened(case: Case) -> Iterator[Way]:
     for blank in (None, *shared[:1]):
         table = {"names": names, "pairs": [[it, it] for it in shared], "spokeBlank": blank, "hubBlank": blank}
         rules += [("pair the values that both have; any other is kept", {"table": table})] if shared else []
-    yield from (Way(says, case.instead([it])) for says, it in rules if it != case.rule and case.takes([it]))
+    yield from (Way(says, case.instead(it)) for says, it in rules if it != case.rule and case.takes(it))
 
 
 def both_kept(case: Case) -> Iterator[Way]:
     """Both fields kept, or where bounds alone differ those that take the values of both."""
-    one, two = case.nodes() if len(case.spots) == 2 else ({}, {})
-    wide = wider(one, two) if one and kind_of(case.rule) in ("", "same") else None
-    edits = []
-    for node in (one, two) if wide else ():
-        edits += [case.crd.put(node, it, v) for it, v in wide.items() if not alike(node.get(it), v)]
-        edits += [case.crd.drop(node, it) for it in node if it not in wide and it not in ("default", "description")]
+    one, two = case.nodes() if len(case.spots) == 2 and case.kind in ("", "same") else ({}, {})
+    wide = wider(one, two) if one and two else None
+    edits = [case.crd.put(node, it, v) for node in (one, two) for it, v in (wide or {}).items() if not alike(node.get(it), v)]
+    edits += [case.crd.drop(node, it) for node in (one, two) for it in sorted({*node} - {*(wide or node)} - PASSED - {"default"})]
     new = kept(case.level, case.spots)
-    if case.takes(new):
-        yield Way(KEPT + (", or give both the wider bounds" if edits else ""), case.instead(new), edits)
+    if case.takes(*new):
+        yield Way(KEPT + ", or give both the wider bounds" * bool(edits), case.instead(*new), edits)
     elif edits:
         yield Way("give both the wider bounds", edits)
     if case.rule:
-        yield Way("take out what isn't there", case.instead([it for it in new if case.takes([it])]))
+        yield Way("take out what isn't there", case.instead(*(it for it in new if case.takes(it))))
 
 
 def other_hub(case: Case) -> Iterator[Way]:
     """A number with the finer unit at the spoke."""
-    other, level = reversed_names(case.rule) if kind_of(case.rule) == "scale" else None, case.level
-    if other and case.takes([other], Level(level.versions[::-1], level.nodes[::-1], None)):
-        spoke, hub = level.versions
-        says = f"the finer unit stands at {spoke}, and a `scale` wants it at the hub: make {spoke} the hub, with {shown(other)} for {hub}, or {KEPT}"
-        yield Way(says, case.instead(kept(level, case.spots)))
-
-
-# ---- the definition mended
+    level = case.level
+    for other in reversed_names(case.rule) if case.kind == "scale" else []:
+        if case.takes(other, level=Level(level.versions[::-1], level.nodes[::-1], None)):
+            spoke, hub = level.versions
+            says = f"the finer unit stands at {spoke}, and has to stand at the hub: make {spoke} the hub, with {shown(other)} for {hub}, or {KEPT}"
+            yield Way(says, case.instead(*kept(level, case.spots)))
 
 
 def stripped(case: Case) -> Iterator[Way]:
     """The definition without what the rule doesn't take."""
-    word, kind = case.fault.word, kind_of(case.rule)
-    names = {"UnpairedDefault": ("default",), "RangeLost": PLAIN if kind == "split" else ("enum",) if kind == "scale" else ()}
-    edits = case.without(*names.get(word, ("required", "nullable") if kind in ("split", "table", "scale") else ("required",)))
+    names = {"UnpairedDefault": ["default"], "RangeLost": {"split": ["enum", "maxLength", "minLength"], "scale": ["enum"]}.get(case.kind, [])}
+    out = names.get(case.fault.word, ["nullable"] * (case.kind in ("split", "table", "scale")))
+    edits = [case.crd.drop(node, it) for node in case.nodes() for it in out if it in node]
+    for side, node in enumerate(case.level.nodes) if case.fault.word not in names else ():
+        rest = [it for it in node.get("required", []) if (side, it) not in case.spots]
+        if len(rest) < len(node.get("required", [])):
+            edits.append(case.crd.put(node, "required", rest) if rest else case.crd.drop(node, "required"))
     if edits:
         yield Way("take it out of the schema", edits)
 
@@ -249,58 +225,56 @@ def pair_fault(case: Case, i: int) -> Optional[str]:
     """What is wrong with a pair of a table."""
     pairs = case.rule["table"]["pairs"] if case.rule else []
     for side, node in zip(SIDES, case.nodes()):
-        v, version = pairs[i][side], case.level.versions[side]
+        v = pairs[i][side]
         first = next(j for j, it in enumerate(pairs) if alike(it[side], v))
-        why = f"a value stands once at a side, and {shown(v)} is in `pairs`[{first}] too" if first < i else why_not(case.program, node, v)
+        why = f"it stands in `pairs`[{first}] already" if first < i else why_not(case.program, node, v)
         if why:
-            return f"`pairs`[{i}]: {version} doesn't take {shown(v)}: {why}"
+            return f"`pairs`[{i}]: {case.level.versions[side]} doesn't take {shown(v)}: {why}"
     return None
 
 
 def tables(case: Case) -> Iterator[Way]:
     """A table with pairs and blanks that the schemas take, and with defaults that are a pair."""
-    if kind_of(case.rule) != "table":
+    if case.kind != "table":
         return
     table, two = case.rule["table"], case.nodes()
-    found = [pair_fault(case, i) for i in range(len(table["pairs"]))] if case.fault.word == "RangeLost" else []
-    pairs = [it for it, why in zip(table["pairs"], found or [None] * len(table["pairs"])) if not why]
-    own = next((side for side in SIDES if "default" in two[side]), None)
-    filled = next((it for it in pairs if own is None or alike(it[own], two[own]["default"])), None)
-    defaults = [case.crd.put(node, "default", v) for node, v in zip(two, filled or []) if own is not None and not alike(node.get("default"), v)]
-    blanks = {name: None for name, node in zip(BLANKS, two) if table[name] is not None and why_not(case.program, node, table[name])}
-    filled_blanks = {name: v for name, v in zip(BLANKS, filled or []) if table[name] is None}
-    for blank in (blanks, filled_blanks):
+    found = [pair_fault(case, i) if case.fault.word == "RangeLost" else None for i in range(len(table["pairs"]))]
+    pairs = [it for it, why in zip(table["pairs"], found) if not why]
+    own = [(side, node["default"]) for side, node in enumerate(two) if "default" in node][:1]
+    filled = next((it for it in pairs if all(alike(it[side], v) for side, v in own)), [])
+    defaults = [case.crd.put(node, "default", v) for node, v in zip(two, filled) if own and not alike(node.get("default"), v)]
+    blanks: Dict[str, Any] = {it: None for it, node in zip(BLANKS, two) if table[it] is not None and why_not(case.program, node, table[it])}
+    says = "; ".join([it for it in found if it] + [f"`{it}`: {shown(table[it])} isn't taken" for it in blanks]) or "so it fits"
+    for blank in (blanks, {name: v for name, v in zip(BLANKS, filled) if table[name] is None}):
         rule = {"table": {**table, "pairs": pairs, **blank}}
-        says = "; ".join([it for it in found if it] + [f"`{it}`: {shown(table[it])} isn't taken" for it in blanks]) or "so it goes over"
-        if rule != case.rule and (case.takes([rule]) or defaults):
-            yield Way(says, defaults + case.instead([rule]))
+        if rule != case.rule and (defaults or case.takes(rule)):
+            yield Way(says, defaults + case.instead(rule))
     if defaults:
         yield Way("so the defaults are a pair", defaults)
 
 
 def bounds(case: Case) -> Iterator[Way]:
     """The bounds that fit, at the hub or else at the spoke."""
-    if kind_of(case.rule) != "scale":
+    if case.kind != "scale":
         return
-    by, two = case.rule["scale"]["by"], case.nodes()
-    ends = [(it.get("minimum", low), it.get("maximum", high)) for it in two
-            for low, high in [(-(2**31), 2**31 - 1) if it.get("format") == "int32" else INT64]]  # fmt: skip
-    fits = [(-(-ends[HUB][0] // by), ends[HUB][1] // by), (ends[SPOKE][0] * by, min(ends[SPOKE][1] * by + by - 1, INT64[1]))]
+    by, two, level = case.rule["scale"]["by"], case.nodes(), case.level
+    wide = [INT32 if it.get("format") == "int32" else INT64 for it in two]
+    ends = [(node.get("minimum", low), node.get("maximum", high)) for node, (low, high) in zip(two, wide)]
+    fit = [(-(-ends[HUB][0] // by), ends[HUB][1] // by), (ends[SPOKE][0] * by, min(ends[SPOKE][1] * by + by - 1, INT64[1]))]
     for side in (HUB, SPOKE):
-        low, high = fits[side]
+        low, high = fit[side]
         node = {**{it: v for it, v in two[side].items() if it not in ("format", "default")}, "minimum": low, "maximum": high}
-        around = [dict(it) for it in case.level.nodes]
-        around[side]["properties"] = {**around[side]["properties"], case.spots[side][1]: node}
-        if INT64[0] <= low and not refused(case.program, case.level, [case.rule], around):
+        nodes = list(level.nodes)
+        nodes[side] = {**nodes[side], "properties": {**nodes[side]["properties"], case.spots[side][1]: node}}
+        if INT64[0] <= low and fits(case.program, level, [case.rule], nodes):
             edits = [case.crd.put(two[side], it, node[it]) for it in ("minimum", "maximum") if two[side].get(it) != node[it]]
-            yield Way(f"{low} to {high} would fit at {case.level.versions[side]}", edits)
+            yield Way(f"{low} to {high} would fit at {level.versions[side]}", edits)
 
 
 # ---- what is told
 
-Ways = Callable[[Case], Iterator[Way]]
 # The ways to mend what a word is of, in the order in which they are tried.
-WAYS: Dict[str, List[Ways]] = {
+WAYS: Dict[str, List[Callable[[Case], Iterator[Way]]]] = {
     "NameMissing": [of_object, turned, elsewhere, renamed, partner, both_kept, stripped],
     "SchemaDiffers": [turned, elsewhere, opened, stripped, both_kept],
     "UnpairedDefault": [tables, stripped],
@@ -316,17 +290,18 @@ def why(case: Case) -> str:
         return f"no rule has {level.of(side, name)}, and {level.versions[1 - side]} has no field of that name that is free"
     if word == "NameMissing":
         return " and ".join(f"{level.versions[side]} has no `{level.paths[side]}{name}`" for side, name in case.spots if not level.node(side, name))
-    if len(two) == 2 and word == "SchemaDiffers" and kind_of(case.rule) in ("", "same") and differences(level.versions, *two):
-        return f"the two schemas differ: {differences(level.versions, *two)}"
+    found = list(islice(differences(level.versions, *two), MOST_TOLD)) if len(two) == 2 and case.kind in ("", "same") else []
+    if word == "SchemaDiffers" and found:
+        return f"the two schemas differ: {'; '.join(found)}"
     facts = [f"{level.of(*it)} is {shown(node)}{' and required' * level.is_required(*it)}" for it, node in zip(case.spots, two)]
-    facts += [f"that of {level.versions[side]} {why}" for side, node in enumerate(two) for why in [unclosed(node)] if kind_of(case.rule) == "object" and why]
-    return f"{TAKES[kind_of(case.rule)]}: {', '.join(facts)}"
+    return f"{TAKES[case.kind]}: {', '.join(facts)}"
 
 
 def fit_told(case: Case) -> Told:
     """What is told of rules that don't fit."""
-    level, place = case.level, case.rules.of(case.rule if case.rule else case.level.rules)
-    start = f"{place}{f' ({kind_of(case.rule)})' if case.rule else ''}, {level.versions[SPOKE]} to {level.versions[HUB]}: "
+    level = case.level
+    place = case.rules.of(level.rules) if case.rule is None else f"{case.rules.of(case.rule)} ({case.kind})"
+    start = f"{place}, {level.versions[SPOKE]} to {level.versions[HUB]}: "
     if case.fault.word == "NameTwice":
         named = [it for it in level.rules or [] if any(level.paths[side] + name == case.fault.path for side, name in names_of(it))]
         out = min(named, key=lambda it: len(names_of(it)))

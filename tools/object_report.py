@@ -9,8 +9,7 @@ from __future__ import annotations
 import json
 from typing import Any, Callable, Dict, Iterator, List, Sequence, Tuple
 
-from fault_texts import alike, at, compact, inside, list_at, shown, text_at
-from json_texts import read, said
+from fault_texts import alike, at, compact, inside, list_at, read, shown, text_at
 from program_asks import Program
 
 FILLING = ("pruned, since its schema doesn't have it", "filled by a default", "changed")
@@ -88,7 +87,7 @@ def told(convert: Callable[[Any, str], Tuple[Any, str]], start: str, to: str, do
 def report(program: Program, crd: Any, rules: Any, text: str, to: str, name: str = "") -> str:
     """What becomes of the object that a text is at a version of a definition."""
     doc, marks = read(text)
-    lines = [f"{it.word}: {said(it, name)}" for it in marks]
+    lines = [f"{it.word}: {it.said(name)}" for it in marks]
     names = [text_at(v, "name") for v in list_at(crd, "spec", "versions")]
     _, slash, version = text_at(doc, "apiVersion").rpartition("/")
     start = version if slash else ""

@@ -5,12 +5,11 @@ import json
 import pathlib
 import subprocess
 import tempfile
-from typing import Any, Dict, List, NamedTuple, Optional, Tuple, Union
+from typing import Any, Dict, NamedTuple, Optional, Tuple
 
 FAULTY, REFUSED, UNREADABLE = 3, 4, 5
-TOO_LONG = "TooLong"
 NO_VERSION = "NONE"  # a version's name has small letters
-Text = Union[bytes, Dict[str, Any], List[Any], Any]
+API = {"apiVersion": "apiextensions.k8s.io/v1", "kind": "CustomResourceDefinition"}
 
 
 class Failed(Exception):
@@ -29,54 +28,49 @@ class Fault(NamedTuple):
     word: str
 
 
-def as_bytes(text: Text) -> bytes:
-    return text if isinstance(text, bytes) else json.dumps(text, ensure_ascii=False).encode("utf-8", "surrogatepass")
+def definition(schemas: Dict[str, Any]) -> Dict[str, Any]:
+    """A definition of versions with these schemas, of which the first is stored."""
+    stored = next(iter(schemas))
+    versions = [{"name": name, "served": True, "storage": name == stored, "schema": {"openAPIV3Schema": it}} for name, it in schemas.items()]
+    spec = {"group": "a", "names": {"kind": "A", "plural": "a"}, "scope": "Namespaced", "versions": versions}
+    return {**API, "metadata": {"name": "a.a"}, "spec": spec}
 
 
 class Program:
-    """A built kubeconv, which is asked about files and documents alike."""
+    """A built kubeconv, which is asked about texts and documents."""
 
     def __init__(self, path: str) -> None:
         self.path = str(pathlib.Path(path).resolve())
         self.room = tempfile.TemporaryDirectory()
 
-    def asked(self, crd: Text, rules: Text, to: str, text: Text) -> Tuple[int, bytes, str]:
+    def asked(self, crd: Any, rules: Any, to: str, value: Any) -> Tuple[int, bytes, str]:
         """The status, the answer and the error line of a conversion."""
-        words = [self.path, "convert", "--to", to]
-        for name, it in (("crd", crd), ("rules", rules)):
-            file = pathlib.Path(self.room.name, name)
-            file.write_bytes(as_bytes(it))
-            words += [f"--{name}", str(file)]
-        done = subprocess.run(words, input=as_bytes(text), capture_output=True)
+        texts = [it if isinstance(it, bytes) else json.dumps(it).encode() for it in (crd, rules, value)]
+        files = [pathlib.Path(self.room.name, name) for name in ("crd", "rules")]
+        for file, text in zip(files, texts):
+            file.write_bytes(text)
+        words = [self.path, "convert", "--crd", str(files[0]), "--rules", str(files[1]), "--to", to]
+        done = subprocess.run(words, input=texts[2], capture_output=True)
         # its line is the last one: a launcher may have said before that the program isn't proved here
         line = done.stderr.decode("utf-8", "replace").rstrip("\n").rpartition("\n")[2]
-        line = line[len("kubeconv: ") :] if line.startswith("kubeconv: ") else line
-        return done.returncode, done.stdout, line.replace(f"{self.room.name}/", "")
+        if line.endswith("TooLong") or line.endswith(": NotText"):
+            raise Failed(UNREADABLE)
+        return done.returncode, done.stdout, line.replace("kubeconv: ", "", 1).replace(f"{self.room.name}/", "", 1)
 
-    @staticmethod
-    def definition(schemas: Dict[str, Any]) -> Dict[str, Any]:
-        """A definition of versions with these schemas, of which the first is stored."""
-        versions = [{"name": name, "served": True, "storage": name == next(iter(schemas)), "schema": {"openAPIV3Schema": it}}
-                    for name, it in schemas.items()]  # fmt: skip
-        spec = {"group": "a", "names": {"kind": "A", "plural": "a"}, "scope": "Namespaced", "versions": versions}
-        return {"apiVersion": "apiextensions.k8s.io/v1", "kind": "CustomResourceDefinition", "metadata": {"name": "a.a"}, "spec": spec}
-
-    def first(self, crd: Text, rules: Text) -> Optional[Fault]:
+    def first(self, crd: Any, rules: Any) -> Optional[Fault]:
         """What is refused first of two files, or nothing where they load."""
         status, _, line = self.asked(crd, rules, NO_VERSION, b"")
-        if status == REFUSED and line == f"no version {NO_VERSION}":
+        if status == REFUSED:
             return None
+        if status != FAULTY:
+            raise Failed(status)
         file, _, rest = line.partition(": ")
         path, _, word = rest.rpartition(": ")
-        if status != FAULTY or not word:
-            raise Failed(status)
-        if word in (TOO_LONG, "NotText"):
-            raise Failed(UNREADABLE)
-        return Fault(file, path.rstrip(": "), word)
+        return Fault(file, path, word)
 
-    def convert(self, crd: Text, rules: Text, text: Text, to: str) -> Tuple[Any, str]:
+    def convert(self, crd: Any, rules: Any, value: Any, to: str) -> Tuple[Any, str]:
         """An object at another version, or what of it is refused."""
-        status, answer, line = self.asked(crd, rules, to, text)
-        if status not in (0, REFUSED) or line == TOO_LONG:
-            raise Failed(UNREADABLE if line == TOO_LONG else status)
-        return (json.loads(answer), "") if status == 0 else (None, line)
+        status, answer, line = self.asked(crd, rules, to, value)
+        if status not in (0, REFUSED):
+            raise Failed(status)
+        return (None, line) if status else (json.loads(answer), "")

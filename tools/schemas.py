@@ -1,5 +1,5 @@
-"""The levels of a spoke's rules with the schemas of both sides, and whether rules fit there. It is no command: tools/find_faults.py finds
-faults by it, and tools/field_rows.py rows.
+"""The levels of a spoke's rules with the schemas of both sides, whether rules fit there, and what differs. It is no command:
+tools/find_faults.py finds faults by it, and tools/field_rows.py rows.
 
 A level is the fields of two objects, one of the spoke's version and one of the hub's, with the rules between them. The documents may have
 faults: what isn't of its form has no names and no levels inside.
@@ -9,12 +9,11 @@ from __future__ import annotations
 from typing import Any, Dict, Iterator, List, Optional, Tuple
 
 from fault_texts import alike, at, inside, list_at, shown
-from program_asks import Program
+from program_asks import Program, definition
 
-SPOKE, HUB = 0, 1
-SIDES = (SPOKE, HUB)
+SPOKE, HUB = SIDES = (0, 1)
 OF_OBJECT = ("apiVersion", "kind", "metadata")
-OPEN = "x-kubernetes-preserve-unknown-fields"
+MIXED, OPEN = "x-kubernetes-int-or-string", "x-kubernetes-preserve-unknown-fields"
 ONLY = ("spokeOnly", "hubOnly")
 PASSED = {"description", "title", "example", "externalDocs"}
 INSIDE = {"properties", "items", "additionalProperties"}
@@ -28,18 +27,15 @@ def kind_of(rule: Any) -> str:
     return next(iter(rule)) if isinstance(rule, dict) and len(rule) == 1 else ""
 
 
-def names_of(rule: Any) -> List[Tuple[int, str]]:
+def names_of(rule: Any) -> List[Spot]:
     """The names of a rule with their sides, those of the spoke first; none where it isn't of its form."""
     kind = kind_of(rule)
     v = rule[kind] if kind else None
-    if kind == "split":
-        named = [at(v, "spoke"), *(at(v, "hub") or [])]
-        found = list(zip((SPOKE, HUB, HUB), named))
-    elif kind in ONLY:
+    if kind in ONLY:
         found = [(ONLY.index(kind), v)]
     else:
-        named = v if kind == "same" else at(v, "names")
-        found = list(zip(SIDES, named)) if isinstance(named, list) else []
+        named = [at(v, "spoke"), *list_at(v, "hub")] if kind == "split" else v if kind == "same" else at(v, "names")
+        found = list(zip((SPOKE, HUB, HUB), named)) if isinstance(named, list) else []
     return [it for it in found if isinstance(it[1], str)]
 
 
@@ -51,17 +47,10 @@ def with_names(rule: Rule, names: List[str]) -> Rule:
     return {kind: names[0] if kind in ONLY else names if kind == "same" else {**v, "names": names}}
 
 
-def unclosed(node: Node) -> Optional[str]:
-    """Why a node isn't an object with `properties` and nothing else, where it isn't."""
-    reasons = (
-        (node.get("type") != "object", "isn't of type object"),
-        ("properties" not in node, "has no `properties`"),
-        ("additionalProperties" in node, "has `additionalProperties`"),
-        (node.get(OPEN) is True, f"has `{OPEN}`"),
-        (node.get("nullable") is True, "has `nullable`"),
-        ("enum" in node, "has an `enum`"),
-    )
-    return next((why for is_so, why in reasons if is_so), None)
+def is_closed(node: Any) -> bool:
+    """Whether a node is an object with `properties` and nothing else."""
+    others = ("additionalProperties", "enum", "nullable", OPEN)
+    return at(node, "type") == "object" and isinstance(node.get("properties"), dict) and not any(node.get(it) for it in others)
 
 
 class Level:
@@ -70,7 +59,8 @@ class Level:
     def __init__(self, versions: List[str], nodes: List[Node], rules: Any, around: Optional[Level] = None, names: Any = ("", "")) -> None:
         self.versions, self.nodes, self.around, self.names = versions, nodes, around, names
         self.rules: Optional[List[Any]] = rules if isinstance(rules, list) else None
-        self.paths = [f"{around.paths[side]}{names[side]}." if around else "" for side in SIDES]
+        self.steps: List[List[str]] = [[*around.steps[side], names[side]] if around else [] for side in SIDES]
+        self.paths = ["".join(f"{it}." for it in steps) for steps in self.steps]
 
     def fields(self, side: int) -> Dict[str, Node]:
         named = self.nodes[side].get("properties") or {}
@@ -82,20 +72,24 @@ class Level:
     def is_required(self, side: int, name: str) -> bool:
         return name in self.nodes[side].get("required", [])
 
-    def is_ruled(self, side: int, name: str) -> bool:
-        return any((side, name) in names_of(rule) for rule in self.rules or [])
-
     def free(self, side: int) -> List[str]:
-        return [name for name in self.fields(side) if not self.is_ruled(side, name)]
+        """The names of a side that no rule has."""
+        ruled = [it for rule in self.rules or [] for it in names_of(rule)]
+        return [name for name in self.fields(side) if (side, name) not in ruled]
+
+    def equal(self) -> List[str]:
+        """The names that no rule has, and that both sides have."""
+        there = self.free(HUB)
+        return [name for name in self.free(SPOKE) if name in there]
 
     def of(self, side: int, name: str) -> str:
         """A name with its path and its version."""
         return f"`{self.paths[side]}{name}` of {self.versions[side]}"
 
-    def inner(self, names: List[str], rules: Any) -> Optional[Level]:
+    def inner(self, names: Any, rules: Any) -> Optional[Level]:
         """The level inside two objects."""
-        nodes = [self.node(side, name) for side, name in zip(SIDES, names)]
-        there = [it for it in nodes if it and not unclosed(it)]
+        nodes = [self.node(side, name) for side, name in zip(SIDES, names) if isinstance(name, str)]
+        there = [it for it in nodes if it and is_closed(it)]
         return Level(self.versions, there, rules, self, names) if len(there) == 2 else None
 
 
@@ -107,19 +101,10 @@ def root_level(crd: Any, rules: Any, spoke: str) -> Level:
 def levels(level: Level, with_closed: bool = False) -> Iterator[Level]:
     """A level and those that `object` rules open below it, and on demand those that such rules could open between equal names."""
     yield level
-    opened = [(it["object"].get("names"), it["object"].get("rules")) for it in level.rules or [] if isinstance(at(it, "object"), dict)]
-    free = level.free(HUB) if with_closed else []
-    closed = [([name, name], None) for name in level.free(SPOKE) if name in free]
-    for names, rules in [it for it in opened if isinstance(it[0], list) and len(it[0]) == 2] + closed:
-        below = level.inner(names, rules)
+    opened = [(list_at(it, "object", "names"), at(it, "object", "rules")) for it in level.rules or []]
+    for below in [level.inner(*it) for it in opened + [([it, it], None) for it in level.equal() if with_closed]]:
         if below:
             yield from levels(below, with_closed)
-
-
-def free_rules(level: Level) -> List[Rule]:
-    """A rule `same` for each name that no rule has, and that both sides have."""
-    there = level.free(HUB)
-    return [{"same": [name, name]} for name in level.free(SPOKE) if name in there]
 
 
 # ---- whether rules fit
@@ -130,27 +115,24 @@ def part(node: Node, rules: List[Rule], side: int) -> Node:
     kept = {}
     for rule in rules:
         for name in [it for where, it in names_of(rule) if where == side]:
-            it = (node.get("properties") or {}).get(name, {})
-            is_object = kind_of(rule) == "object" and not unclosed(it)
-            kept[name] = part(it, list_at(rule, "object", "rules"), side) if is_object else it
+            it = at(node, "properties", name) or {}
+            kept[name] = part(it, list_at(rule, "object", "rules"), side) if kind_of(rule) == "object" and is_closed(it) else it
     return {**node, "properties": kept, "required": [it for it in node.get("required", []) if it in kept]}
 
 
-def refused(program: Program, level: Level, rules: List[Rule], nodes: Optional[List[Node]] = None) -> Optional[str]:
-    """The word by which rules are refused by themselves at a level, or nothing where they fit."""
+def fits(program: Program, level: Level, rules: List[Rule], nodes: Optional[List[Node]] = None) -> bool:
+    """Whether rules fit by themselves at a level."""
     schemas = {}
     for side, name in zip(SIDES, level.versions):
         inner = {key: it for key, it in part((nodes or level.nodes)[side], rules, side).items() if key != "default"}
         if not all(inner["properties"].values()):
-            return "NameMissing"
+            return False
         schemas[name] = {"type": "object", "properties": {"o": inner}}
-    crd = program.definition(schemas)
     around = [{"object": {"names": ["o", "o"], "rules": rules}}]
-    fault = program.first(crd, {"hub": level.versions[HUB], "spokes": {level.versions[SPOKE]: around}})
-    return fault.word if fault else None
+    return not program.first(definition(schemas), {"hub": level.versions[HUB], "spokes": {level.versions[SPOKE]: around}})
 
 
-def kept(level: Level, names: List[Tuple[int, str]]) -> List[Rule]:
+def kept(level: Level, names: List[Spot]) -> List[Rule]:
     """Rules that keep fields at the side that has them."""
     return [{ONLY[side]: name} for side, name in names if level.node(side, name)]
 
@@ -159,55 +141,42 @@ def draft(program: Program, level: Level) -> List[Rule]:
     """Rules for a level without rules: objects are opened, and what else differs is kept."""
     rules: List[Rule] = []
     for name in sorted({*level.fields(SPOKE), *level.fields(HUB)}):
-        one, two = (level.node(side, name) for side in SIDES)
-        if one and two and (alike(one, two) or not refused(program, level, [{"same": [name, name]}])):
-            continue
         below = level.inner([name, name], None)
-        if below:
-            rules.append({"object": {"names": [name, name], "rules": draft(program, below)}})
-        else:
-            rules += kept(level, [(SPOKE, name), (HUB, name)])
+        if not fits(program, level, [{"same": [name, name]}]):
+            opened = [{"object": {"names": [name, name], "rules": draft(program, below)}}] if below else []
+            rules += opened or kept(level, [(SPOKE, name), (HUB, name)])
     return rules
 
 
 # ---- what differs
 
 
-def all_differences(versions: List[str], one: Node, two: Node, path: str = "") -> Iterator[str]:
-    own = {"default"} if not path else set()
+def differences(versions: List[str], one: Node, two: Node, path: str = "") -> Iterator[str]:
+    """What differs between two schemas in more than their own defaults."""
     of = f" of {path}" if path else ""
-    for name in sorted({*one, *two} - PASSED - INSIDE - own):
+    for name in sorted({*one, *two} - PASSED - INSIDE - (set() if path else {"default"})):
         if not alike(one.get(name), two.get(name)):
-            has = [shown(it[name]) if name in it else "none" for it in (one, two)]
-            yield f"`{name}`{of} is {has[0]} at {versions[0]} and {has[1]} at {versions[1]}"
-    steps = [(name, one.get(name), two.get(name)) for name in ("items", "additionalProperties")]
-    named = [it.get("properties") or {} for it in (one, two)]
-    steps += [(name, *(it.get(name) for it in named)) for name in sorted({*named[0], *named[1]})]
-    for name, first, second in steps:
+            first, second = (shown(it[name]) if name in it else "none" for it in (one, two))
+            yield f"`{name}`{of} is {first} at {versions[0]} and {second} at {versions[1]}"
+    named = [{**{it: node.get(it) for it in INSIDE - {"properties"}}, **node.get("properties", {})} for node in (one, two)]
+    for name in sorted({*named[0], *named[1]}):
+        first, second = (it.get(name) for it in named)
         if first and second:
-            yield from all_differences(versions, first, second, inside(path, name))
+            yield from differences(versions, first, second, inside(path, name))
         elif first or second:
             there, lacks = versions if first else versions[::-1]
             yield f"`{inside(path, name)}` is there at {there} and not at {lacks}"
 
 
-def differences(versions: List[str], one: Node, two: Node) -> str:
-    """What differs between two schemas in more than their own defaults; of many differences the first ones."""
-    found = list(all_differences(versions, one, two))
-    return "; ".join(found[:MOST_TOLD]) + ("; and more" if len(found) > MOST_TOLD else "")
-
-
 def wider(one: Node, two: Node) -> Optional[Node]:
     """The keywords by which two nodes that differ in bounds alone take the values of both; nothing where more differs."""
     found: Node = {}
-    for name in {*one, *two} - PASSED - {"default"}:
+    for name in sorted({*one, *two} - PASSED - {"default"}):
         has = [it[name] for it in (one, two) if name in it]
         if len(has) == 2 and alike(*has):
             found[name] = has[0]
         elif name[:3] in ("min", "max"):
             found.update({name: (min if name[:3] == "min" else max)(has)} if len(has) == 2 else {})
-        elif name == "enum" and len(has) == 2:
-            found[name] = has[0] + [it for it in has[1] if not any(alike(it, other) for other in has[0])]
         elif name == "nullable":
             found[name] = True
         elif name not in ("format", "enum"):
