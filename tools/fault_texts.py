@@ -214,3 +214,12 @@ class Document:
             items[i : i + 1] = [self.place(it, where) if len(new) == 1 else it for it in new]
 
         return Edit(self.file, f"in place of {where}: {', '.join(map(pasted, new))}" if new else f"take out {where}", do)
+
+    def sift(self, items: List[Any]) -> List[Edit]:
+        """What is no object taken out of a list."""
+        out = [f"{self.of(items)}[{i}]" for i, it in enumerate(items) if not isinstance(it, dict)]
+
+        def do() -> None:
+            items[:] = [it for it in items if isinstance(it, dict)]
+
+        return [Edit(self.file, f"take out {it}", do) for it in out]

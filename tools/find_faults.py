@@ -14,7 +14,7 @@ from fit_faults import KEPT, UNITS, Case, elsewhere, fit_told
 from program_asks import Fault, Program
 from schemas import HUB, ONLY, SIDES, SPOKE, Level, Rule, draft, fits, kept, kind_of, levels, names_of, root_level
 
-MOST_TOLD, MOST_TIMES = 500, 3
+MOST_ROUNDS, MOST_TIMES = 500, 3
 PLAIN = ("same", "scale")
 FORM = '{"hub": VERSION, "spokes": {VERSION: [RULE, ..]}}'
 TWO = '["SPOKE", "HUB"]'
@@ -102,7 +102,8 @@ def rule_told(case: Case, items: List[Any], rule: Any, rest: str) -> Told:
     if level and new is tries[-1] and len(new) > 1:
         two = f", or make {level.versions[SPOKE]} the hub, where the two texts stand" * (len(texts(at(rule, "split", "spoke"))) == 2)
         says += f"; else {KEPT}{two}"
-    return Told(case.fault, f"{place}: {says}", [case.rules.swap(items, rule, new)], [])
+    edits = [case.rules.swap(items, rule, new)] if isinstance(rule, dict) else case.rules.sift(items)
+    return Told(case.fault, f"{place}: {says}", edits, [])
 
 
 class Search:
@@ -111,13 +112,15 @@ class Search:
     def __init__(self, program: Program, crd: Any, rules: Any) -> None:
         self.program, self.crd, self.rules = program, Document("crd", crd), Document("rules", rules)
         self.told: List[Told] = []
+        self.rounds = 0
 
     def tell(self, *told: Told) -> bool:
         """Tells faults and mends them, and returns whether there is more to look for."""
         self.told += told
+        self.rounds += 1
         for edit in [edit for it in told for edit in it.mends]:
             edit.do()
-        return all(it.mends for it in told) and len(self.told) < MOST_TOLD
+        return all(it.mends for it in told) and self.rounds < MOST_ROUNDS
 
     def first(self) -> Optional[Fault]:
         return self.program.first(self.crd.value, self.rules.value)
@@ -179,8 +182,14 @@ class Search:
             if not fault:
                 return True
             seen.append(fault)
-            told = fit_told(self.case(name, fault)) if name in spokes else self.no_list(name, fault)
-            if seen.count(fault) > MOST_TIMES or not self.tell(told):
+            if fault.word == "Shape":
+                told = [Told(fault, f"spokes.{name}: {MOST}; this is what mends would add", [], [])]
+            elif name in spokes:
+                cases = [self.case(name, it) for it in self.case(name, fault).alike()]
+                told = [fit_told(it) for it in cases if it is cases[0] or it.rule is None]
+            else:
+                told = [self.no_list(name, fault)]
+            if seen.count(fault) > MOST_TIMES or not self.tell(*told):
                 return False
 
     def no_list(self, name: str, fault: Fault) -> Told:

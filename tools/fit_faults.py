@@ -57,6 +57,12 @@ class Case:
         self.level, self.rule, self.spots = found[0] if found else (root, None, [])
         self.kind = kind_of(self.rule)
 
+    def alike(self) -> List[Fault]:
+        """The fault, and those of the other names of its level without a rule, where it is of one."""
+        others = [level.paths[side] + it for level in [self.level] for side in SIDES for it in level.unpaired(side)]
+        is_free = self.rule is None and self.fault.word == "NameMissing"
+        return [self.fault, *(Fault("rules", it, "NameMissing") for it in others if is_free and it != self.fault.path)]
+
     def is_of(self, level: Level, names: List[Spot]) -> bool:
         """Whether the fault is of a rule: NameTwice and NameMissing of one with the name, others of one whose first name it is."""
         near = names if self.fault.word in ("NameTwice", "NameMissing") else names[:1]
@@ -150,7 +156,7 @@ def partner(case: Case) -> Iterator[Way]:
     if case.rule or not case.spots:
         return
     (side, name), level = case.spots[0], case.level
-    free = [it for it in level.free(1 - side) if it not in level.equal()]
+    free = level.unpaired(1 - side)
     near = nearest(name, free)
     pairs = {it: {"same": [name, it][:: 1 - 2 * side]} for it in ([near] if near else free if len(free) <= MOST_TRIED else [])}
     fitting = [it for it in pairs if case.takes(pairs[it])]

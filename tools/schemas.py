@@ -82,6 +82,11 @@ class Level:
         there = self.free(HUB)
         return [name for name in self.free(SPOKE) if name in there]
 
+    def unpaired(self, side: int) -> List[str]:
+        """The names of a side that no rule has, and that the other side doesn't have so."""
+        equal = self.equal()
+        return [name for name in self.free(side) if name not in equal]
+
     def of(self, side: int, name: str) -> str:
         """A name with its path and its version."""
         return f"`{self.paths[side]}{name}` of {self.versions[side]}"
