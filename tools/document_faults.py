@@ -46,8 +46,8 @@ class Told(NamedTuple):
 
     fault: Fault
     says: str
-    mends: List[Edit]
-    others: List[Edit]
+    mends: List[Edit] = []
+    others: List[Edit] = []
 
 
 def spot(value: Any, path: str) -> Tuple[Any, Any]:
@@ -181,15 +181,15 @@ def of_keyword(crd: Document, program: Program, path: str, node: Dict[str, Any],
 def definition_told(crd: Document, program: Program, fault: Fault) -> List[Told]:
     """What is told of a fault of a definition; of a keyword that isn't taken, at each node that has it."""
     if fault.word in ("Shape", "Unknown"):
-        return [Told(fault, *of_name(crd, fault.path, fault.word), [])]
+        return [Told(fault, *of_name(crd, fault.path, fault.word))]
     if fault.word == "Limit":
         says = f"a version's schema has too many nodes, or this one stands too deep; put `{OPEN}`: true in place of a part further out"
-        return [Told(fault, says, [], [])]
+        return [Told(fault, says)]
     told = []
     for i, version in enumerate(list_at(crd.value, "spec", "versions")):
         for path, node in nodes(at(version, "schema", "openAPIV3Schema"), f"spec.versions[{i}].schema.openAPIV3Schema"):
             if path == fault.path or fault.word not in KEYWORDS and fault.word in node:
                 says, mends = of_keyword(crd, program, path, node, fault.word)
-                told.append(Told(Fault("crd", path, fault.word), f"{text_at(version, 'name')}: {says}", mends, []))
+                told.append(Told(Fault("crd", path, fault.word), f"{text_at(version, 'name')}: {says}", mends))
     holder, step = spot(crd.value, fault.path)
-    return told or [Told(fault, "a schema has to be an object", [crd.put(holder, step, {OPEN: True})] if isinstance(holder, dict) else [], [])]
+    return told or [Told(fault, "a schema has to be an object", [crd.put(holder, step, {OPEN: True})] if isinstance(holder, dict) else [])]

@@ -14,7 +14,7 @@ from __future__ import annotations
 
 import pathlib
 import sys
-from typing import Any, List, Sequence, Tuple
+from typing import List, Sequence, Tuple
 
 from document_faults import Told
 from fault_texts import at, read
@@ -32,27 +32,18 @@ ENDS = {
 }
 
 
-def swapped(crd: Any, rules: Any, names: Sequence[str]) -> str:
-    """What is said of two files that stand in each other's place."""
-    if "spokes" in (crd if isinstance(crd, dict) else {}) and at(rules, "spec") is not None:
-        return f"the two files are swapped: this one has the rules, and {names[1]} the definition; give --crd {names[1]} --rules {names[0]}"
-    return ""
-
-
 def all_faults(program: Program, texts: List[str], names: Sequence[str]) -> List[Told]:
-    """All faults of two texts: what of them is no JSON, or is passed over, and what is refused of the documents."""
+    """All faults of two texts: what of them is no JSON, or is passed over, and what is refused of the documents; the first one first."""
     first = program.first(*(it.encode() for it in texts))
-    (crd, of_crd), (rules, of_rules) = map(read, texts)
-    told = [Told(Fault(file, it.path if it.word == "Duplicate" else "", it.word), it.said(name), [], [])
-            for file, name, marks in (("crd", names[0], of_crd), ("rules", names[1], of_rules)) for it in marks]  # fmt: skip
-    if first and swapped(crd, rules, names):
-        return [Told(first, swapped(crd, rules, names), [], [])]
-    if first and crd is not None:
-        told += Search(program, crd, {} if rules is None else rules).all() if rules is not None else []
-    if first and first not in [it.fault for it in told]:
-        told.insert(0, Told(first, "this isn't taken", [], []))
-    told.sort(key=lambda it: it.fault != first)
-    return told
+    documents, marks = zip(*map(read, texts))
+    if first and at(documents[0], "spokes") is not None and at(documents[1], "spec") is not None:
+        swapped = f"the two files are swapped: this one has the rules, and {names[1]} the definition"
+        return [Told(first, f"{swapped}; give --crd {names[1]} --rules {names[0]}")]
+    of_texts = [(file, name, it) for file, name, found in zip(("crd", "rules"), names, marks) for it in found]
+    told = [Told(Fault(file, it.path if it.word == "Duplicate" else "", it.word), it.said(name)) for file, name, it in of_texts]
+    told += Search(program, *documents).all() if first and None not in documents else []
+    told += [Told(first, "this isn't taken")] if first and first not in [it.fault for it in told] else []
+    return sorted(told, key=lambda it: it.fault != first)
 
 
 def lines(told: Told, names: Sequence[str]) -> str:
@@ -75,27 +66,20 @@ def explained(kubeconv: str, crd: str, rules: str, names: Sequence[str], *of_obj
     if told:
         return "".join(lines(it, names) for it in told) + f"{len(told)} fault{'s' * (len(told) != 1)}\n", FAULTY
     documents = [read(it)[0] for it in texts[:2]]
-    return (report(program, *documents, texts[2], of_object[1]) if of_object else rows(program, *documents)), 0
-
-
-def is_put(text: str) -> bool:
-    """Writes a text on standard output, and returns whether that was done."""
-    try:
-        sys.stdout.buffer.write(text.encode("utf-8", "replace"))
-        sys.stdout.flush()
-    except OSError:
-        return False
-    return True
+    return (report(program, *documents, texts[2], of_object[1], of_object[0]) if of_object else rows(program, *documents)), 0
 
 
 def main(kubeconv: str, crd: str, rules: str, crd_name: str, rules_name: str, *of_object: str) -> int:
+    text, status = "", 0
     try:
         text, status = explained(kubeconv, crd, rules, [crd_name, rules_name], *of_object)
+        sys.stdout.buffer.write(text.encode("utf-8", "replace"))
+        sys.stdout.flush()
     except Failed as it:
-        text, status = "", it.status
-    if not is_put(text):
-        status = WRITE_FAILED
-    if status and (status != FAULTY or not text):
+        status = it.status
+    except OSError:
+        status, text = WRITE_FAILED, ""
+    if status and not text:
         print(f"explain: {ENDS.get(status, f'the program ended with status {status}')}", file=sys.stderr)
     return status
 

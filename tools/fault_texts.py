@@ -14,7 +14,7 @@ TOKEN = re.compile(r'"(?:[^"\\]|\\.)*"|[\[\]{}:,]|[^\s\[\]{}:,"]+', re.DOTALL)
 YAML = "YAML is turned into JSON by tools/yaml2json.py"
 # What is said of a text that stops being JSON: by what stands before and behind.
 HINTS = (
-    (r",\s*\Z", r"[\]}]", "a comma stands behind the last one; take it out"),
+    (r"", r",\s*[\]}]", "a comma stands behind the last one; take it out"),
     (r"", r"//|/\*|#", "JSON has no comments"),
     (r"", r"'", "texts stand in double quotes"),
     (r"", r"\Z", "the text ends too early; a `}` or a `]` is missing"),
@@ -146,7 +146,9 @@ def read(text: str) -> Tuple[Any, List[Mark]]:
     try:
         return json.loads(text, parse_int=whole, parse_float=whole, parse_constant=no_number), list(marks(text))
     except json.JSONDecodeError as fault:
-        before, behind = text[: fault.pos], text[fault.pos :].lstrip()
+        last = re.search(r",\s*\Z", text[: fault.pos]) if text[fault.pos : fault.pos + 1] in ("]", "}") else None
+        start = last.start() if last else fault.pos
+        before, behind = text[:start], text[start:].lstrip()
         hint = next((says for one, two, says in HINTS if re.search(one, before) and re.match(two, behind)), fault.msg)
         return None, [Mark("", "NotJson", line_at(text, len(text) - len(behind)), f"the text stops being JSON there: {hint}")]
     except RecursionError:

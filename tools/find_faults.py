@@ -93,8 +93,8 @@ def rule_told(case: Case, items: List[Any], rule: Any, rest: str) -> Told:
     names = [(side, it) for it in texts(rule) for side in SIDES]
     if level and kind_of(rule) == "move" and len(names) == 4:
         case.level, case.rule, case.kind, case.spots = level, rule, "move", list(zip(SIDES, texts(rule)))
-        for way in elsewhere(case):
-            return Told(case.fault, f"{place}: {says}: {way.says}", way.mends, [])
+        for told in elsewhere(case):
+            return told
     if level:
         ruled = [it for other in items if other is not rule for it in names_of(other)]
         tries = [*tries, kept(level, [it for it in dict.fromkeys(names) if it not in ruled])]
@@ -103,7 +103,7 @@ def rule_told(case: Case, items: List[Any], rule: Any, rest: str) -> Told:
         two = f", or make {level.versions[SPOKE]} the hub, where the two texts stand" * (len(texts(at(rule, "split", "spoke"))) == 2)
         says += f"; else {KEPT}{two}"
     edits = [case.rules.swap(items, rule, new)] if isinstance(rule, dict) else case.rules.sift(items)
-    return Told(case.fault, f"{place}: {says}", edits, [])
+    return Told(case.fault, f"{place}: {says}", edits)
 
 
 class Search:
@@ -145,7 +145,7 @@ class Search:
         value = {"hub": near, "spokes": other if isinstance(other, dict) else {}}.get(path)
         has = f"`{path}` is {shown(doc[path])}" if at(doc, path) is not None else f"there is no `{path}`" if path else f"this is {shown(doc)}"
         edits = [self.rules.put(doc, path, value) if value is not None else self.rules.drop(doc, path)] if path else []
-        return Told(fault, f"rules are {FORM}, of the versions {', '.join(names)}; {has}", edits, [])
+        return Told(fault, f"rules are {FORM}, of the versions {', '.join(names)}; {has}", edits)
 
     def of_spoke(self, fault: Fault, spokes: Dict[str, Any], name: str) -> Told:
         """What is told of the name of a spoke, or of what stands there in the place of a list."""
@@ -153,14 +153,14 @@ class Search:
         lacking = [it for it in names if it not in spokes and it != doc["hub"]]
         if name == doc["hub"]:
             edit = self.rules.put(doc, "hub", lacking[0]) if len(lacking) == 1 and spokes[name] else self.rules.drop(spokes, name)
-            return Told(fault, f"`{name}` is the hub, which has no rules; each rule stands at the other version", [edit], [])
+            return Told(fault, f"`{name}` is the hub, which has no rules; each rule stands at the other version", [edit])
         if name not in names:
             near = nearest(name, lacking)
             says = f"the definition has no version `{name}`{f'; `{near}` is meant' if near else ''}; its versions are {', '.join(names)}"
-            return Told(fault, says, [self.rules.rename(spokes, name, near) if near else self.rules.drop(spokes, name)], [])
+            return Told(fault, says, [self.rules.rename(spokes, name, near) if near else self.rules.drop(spokes, name)])
         items = [spokes[name]] if kind_of(spokes[name]) in TAKES else draft(self.program, root_level(self.crd.value, doc, name))
         says = f"a spoke has a list of rules, [RULE, ..]; here stands {shown(spokes[name])}"
-        return Told(fault, says, [self.rules.put(spokes, name, items)], [])
+        return Told(fault, says, [self.rules.put(spokes, name, items)])
 
     def forms(self) -> bool:
         """Tells the faults of both documents by themselves, and returns whether there is more to look for."""
@@ -183,7 +183,7 @@ class Search:
                 return True
             seen.append(fault)
             if fault.word == "Shape":
-                told = [Told(fault, f"spokes.{name}: {MOST}; this is what mends would add", [], [])]
+                told = [Told(fault, f"spokes.{name}: {MOST}; this is what mends would add")]
             elif name in spokes:
                 cases = [self.case(name, it) for it in self.case(name, fault).alike()]
                 told = [fit_told(it) for it in cases if it is cases[0] or it.rule is None]
@@ -196,7 +196,7 @@ class Search:
         """What is told of a version that has no list of rules."""
         root = root_level(self.crd.value, self.rules.value, name)
         says = f"`spokes` has no list for {name}, which differs from {root.versions[HUB]}; to begin with, a list that keeps what differs"
-        return Told(fault, says, [self.rules.put(self.rules.value["spokes"], name, draft(self.program, root))], [])
+        return Told(fault, says, [self.rules.put(self.rules.value["spokes"], name, draft(self.program, root))])
 
     def late(self, fault: Fault) -> Told:
         """What is told of a field of the hub's whose default comes from a spoke, too late for others."""
@@ -211,7 +211,7 @@ class Search:
         fields, others = " and ".join(level.of(*it) for level, it in has), " and ".join(lacks)
         says = f"{fields} has a default, which `{fault.path}` of {hub} gets where an object lacks it; but {hub} has none there, and {others} has the "
         says += f"field by neither `same` nor `scale`, so that it could take the place of what is kept; take it out, or pair the field at {others} so"
-        return Told(fault, says, [self.crd.drop(level.node(*it) or {}, "default") for level, it in has], [])
+        return Told(fault, says, [self.crd.drop(level.node(*it) or {}, "default") for level, it in has])
 
     def all(self) -> List[Told]:
         """All faults, the first one first."""

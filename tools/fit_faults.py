@@ -7,7 +7,7 @@ from __future__ import annotations
 
 import re
 from itertools import islice
-from typing import Any, Callable, Dict, Iterator, List, NamedTuple, Optional, Tuple
+from typing import Any, Callable, Dict, Iterator, List, Optional, Tuple
 
 from document_faults import Told, why_not
 from fault_texts import Document, Edit, alike, nearest, shown
@@ -31,14 +31,6 @@ TAKES = {
     "scale": "`scale` takes whole numbers, and at the hub the bounds of the spoke times `by`",
     **{it: "what is kept at one side has no default there, and isn't required" for it in ONLY},
 }
-
-
-class Way(NamedTuple):
-    """What may be done: in words, the edits that do it, and others that do too."""
-
-    says: str
-    mends: List[Edit]
-    others: List[Edit] = []
 
 
 class Case:
@@ -81,6 +73,30 @@ class Case:
         return [self.rules.add(rules, list(new)) if self.rule is None else self.rules.swap(rules, self.rule, list(new))]
 
 
+    def why(self) -> str:
+        """What is wrong."""
+        level, word, two = self.level, self.fault.word, self.nodes()
+        if word == "NameTwice" or self.kind == "move":
+            return f"`{self.fault.path}` is named twice" if word == "NameTwice" else "there is no rule `move`"
+        if word == "NameMissing" and self.rule is None:
+            (side, name), = self.spots[:1]
+            return f"no rule has {level.of(side, name)}, and {level.versions[1 - side]} has no field of that name that is free"
+        if word == "NameMissing":
+            absent = [it for it in self.spots if not level.node(*it)]
+            return " and ".join(f"{level.versions[side]} has no `{level.paths[side]}{name}`" for side, name in absent)
+        found = list(islice(differences(level.versions, *two), MOST_TOLD)) if len(two) == 2 and self.kind in ("", "same") else []
+        if word == "SchemaDiffers" and found:
+            return f"the two schemas differ: {'; '.join(found)}"
+        facts = [f"{level.of(*it)} is {shown(node)}{' and required' * level.is_required(*it)}" for it, node in zip(self.spots, two)]
+        return f"{TAKES[self.kind]}: {', '.join(facts)}"
+
+    def told(self, says: str, mends: List[Edit], others: Optional[List[Edit]] = None) -> Told:
+        """The fault as it is told: the rule's place, the versions, what is wrong, and what may be done."""
+        place = self.rules.of(self.level.rules) if self.rule is None else f"{self.rules.of(self.rule)} ({self.kind})"
+        way = f"{self.level.versions[SPOKE]} to {self.level.versions[HUB]}"
+        return Told(self.fault, f"{place}, {way}: {self.why()}; {says}", mends, others or [])
+
+
 # ---- rules of other names, or at other levels
 
 
@@ -92,17 +108,17 @@ def reversed_names(rule: Any) -> List[Rule]:
     return [with_names(rule, [name for _, name in names_of(rule)][::-1])] if kind not in ("", "split") else []
 
 
-def turned(case: Case) -> Iterator[Way]:
+def turned(case: Case) -> Iterator[Told]:
     """The names, the pairs or both the other way round."""
     tries = reversed_names(case.rule)
     for rule in [case.rule, *tries] if case.kind == "table" else []:
         tries = [{"table": {**rule["table"], "pairs": [it[::-1] for it in rule["table"]["pairs"]]}}, *tries]
-    yield from (Way("the other way round it fits", case.instead(it)) for it in tries if case.takes(it))
+    yield from (case.told("the other way round it fits", case.instead(it)) for it in tries if case.takes(it))
 
 
-def of_object(case: Case) -> Iterator[Way]:
+def of_object(case: Case) -> Iterator[Told]:
     if case.rule and any(name.split(".")[0] in OF_OBJECT for _, name in case.spots if not case.level.node(HUB, name)):
-        yield Way(GO_OVER, case.instead())
+        yield case.told(GO_OVER, case.instead())
 
 
 def could_be(level: Level, side: int, name: str) -> bool:
@@ -122,7 +138,7 @@ def moved_to(case: Case, adds: List[Tuple[Level, List[Rule]]]) -> List[Edit]:
     return case.instead(*own) + [case.rules.add(items, rules) for items, rules in lists.values()]
 
 
-def elsewhere(case: Case) -> Iterator[Way]:
+def elsewhere(case: Case) -> Iterator[Told]:
     """The rule at a level where it fits, or, where its names stand at two levels, both fields kept."""
     rule = {"same": [name for _, name in case.spots]} if case.kind == "move" else case.rule
     if not rule or case.kind == "object":
@@ -135,23 +151,23 @@ def elsewhere(case: Case) -> Iterator[Way]:
         if is_other and all(could_be(level, *it) for it in case.spots) and case.takes(last, level=level):
             fields = " and ".join(dict.fromkeys(level.of(*it) for it in names_of(last)))
             where = f"the `object` rule of `{level.paths[SPOKE][:-1]}`" if level.around else "the list of the spoke"
-            yield Way(f"{dotted}put the rule into {where}, for {fields}", moved_to(case, [(level, [last])]))
+            yield case.told(f"{dotted}put the rule into {where}, for {fields}", moved_to(case, [(level, [last])]))
     there = [(level, it) for spot, it in zip(case.spots, names_of(last)) for level in islice((at for at in every if could_be(at, *spot)), 1)]
     adds = [(level, kept(level, [it])) for level, it in there]
     if len({level.paths[side] for level, (side, _) in there}) > 1 and all(case.takes(*rules, level=level) for level, rules in adds):
-        yield Way(f"{' is '.join(level.of(*it) for level, it in there)}, and no rule moves a field to another level: {KEPT}", moved_to(case, adds))
+        yield case.told(f"{' is '.join(level.of(*it) for level, it in there)}, and no rule moves a field to another level: {KEPT}", moved_to(case, adds))
 
 
-def renamed(case: Case) -> Iterator[Way]:
+def renamed(case: Case) -> Iterator[Told]:
     """The nearest names in the place of those that aren't there."""
     level = case.level
     near = [name if level.node(side, name) else nearest(name, level.free(side)) or nearest(name, level.fields(side)) for side, name in case.spots]
     if case.rule and all(near) and case.takes(with_names(case.rule, near)):
         names = [it for it, (_, name) in zip(near, case.spots) if it != name]
-        yield Way(f"{' and '.join(f'`{it}`' for it in names)} is meant", case.instead(with_names(case.rule, near)))
+        yield case.told(f"{' and '.join(f'`{it}`' for it in names)} is meant", case.instead(with_names(case.rule, near)))
 
 
-def partner(case: Case) -> Iterator[Way]:
+def partner(case: Case) -> Iterator[Told]:
     """A field without a rule: kept, or paired with the one of the other side that it may be."""
     if case.rule or not case.spots:
         return
@@ -164,13 +180,13 @@ def partner(case: Case) -> Iterator[Way]:
     alone = kept(level, case.spots[:1])
     if case.takes(*alone):
         says = f"keep it, where {level.versions[1 - side]} has nothing like it{f', or pair it with `{other}`' if other else ''}"
-        yield Way(says, case.instead(*alone), case.instead(pairs[other]) if other else [])
+        yield case.told(says, case.instead(*alone), case.instead(pairs[other]) if other else None)
 
 
 # ---- other rules
 
 
-def opened(case: Case) -> Iterator[Way]:
+def opened(case: Case) -> Iterator[Told]:
     """An `object` rule for two objects, or a `scale` or a `table`, for two fields that differ."""
     if len(case.spots) != 2 or case.kind not in ("", "same", "scale"):
         return
@@ -186,10 +202,10 @@ def opened(case: Case) -> Iterator[Way]:
     for blank in (None, *shared[:1]):
         table = {"names": names, "pairs": [[it, it] for it in shared], "spokeBlank": blank, "hubBlank": blank}
         rules += [("pair the values that both have; any other is kept", {"table": table})] if shared else []
-    yield from (Way(says, case.instead(it)) for says, it in rules if it != case.rule and case.takes(it))
+    yield from (case.told(says, case.instead(it)) for says, it in rules if it != case.rule and case.takes(it))
 
 
-def both_kept(case: Case) -> Iterator[Way]:
+def both_kept(case: Case) -> Iterator[Told]:
     """Both fields kept, or where bounds alone differ those that take the values of both."""
     one, two = case.nodes() if len(case.spots) == 2 and case.kind in ("", "same") else ({}, {})
     wide = wider(one, two) if one and two else None
@@ -197,24 +213,24 @@ def both_kept(case: Case) -> Iterator[Way]:
     edits += [case.crd.drop(node, it) for node in (one, two) for it in sorted({*node} - {*(wide or node)} - PASSED - {"default"})]
     new = kept(case.level, case.spots)
     if case.takes(*new):
-        yield Way(KEPT + ", or give both the wider bounds" * bool(edits), case.instead(*new), edits)
+        yield case.told(KEPT + ", or give both the wider bounds" * bool(edits), case.instead(*new), edits)
     elif edits:
-        yield Way("give both the wider bounds", edits)
+        yield case.told("give both the wider bounds", edits)
     if case.rule:
-        yield Way("take out what isn't there", case.instead(*(it for it in new if case.takes(it))))
+        yield case.told("take out what isn't there", case.instead(*(it for it in new if case.takes(it))))
 
 
-def other_hub(case: Case) -> Iterator[Way]:
+def other_hub(case: Case) -> Iterator[Told]:
     """A number with the finer unit at the spoke."""
     level = case.level
     for other in reversed_names(case.rule) if case.kind == "scale" else []:
         if case.takes(other, level=Level(level.versions[::-1], level.nodes[::-1], None)):
             spoke, hub = level.versions
             says = f"the finer unit stands at {spoke}, and has to stand at the hub: make {spoke} the hub, with {shown(other)} for {hub}, or {KEPT}"
-            yield Way(says, case.instead(*kept(level, case.spots)))
+            yield case.told(says, case.instead(*kept(level, case.spots)))
 
 
-def stripped(case: Case) -> Iterator[Way]:
+def stripped(case: Case) -> Iterator[Told]:
     """The definition without what the rule doesn't take."""
     names = {"UnpairedDefault": ["default"], "RangeLost": {"split": ["enum", "maxLength", "minLength"], "scale": ["enum"]}.get(case.kind, [])}
     out = names.get(case.fault.word, ["nullable"] * (case.kind in ("split", "table", "scale")))
@@ -224,7 +240,7 @@ def stripped(case: Case) -> Iterator[Way]:
         if len(rest) < len(node.get("required", [])):
             edits.append(case.crd.put(node, "required", rest) if rest else case.crd.drop(node, "required"))
     if edits:
-        yield Way("take it out of the schema", edits)
+        yield case.told("take it out of the schema", edits)
 
 
 def pair_fault(case: Case, i: int) -> Optional[str]:
@@ -239,7 +255,7 @@ def pair_fault(case: Case, i: int) -> Optional[str]:
     return None
 
 
-def tables(case: Case) -> Iterator[Way]:
+def tables(case: Case) -> Iterator[Told]:
     """A table with pairs and blanks that the schemas take, and with defaults that are a pair."""
     if case.kind != "table":
         return
@@ -254,12 +270,12 @@ def tables(case: Case) -> Iterator[Way]:
     for blank in (blanks, {name: v for name, v in zip(BLANKS, filled) if table[name] is None}):
         rule = {"table": {**table, "pairs": pairs, **blank}}
         if rule != case.rule and (defaults or case.takes(rule)):
-            yield Way(says, defaults + case.instead(rule))
+            yield case.told(says, defaults + case.instead(rule))
     if defaults:
-        yield Way("so the defaults are a pair", defaults)
+        yield case.told("so the defaults are a pair", defaults)
 
 
-def bounds(case: Case) -> Iterator[Way]:
+def bounds(case: Case) -> Iterator[Told]:
     """The bounds that fit, at the hub or else at the spoke."""
     if case.kind != "scale":
         return
@@ -274,13 +290,13 @@ def bounds(case: Case) -> Iterator[Way]:
         nodes[side] = {**nodes[side], "properties": {**nodes[side]["properties"], case.spots[side][1]: node}}
         if INT64[0] <= low and fits(case.program, level, [case.rule], nodes):
             edits = [case.crd.put(two[side], it, node[it]) for it in ("minimum", "maximum") if two[side].get(it) != node[it]]
-            yield Way(f"{low} to {high} would fit at {level.versions[side]}", edits)
+            yield case.told(f"{low} to {high} would fit at {level.versions[side]}", edits)
 
 
 # ---- what is told
 
 # The ways to mend what a word is of, in the order in which they are tried.
-WAYS: Dict[str, List[Callable[[Case], Iterator[Way]]]] = {
+WAYS: Dict[str, List[Callable[[Case], Iterator[Told]]]] = {
     "NameMissing": [of_object, turned, elsewhere, renamed, partner, both_kept, stripped],
     "SchemaDiffers": [turned, elsewhere, opened, stripped, both_kept],
     "UnpairedDefault": [tables, stripped],
@@ -289,29 +305,11 @@ WAYS: Dict[str, List[Callable[[Case], Iterator[Way]]]] = {
 }
 
 
-def why(case: Case) -> str:
-    level, word, two = case.level, case.fault.word, case.nodes()
-    if word == "NameMissing" and not case.rule:
-        (side, name), = case.spots[:1]
-        return f"no rule has {level.of(side, name)}, and {level.versions[1 - side]} has no field of that name that is free"
-    if word == "NameMissing":
-        return " and ".join(f"{level.versions[side]} has no `{level.paths[side]}{name}`" for side, name in case.spots if not level.node(side, name))
-    found = list(islice(differences(level.versions, *two), MOST_TOLD)) if len(two) == 2 and case.kind in ("", "same") else []
-    if word == "SchemaDiffers" and found:
-        return f"the two schemas differ: {'; '.join(found)}"
-    facts = [f"{level.of(*it)} is {shown(node)}{' and required' * level.is_required(*it)}" for it, node in zip(case.spots, two)]
-    return f"{TAKES[case.kind]}: {', '.join(facts)}"
-
-
 def fit_told(case: Case) -> Told:
     """What is told of rules that don't fit."""
-    level = case.level
-    place = case.rules.of(level.rules) if case.rule is None else f"{case.rules.of(case.rule)} ({case.kind})"
-    start = f"{place}, {level.versions[SPOKE]} to {level.versions[HUB]}: "
+    named = [it for it in case.level.rules or [] if any(case.level.paths[side] + name == case.fault.path for side, name in names_of(it))]
     if case.fault.word == "NameTwice":
-        named = [it for it in level.rules or [] if any(level.paths[side] + name == case.fault.path for side, name in names_of(it))]
         out = min(named, key=lambda it: len(names_of(it)))
-        says = f"`{case.fault.path}` is named twice, by {' and '.join(map(case.rules.of, named))}; keep one of them"
-        return Told(case.fault, start + says, [case.rules.swap(level.rules or [], out, [])], [])
-    way = next((it for make in WAYS[case.fault.word] for it in make(case)), Way("no mend is known", []))
-    return Told(case.fault, f"{start}{why(case)}; {way.says}", way.mends, way.others)
+        says = f"keep one of {' and '.join(map(case.rules.of, named))}"
+        return case.told(says, [case.rules.swap(case.level.rules or [], out, [])])
+    return next((it for make in WAYS[case.fault.word] for it in make(case)), case.told("no mend is known", []))

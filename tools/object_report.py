@@ -7,7 +7,7 @@ documents are compared.
 from __future__ import annotations
 
 import json
-from typing import Any, Callable, Dict, Iterator, List, Sequence, Tuple
+from typing import Any, Dict, Iterator, List, Sequence
 
 from fault_texts import alike, at, compact, inside, list_at, read, shown, text_at
 from program_asks import Program
@@ -62,29 +62,33 @@ def dropped(doc: Any, back: Any) -> Iterator[str]:
         yield from (f"dropped as dead: {shown(it)}" for it in entries(text) if not any(alike(it, other) for other in after))
 
 
-def told(convert: Callable[[Any, str], Tuple[Any, str]], start: str, to: str, doc: Any) -> Iterator[str]:
+class Refused(Exception):
+    """The program refuses an object."""
+
+
+def told(program: Program, crd: Any, rules: Any, doc: Any, start: str, to: str) -> Iterator[str]:
     """An object taken from its own version to the other and back."""
-    own, refused = convert(doc, start)
-    if refused:
-        yield f"at {start} it is refused: {refused}"
-        return
-    yield from differences(FILLING, doc, own)
-    other, refused = convert(doc, to)
-    if refused:
-        yield f"at {to} it is refused: {refused}"
-        return
-    yield f"at {to} it is {compact(other)}"
-    yield from (f"kept at {to} in {key}: {text}" for key, text in kept_in(other).items())
-    back, refused = convert(other, start)
-    if refused:
-        yield f"at {start} it is refused: {refused}"
-        return
-    yield from dropped(doc, back)
-    found = list(differences(COMING, own, back))
-    yield from [f"put back at {start} it differs:", *found] if found else [f"put back at {start} it is as it was, filled"]
+    def at_version(value: Any, version: str) -> Any:
+        into, refused = program.convert(crd, rules, value, version)
+        if refused:
+            raise Refused(f"at {version} it is refused: {refused}")
+        return into
+
+    try:
+        own = at_version(doc, start)
+        yield from differences(FILLING, doc, own)
+        other = at_version(doc, to)
+        yield f"at {to} it is {compact(other)}"
+        yield from (f"kept at {to} in {key}: {text}" for key, text in kept_in(other).items())
+        back = at_version(other, start)
+        yield from dropped(doc, back)
+        found = list(differences(COMING, own, back))
+        yield from [f"put back at {start} it differs:", *found] if found else [f"put back at {start} it is as it was, filled"]
+    except Refused as it:
+        yield str(it)
 
 
-def report(program: Program, crd: Any, rules: Any, text: str, to: str, name: str = "") -> str:
+def report(program: Program, crd: Any, rules: Any, text: str, to: str, name: str) -> str:
     """What becomes of the object that a text is at a version of a definition."""
     doc, marks = read(text)
     lines = [f"{it.word}: {it.said(name)}" for it in marks]
@@ -98,5 +102,5 @@ def report(program: Program, crd: Any, rules: Any, text: str, to: str, name: str
     elif start not in names:
         lines.append(f"the object is of no version of the definition: its apiVersion ends with `{start}`")
     else:
-        lines += told(lambda it, version: program.convert(crd, rules, it, version), start, to, doc)
+        lines += told(program, crd, rules, doc, start, to)
     return "".join(f"{line}\n" for line in lines)
