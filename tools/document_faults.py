@@ -181,7 +181,10 @@ def of_keyword(crd: Document, program: Program, path: str, node: Dict[str, Any],
 def definition_told(crd: Document, program: Program, fault: Fault) -> List[Told]:
     """What is told of a fault of a definition; of a keyword that isn't taken, at each node that has it."""
     if fault.word in ("Shape", "Unknown"):
-        return [Told(fault, *of_name(crd, fault.path, fault.word))]
+        at_version = re.match(r"spec\.versions\[(\d+)\]", fault.path)
+        version = text_at(list_at(crd.value, "spec", "versions")[int(at_version.group(1))], "name") if at_version else ""
+        says, mends = of_name(crd, fault.path, fault.word)
+        return [Told(fault, f"{version}: {says}" if version else says, mends)]
     if fault.word == "Limit":
         says = f"a version's schema has too many nodes, or this one stands too deep; put `{OPEN}`: true in place of a part further out"
         return [Told(fault, says)]

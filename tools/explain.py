@@ -42,8 +42,8 @@ def all_faults(program: Program, texts: List[str], names: Sequence[str]) -> List
     of_texts = [(file, name, it) for file, name, found in zip(("crd", "rules"), names, marks) for it in found]
     told = [Told(Fault(file, it.path if it.word == "Duplicate" else "", it.word), it.said(name)) for file, name, it in of_texts]
     told += Search(program, *documents).all() if first and None not in documents else []
-    told += [Told(first, "this isn't taken")] if first and first not in [it.fault for it in told] else []
-    return sorted(told, key=lambda it: it.fault != first)
+    found = [it for it in told if it.fault == first] or ([Told(first, "this isn't taken")] if first else [])
+    return found[:1] + [it for it in told if it is not found[0]] if found else told
 
 
 def lines(told: Told, names: Sequence[str]) -> str:

@@ -185,7 +185,7 @@ class Search:
             if fault.word == "Shape":
                 told = [Told(fault, f"spokes.{name}: {MOST}; this is what mends would add")]
             elif name in spokes:
-                cases = [self.case(name, it) for it in self.case(name, fault).alike()]
+                cases = [self.case(name, it) for it in self.case(name, fault).with_others()]
                 told = [fit_told(it) for it in cases if it is cases[0] or it.rule is None]
             else:
                 told = [self.no_list(name, fault)]

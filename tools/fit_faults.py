@@ -49,7 +49,7 @@ class Case:
         self.level, self.rule, self.spots = found[0] if found else (root, None, [])
         self.kind = kind_of(self.rule)
 
-    def alike(self) -> List[Fault]:
+    def with_others(self) -> List[Fault]:
         """The fault, and those of the other names of its level without a rule, where it is of one."""
         others = [level.paths[side] + it for level in [self.level] for side in SIDES for it in level.unpaired(side)]
         is_free = self.rule is None and self.fault.word == "NameMissing"
@@ -141,7 +141,7 @@ def moved_to(case: Case, adds: List[Tuple[Level, List[Rule]]]) -> List[Edit]:
 def elsewhere(case: Case) -> Iterator[Told]:
     """The rule at a level where it fits, or, where its names stand at two levels, both fields kept."""
     rule = {"same": [name for _, name in case.spots]} if case.kind == "move" else case.rule
-    if not rule or case.kind == "object":
+    if not rule:
         return
     last = with_names(rule, [re.split(r"[./$]", name)[-1] for _, name in case.spots])
     dotted = "a name is one level; " * (last != rule)
