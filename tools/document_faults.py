@@ -169,12 +169,14 @@ def of_keyword(crd: Document, program: Program, path: str, node: Dict[str, Any],
         why = why_not(program, node, node[name])
         return f"the schema doesn't take its default {shown(node[name])}{f': {why}' if why else ''}", [crd.drop(node, name)]
     if name == "default" or name == "additionalProperties" and (is_root or "properties" in node):
-        return f"`{name}` can't stand {'at the root of a schema' if is_root else 'beside `properties`'}; take it out", [crd.drop(node, name)]
+        where = "at the root of a schema" if is_root else "beside `properties`"
+        return f"`{name}` can't stand {where}; take it out", [crd.drop(node, name)]
     wanted, kind = KEYWORDS[name]
     value = fixed(name, node.get(name)) if kind in ("", has) else None
     value = ORDER if name == "anyOf" and node.get(MIXED) is True else twin(crd, path, name) if value is None and kind == has else value
     value = {OPEN: True} if value is None and name not in node else value
-    says = f"`{name}` has to be {wanted}{f', at a node of type {kind}' if kind else ''}; it is {shown(node[name]) if name in node else 'not there'}"
+    stands = f", at a node of type {kind}" if kind else ""
+    says = f"`{name}` has to be {wanted}{stands}; it is {shown(node[name]) if name in node else 'not there'}"
     return says, [crd.drop(node, name) if value is None or value == node.get(name) else crd.put(node, name, value)]
 
 

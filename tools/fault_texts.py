@@ -128,13 +128,13 @@ def marks(text: str) -> Iterator[Mark]:
     seen: Dict[str, int] = {}
     for path, token, start, is_name in tokens(text):
         if is_name and path in seen:
-            says = f"the name {token} stands in this object already, at {line_at(text, seen[path])}; the last one counts alone. Keep one of them"
+            says = f"the name {token} stands in this object already, at {line_at(text, seen[path])}; the last one alone counts. Keep one"
             yield Mark(path, "Duplicate", line_at(text, start), says)
             seen = {it: at for it, at in seen.items() if not it.startswith((f"{path}.", f"{path}["))}
         elif is_name:
             seen[path] = start
         elif token[0] in "-0123456789" and token != str(whole(token)):
-            says = f"the number {token} at `{path}` has a fraction or an exponent, or is beyond 64 bits; write it as a whole number, or as a text"
+            says = f"the number {token} at `{path}` has a fraction or an exponent, or is beyond 64 bits; write a whole number, or a text"
             yield Mark(path, "NotWhole", line_at(text, start), says)
 
 

@@ -53,7 +53,7 @@ def unrequired(value: Any) -> Any:
 def filled(program: Program, crd: Any, rules: Any, root: Level, side: int) -> Any:
     """What the program makes at the hub of an object of a side that has no field but the objects around fields."""
     spec = crd["spec"]
-    body: Dict[str, Any] = {"apiVersion": f"{spec['group']}/{root.versions[side]}", "kind": spec["names"]["kind"], "metadata": {"name": "a"}}
+    body: Dict[str, Any] = {"apiVersion": f"{spec['group']}/{root.versions[side]}", "kind": spec["names"]["kind"], "metadata": {}}
     for level in levels(root):
         node = body
         for step in level.steps[side]:
@@ -86,9 +86,7 @@ def spoke_rows(program: Program, crd: Any, rules: Any, root: Level) -> Iterator[
     yield row("  ", spoke, "rule", hub, "kept")
     bodies = [filled(program, crd, rules, root, side) for side in SIDES]
     for level in levels(root):
-        own = sorted(level.rules or [], key=lambda it: kind_of(it) == "object")
-        objects = [it for it in own if kind_of(it) == "object"]
-        for rule in own[: len(own) - len(objects)] + [{"same": [it, it]} for it in level.equal()] + objects:
+        for rule in sorted(level.all_rules(), key=lambda it: kind_of(it) == "object"):
             yield rule_row(level, rule, bodies)
 
 

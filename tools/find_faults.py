@@ -20,9 +20,10 @@ FORM = '{"hub": VERSION, "spokes": {VERSION: [RULE, ..]}}'
 TWO = '["SPOKE", "HUB"]'
 # What each rule takes, and the names of its parts.
 TAKES = {
-    "same": (TWO,), "spokeOnly": ('"NAME"',), "hubOnly": ('"NAME"',), "object": (f'{{"names": {TWO}, "rules": [RULE, ..]}}', "names", "rules"),
+    "same": (TWO,), "spokeOnly": ('"NAME"',), "hubOnly": ('"NAME"',),
+    "object": (f'{{"names": {TWO}, "rules": [RULE, ..]}}', "names", "rules"),
     "split": ('{"spoke": "NAME", "hub": ["FIRST", "SECOND"]}, and cuts at the last colon, nowhere else', "spoke", "hub"),
-    "table": (f'{{"names": {TWO}, "pairs": [[SPOKE, HUB], ..], "spokeBlank": VALUE, "hubBlank": VALUE}}, of texts, whole numbers, true and false',
+    "table": (f'{{"names": {TWO}, "pairs": [[SPOKE, HUB], ..], "spokeBlank": VALUE, "hubBlank": VALUE}}, of texts, numbers, true, false',
               "names", "pairs", "spokeBlank", "hubBlank"),
     "scale": (f'{{"names": {TWO}, "by": NUMBER}}, of a number from 2 to 1000000000', "names", "by"),
 }  # fmt: skip
@@ -143,7 +144,7 @@ class Search:
         near = nearest(text_at(doc, "hub"), names) or next((it for it in names if at(doc, "spokes", it) is None), names[0])
         other = doc.get(nearest(path, [it for it in doc if it != "hub"])) if isinstance(doc, dict) else None
         value = {"hub": near, "spokes": other if isinstance(other, dict) else {}}.get(path)
-        has = f"`{path}` is {shown(doc[path])}" if at(doc, path) is not None else f"there is no `{path}`" if path else f"this is {shown(doc)}"
+        has = f"`{path}` is {shown(doc[path]) if path in doc else 'not there'}" if path else f"this is {shown(doc)}"
         edits = [self.rules.put(doc, path, value) if value is not None else self.rules.drop(doc, path)] if path else []
         return Told(fault, f"rules are {FORM}, of the versions {', '.join(names)}; {has}", edits)
 
@@ -202,16 +203,15 @@ class Search:
         """What is told of a field of the hub's whose default comes from a spoke, too late for others."""
         has, lacks, hub = [], [], self.rules.value["hub"]
         for spoke in [it for it in self.versions() if it != hub]:
-            found = [(level, (HUB, fault.path[len(level.paths[HUB]) :])) for level in levels(root_level(self.crd.value, self.rules.value, spoke))
-                     if fault.path.startswith(level.paths[HUB])]  # fmt: skip
-            rules = [(level, it) for level, spot in found for it in [*(level.rules or []), *({"same": [n, n]} for n in level.equal())]
-                     if spot in names_of(it) and kind_of(it) in PLAIN]  # fmt: skip
-            has += [(level, names_of(it)[0]) for level, it in rules if "default" in (level.node(*names_of(it)[0]) or {})]
-            lacks += [] if rules else [spoke]
+            every = list(levels(root_level(self.crd.value, self.rules.value, spoke)))
+            ruled = [(level, it) for level in every for it in level.all_rules() if kind_of(it) in PLAIN]
+            pairs = [(level, own) for level, it in ruled for own, (_, name) in [names_of(it)] if level.paths[HUB] + name == fault.path]
+            has += [(level, own) for level, own in pairs if "default" in (level.node(*own) or {})]
+            lacks += [] if pairs else [spoke]
         fields, others = " and ".join(level.of(*it) for level, it in has), " and ".join(lacks)
-        says = f"{fields} has a default, which `{fault.path}` of {hub} gets where an object lacks it; but {hub} has none there, and {others} has the "
-        says += f"field by neither `same` nor `scale`, so that it could take the place of what is kept; take it out, or pair the field at {others} so"
-        return Told(fault, says, [self.crd.drop(level.node(*it) or {}, "default") for level, it in has])
+        says = f"{fields} has a default, and {hub} has none. {others} has the field by neither `same` nor `scale`, so that the default "
+        cure = "could take the place of a value that is kept for it; take the default out, or pair the field there so"
+        return Told(fault, says + cure, [self.crd.drop(level.node(*it) or {}, "default") for level, it in has])
 
     def all(self) -> List[Told]:
         """All faults, the first one first."""

@@ -12,12 +12,13 @@ from typing import Any, Callable, Dict, Iterator, List, Optional, Tuple
 from document_faults import Told, why_not
 from fault_texts import Document, Edit, alike, nearest, shown
 from program_asks import Fault, Program
-from schemas import (HUB, MOST_TOLD, OF_OBJECT, ONLY, PASSED, SIDES, SPOKE, Level, Node, Rule, Spot, differences, draft, fits, kept, kind_of,
-                     levels, names_of, wider, with_names)
+from schemas import (HUB, OF_OBJECT, ONLY, PASSED, SIDES, SPOKE, Level, Node, Rule, Spot, differences, draft, fits, kept, kind_of, levels,
+                     names_of, wider, with_names)  # fmt: skip
 
-MOST_TRIED = 6
+MOST_TRIED = MOST_TOLD = 6
 INT32, INT64 = (-(2**31), 2**31 - 1), (-(2**63), 2**63 - 1)
 BLANKS = ("spokeBlank", "hubBlank")
+PLAIN = ["enum", "maxLength", "minLength"]
 UNITS = (1000, 60, 3600, 1000000, 1000000000, 1024, 24, 86400, 100)
 KEPT = "keep the fields at both sides: then neither is shown at the other version"
 GO_OVER = "`metadata`, `apiVersion` and `kind` go over by themselves, and no rule names them; take the rule out"
@@ -124,7 +125,8 @@ def of_object(case: Case) -> Iterator[Told]:
 def could_be(level: Level, side: int, name: str) -> bool:
     """Whether a name, perhaps a dotted one, may mean the field of the level that its last part names."""
     steps = [it for it in re.split(r"[./$]+", name) if it]
-    return bool(steps) and level.node(side, steps[-1]) is not None and f".{level.paths[side]}".endswith("".join(f".{it}" for it in steps[:-1]) + ".")
+    around = level.steps[side][len(level.steps[side]) - len(steps) + 1 :]
+    return bool(steps) and level.node(side, steps[-1]) is not None and around == steps[:-1]
 
 
 def moved_to(case: Case, adds: List[Tuple[Level, List[Rule]]]) -> List[Edit]:
@@ -152,16 +154,18 @@ def elsewhere(case: Case) -> Iterator[Told]:
             fields = " and ".join(dict.fromkeys(level.of(*it) for it in names_of(last)))
             where = f"the `object` rule of `{level.paths[SPOKE][:-1]}`" if level.around else "the list of the spoke"
             yield case.told(f"{dotted}put the rule into {where}, for {fields}", moved_to(case, [(level, [last])]))
-    there = [(level, it) for spot, it in zip(case.spots, names_of(last)) for level in islice((at for at in every if could_be(at, *spot)), 1)]
+    there = [(level, it) for spot, it in zip(case.spots, names_of(last)) for level in [it for it in every if could_be(it, *spot)][:1]]
     adds = [(level, kept(level, [it])) for level, it in there]
     if len({level.paths[side] for level, (side, _) in there}) > 1 and all(case.takes(*rules, level=level) for level, rules in adds):
-        yield case.told(f"{' is '.join(level.of(*it) for level, it in there)}, and no rule moves a field to another level: {KEPT}", moved_to(case, adds))
+        moves = " is ".join(level.of(*it) for level, it in there)
+        yield case.told(f"{moves}, and no rule moves a field to another level: {KEPT}", moved_to(case, adds))
 
 
 def renamed(case: Case) -> Iterator[Told]:
     """The nearest names in the place of those that aren't there."""
     level = case.level
-    near = [name if level.node(side, name) else nearest(name, level.free(side)) or nearest(name, level.fields(side)) for side, name in case.spots]
+    near = [nearest(name, level.free(side)) or nearest(name, level.fields(side)) for side, name in case.spots]
+    near = [name if level.node(side, name) else it for it, (side, name) in zip(near, case.spots)]
     if case.rule and all(near) and case.takes(with_names(case.rule, near)):
         names = [it for it, (_, name) in zip(near, case.spots) if it != name]
         yield case.told(f"{' and '.join(f'`{it}`' for it in names)} is meant", case.instead(with_names(case.rule, near)))
@@ -226,13 +230,13 @@ def other_hub(case: Case) -> Iterator[Told]:
     for other in reversed_names(case.rule) if case.kind == "scale" else []:
         if case.takes(other, level=Level(level.versions[::-1], level.nodes[::-1], None)):
             spoke, hub = level.versions
-            says = f"the finer unit stands at {spoke}, and has to stand at the hub: make {spoke} the hub, with {shown(other)} for {hub}, or {KEPT}"
+            says = f"the finer unit has to stand at the hub: make {spoke} the hub, with {shown(other)} for {hub}, or {KEPT}"
             yield case.told(says, case.instead(*kept(level, case.spots)))
 
 
 def stripped(case: Case) -> Iterator[Told]:
     """The definition without what the rule doesn't take."""
-    names = {"UnpairedDefault": ["default"], "RangeLost": {"split": ["enum", "maxLength", "minLength"], "scale": ["enum"]}.get(case.kind, [])}
+    names = {"UnpairedDefault": ["default"], "RangeLost": {"split": PLAIN, "scale": PLAIN[:1]}.get(case.kind, [])}
     out = names.get(case.fault.word, ["nullable"] * (case.kind in ("split", "table", "scale")))
     edits = [case.crd.drop(node, it) for node in case.nodes() for it in out if it in node]
     for side, node in enumerate(case.level.nodes) if case.fault.word not in names else ():

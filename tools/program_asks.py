@@ -30,8 +30,8 @@ class Fault(NamedTuple):
 
 def definition(schemas: Dict[str, Any]) -> Dict[str, Any]:
     """A definition of versions with these schemas, of which the first is stored."""
-    stored = next(iter(schemas))
-    versions = [{"name": name, "served": True, "storage": name == stored, "schema": {"openAPIV3Schema": it}} for name, it in schemas.items()]
+    named = list(schemas.items())
+    versions = [{"name": name, "served": True, "storage": i == 0, "schema": {"openAPIV3Schema": it}} for i, (name, it) in enumerate(named)]
     spec = {"group": "a", "names": {"kind": "A", "plural": "a"}, "scope": "Namespaced", "versions": versions}
     return {**API, "metadata": {"name": "a.a"}, "spec": spec}
 

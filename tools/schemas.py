@@ -17,7 +17,6 @@ MIXED, OPEN = "x-kubernetes-int-or-string", "x-kubernetes-preserve-unknown-field
 ONLY = ("spokeOnly", "hubOnly")
 PASSED = {"description", "title", "example", "externalDocs"}
 INSIDE = {"properties", "items", "additionalProperties"}
-MOST_TOLD = 6
 Node = Dict[str, Any]
 Rule = Dict[str, Any]
 Spot = Tuple[int, str]
@@ -81,6 +80,10 @@ class Level:
         """The names that no rule has, and that both sides have."""
         there = self.free(HUB)
         return [name for name in self.free(SPOKE) if name in there]
+
+    def all_rules(self) -> List[Rule]:
+        """The rules of the level, and one for each name that goes over without one."""
+        return [*(self.rules or []), *({"same": [it, it]} for it in self.equal())]
 
     def unpaired(self, side: int) -> List[str]:
         """The names of a side that no rule has, and that the other side doesn't have so."""
