@@ -14,7 +14,7 @@ from fit_faults import KEPT, UNITS, Case, elsewhere, fit_told
 from program_asks import Fault, Program
 from schemas import HUB, ONLY, SIDES, SPOKE, Level, Rule, draft, fits, kept, kind_of, levels, names_of, root_level
 
-MOST_ROUNDS, MOST_TIMES = 500, 3
+MOST_ROUNDS = 500
 PLAIN = ("same", "scale")
 FORM = '{"hub": VERSION, "spokes": {VERSION: [RULE, ..]}}'
 TWO = '["SPOKE", "HUB"]'
@@ -55,7 +55,9 @@ def repaired(level: Optional[Level], kind: str, v: Any) -> List[List[Rule]]:
         is_plain = isinstance(parts.get("spoke"), str) and set(given) <= set(parts)
         return [[{kind: {**parts, "hub": texts(parts.get("hub"))}}]] if is_plain else []
     names = texts(parts.get("names"))[:2]
-    parts["names"] = names * (2 if len(names) == 1 else 1)
+    if not names:
+        return []
+    parts["names"] = names * (3 - len(names))
     if kind == "scale":
         by = [int(it) for it in [parts.get("by")] if is_whole(it) or (isinstance(it, str) and it.isdigit())]
         return [[{kind: {**parts, "by": it}}] for it in [*by, *UNITS] if it > 1] + [[{"same": parts["names"]}]]
@@ -116,7 +118,9 @@ class Search:
         self.rounds = 0
 
     def tell(self, *told: Told) -> bool:
-        """Tells faults and mends them, and returns whether there is more to look for."""
+        """Tells faults and mends them, and returns whether there is more to look for: not where a mend was of no use."""
+        if told[0][:2] in [it[:2] for it in self.told]:
+            return False
         self.told += told
         self.rounds += 1
         for edit in [edit for it in told for edit in it.mends]:
@@ -174,7 +178,7 @@ class Search:
 
     def spoke(self, name: str) -> bool:
         """Tells the faults of a spoke by itself, and returns whether there is more to look for."""
-        hub, seen = self.rules.value["hub"], []  # type: str, List[Fault]
+        hub = self.rules.value["hub"]
         while True:
             crd, spokes = self.crd.value, self.rules.value["spokes"]
             versions = [{**v, "served": True, "storage": v["name"] == hub} for v in crd["spec"]["versions"] if v["name"] in (name, hub)]
@@ -182,7 +186,6 @@ class Search:
             fault = self.program.first(alone, {"hub": hub, "spokes": {name: spokes[name]} if name in spokes else {}})
             if not fault:
                 return True
-            seen.append(fault)
             if fault.word == "Shape":
                 told = [Told(fault, f"spokes.{name}: {MOST}; this is what mends would add")]
             elif name in spokes:
@@ -190,7 +193,7 @@ class Search:
                 told = [fit_told(it) for it in cases if it is cases[0] or it.rule is None]
             else:
                 told = [self.no_list(name, fault)]
-            if seen.count(fault) > MOST_TIMES or not self.tell(*told):
+            if not self.tell(*told):
                 return False
 
     def no_list(self, name: str, fault: Fault) -> Told:
