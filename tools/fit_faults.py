@@ -73,7 +73,6 @@ class Case:
         rules = self.level.rules if self.level.rules is not None else []
         return [self.rules.add(rules, list(new)) if self.rule is None else self.rules.swap(rules, self.rule, list(new))]
 
-
     def why(self) -> str:
         """What is wrong."""
         level, word, two = self.level, self.fault.word, self.nodes()
@@ -271,12 +270,11 @@ def tables(case: Case) -> Iterator[Told]:
     defaults = [case.crd.put(node, "default", v) for node, v in zip(two, filled) if own and not alike(node.get("default"), v)]
     blanks: Dict[str, Any] = {it: None for it, node in zip(BLANKS, two) if table[it] is not None and why_not(case.program, node, table[it])}
     says = "; ".join([it for it in found if it] + [f"`{it}`: {shown(table[it])} isn't taken" for it in blanks]) or "so it fits"
-    for blank in (blanks, {name: v for name, v in zip(BLANKS, filled) if table[name] is None}):
+    tries = [blanks, {name: v for name, v in zip(BLANKS, filled) if table[name] is None}]
+    for blank in tries[::-1] if own else tries:
         rule = {"table": {**table, "pairs": pairs, **blank}}
-        if rule != case.rule and (defaults or case.takes(rule)):
-            yield case.told(says, defaults + case.instead(rule))
-    if defaults:
-        yield case.told("so the defaults are a pair", defaults)
+        if defaults or rule != case.rule and case.takes(rule):
+            yield case.told(says, defaults + (case.instead(rule) if rule != case.rule else []))
 
 
 def bounds(case: Case) -> Iterator[Told]:
