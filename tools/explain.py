@@ -19,7 +19,7 @@ from typing import List, Sequence, Tuple
 from document_faults import Told
 from fault_texts import at, read
 from field_rows import rows
-from find_faults import Search
+from find_faults import UNREAD, Search
 from object_report import report
 from program_asks import FAULTY, UNREADABLE, Failed, Fault, Program
 
@@ -42,7 +42,7 @@ def all_faults(program: Program, texts: List[str], names: Sequence[str]) -> List
     of_texts = [(file, name, it) for file, name, found in zip(("crd", "rules"), names, marks) for it in found]
     told = [Told(Fault(file, it.path if it.word == "Duplicate" else "", it.word), it.said(name)) for file, name, it in of_texts]
     told += Search(program, *documents).all() if first and None not in documents else []
-    found = [it for it in told if it.fault == first] or ([Told(first, "this isn't taken")] if first else [])
+    found = [it for it in told if it.fault == first] or ([Told(first, UNREAD.get(first.word, "this isn't taken"))] if first else [])
     return found[:1] + [it for it in told if it is not found[0]] if found else told
 
 

@@ -10,12 +10,18 @@ from typing import Any, Dict, List, Optional, Tuple
 
 from document_faults import Told, definition_told, spot
 from fault_texts import Document, at, is_whole, list_at, nearest, shown, text_at
-from fit_faults import KEPT, UNITS, Case, elsewhere, fit_told
+from fit_faults import KEPT, UNITS, WAYS as FIT, Case, elsewhere, fit_told
 from program_asks import Fault, Program
 from schemas import HUB, ONLY, SIDES, SPOKE, Level, Rule, draft, fits, kept, kind_of, levels, names_of, root_level
 
 MOST_ROUNDS = 500
 PLAIN = ("same", "scale")
+# What is said of a text that isn't read, where more isn't known.
+UNREAD = {
+    "NotJson": "the text isn't JSON, has more than 127 levels, or a text in it has half of a pair of surrogates",
+    "TooDeep": "the text has more than 100 levels of lists and objects",
+    "NotWhole": "a number has a fraction or an exponent, or is beyond 64 bits",
+}
 FORM = '{"hub": VERSION, "spokes": {VERSION: [RULE, ..]}}'
 TWO = '["SPOKE", "HUB"]'
 # What each rule takes, and the names of its parts.
@@ -170,8 +176,8 @@ class Search:
     def forms(self) -> bool:
         """Tells the faults of both documents by themselves, and returns whether there is more to look for."""
         fault = self.first()
-        while fault and (fault.file == "crd" or fault.word == "Shape"):
-            if not self.tell(*(definition_told(self.crd, self.program, fault) if fault.file == "crd" else [self.of_form(fault)])):
+        while fault and (fault.file == "crd" or fault.word not in FIT):
+            if fault.word in UNREAD or not self.tell(*(definition_told(self.crd, self.program, fault) if fault.file == "crd" else [self.of_form(fault)])):
                 return False
             fault = self.first()
         return fault is not None

@@ -304,6 +304,7 @@ WAYS: Dict[str, List[Callable[[Case], Iterator[Told]]]] = {
     "UnpairedDefault": [tables, stripped],
     "RequiredLost": [tables, stripped],
     "RangeLost": [turned, other_hub, stripped, tables, bounds, both_kept],
+    "NameTwice": [],
 }
 
 
