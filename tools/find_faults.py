@@ -192,6 +192,10 @@ class Search:
             fault = self.program.first(alone, {"hub": hub, "spokes": {name: spokes[name]} if name in spokes else {}})
             if not fault:
                 return True
+            if fault.file == "crd":  # a mend brought it about
+                if not self.forms():
+                    return False
+                continue
             if fault.word == "Shape":
                 told = [Told(fault, f"spokes.{name}: {MOST}; this is what mends would add")]
             elif name in spokes:

@@ -258,13 +258,20 @@ def pair_fault(case: Case, i: int) -> Optional[str]:
     return None
 
 
+def is_text(value: Any) -> bool:
+    return isinstance(value, str)
+
+
 def tables(case: Case) -> Iterator[Told]:
     """A table with pairs and blanks that the schemas take, and with defaults that are a pair."""
     if case.kind != "table":
         return
     table, two = case.rule["table"], case.nodes()
-    found = [pair_fault(case, i) if case.fault.word == "RangeLost" else None for i in range(len(table["pairs"]))]
+    found = [pair_fault(case, i) for i in range(len(table["pairs"]))]
     pairs = [it for it, why in zip(table["pairs"], found) if not why]
+    for pair in [it for it, why in zip(table["pairs"], found) if why]:
+        near = [nearest(v, filter(is_text, node.get("enum", []))) or v if is_text(v) else v for v, node in zip(pair, two)]
+        pairs += [near] if near != pair and not any(alike(near[side], it[side]) for it in pairs for side in SIDES) else []
     own = [(side, node["default"]) for side, node in enumerate(two) if "default" in node][:1]
     filled = next((it for it in pairs if all(alike(it[side], v) for side, v in own)), [])
     defaults = [case.crd.put(node, "default", v) for node, v in zip(two, filled) if own and not alike(node.get("default"), v)]
