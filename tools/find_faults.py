@@ -177,7 +177,9 @@ class Search:
         """Tells the faults of both documents by themselves, and returns whether there is more to look for."""
         fault = self.first()
         while fault and (fault.file == "crd" or fault.word not in FIT):
-            if fault.word in UNREAD or not self.tell(*(definition_told(self.crd, self.program, fault) if fault.file == "crd" else [self.of_form(fault)])):
+            of_crd = fault.file == "crd" and fault.word not in UNREAD
+            told = definition_told(self.crd, self.program, fault) if of_crd else [self.of_form(fault)] if fault.word == "Shape" else []
+            if not told or not self.tell(*told):
                 return False
             fault = self.first()
         return fault is not None
