@@ -148,7 +148,7 @@ def elsewhere(case: Case) -> Iterator[Told]:
     dotted = "a name is one level; " * (last != rule)
     every = list(levels(case.root, with_closed=True))
     for level in every:
-        is_other = level.paths != case.level.paths or last != case.rule
+        is_other = (level.paths != case.level.paths or last != case.rule) and all(name in level.free(side) for side, name in names_of(last))
         if is_other and all(could_be(level, *it) for it in case.spots) and case.takes(last, level=level):
             fields = " and ".join(dict.fromkeys(level.of(*it) for it in names_of(last)))
             where = f"the `object` rule of `{level.paths[SPOKE][:-1]}`" if level.around else "the list of the spoke"
