@@ -172,14 +172,14 @@ class Document:
     def __init__(self, file: str, value: Any) -> None:
         self.file, self.value = file, value
         self.places: Dict[int, str] = {}
-        self.kept: List[Any] = []  # so that no other part gets the identity of one that was taken out
+        self.kept: List[Tuple[Any, Any]] = []  # all parts, so that no other gets the identity of one that was taken out, and as they were
         self.place(value, "")
 
     def place(self, value: Any, path: str) -> Any:
         """Takes the path for the place of a value, and of what is inside it."""
         if isinstance(value, (dict, list)):
             self.places[id(value)] = path
-            self.kept.append(value)
+            self.kept.append((value, copy.copy(value)))
         for name, it in value.items() if isinstance(value, dict) else ():
             self.place(it, inside(path, name))
         for i, it in enumerate(value) if isinstance(value, list) else ():
@@ -213,13 +213,14 @@ class Document:
         where = self.places.get(id(item)) or f"{self.of(items)}[{i}]"
 
         def do() -> None:
-            items[i : i + 1] = [self.place(it, where) if len(new) == 1 else it for it in new]
+            items[i : i + 1] = [it if n else self.place(it, where) for n, it in enumerate(new)]
 
         return Edit(self.file, f"in place of {where}: {', '.join(map(pasted, new))}" if new else f"take out {where}", do)
 
     def sift(self, items: List[Any]) -> List[Edit]:
         """What is no object taken out of a list."""
-        out = [f"{self.of(items)}[{i}]" for i, it in enumerate(items) if not isinstance(it, dict)]
+        were = next((it for own, it in self.kept if own is items), items)
+        out = [f"{self.of(items)}[{i}]" for i, it in enumerate(were) if not isinstance(it, dict)]
 
         def do() -> None:
             items[:] = [it for it in items if isinstance(it, dict)]

@@ -135,7 +135,7 @@ def moved_to(case: Case, adds: List[Tuple[Level, List[Rule]]]) -> List[Edit]:
         while level.rules is None and level.around:
             rules, level = [{"object": {"names": list(level.names), "rules": rules}}], level.around
         lists.setdefault(id(level.rules), (level.rules or [], []))[1].extend(rules)
-    own = lists.pop(id(case.level.rules), ([], []))[1]
+    own = sorted(lists.pop(id(case.level.rules), ([], []))[1], key=lambda it: kind_of(it) != "object")
     return case.instead(*own) + [case.rules.add(items, rules) for items, rules in lists.values()]
 
 
