@@ -5,8 +5,8 @@
 
 KUBECONV is a built kubeconv, which tools/explain.py asks of each case: what that tells has to be what answers.txt has, and the line of
 kubeconv for the two files has to be the first one of it. Where each fault has something to paste, it is pasted, and then kubeconv has to
-take the two files; so with what may be pasted instead. README.md says how a case is written. Prints how many cases were looked at; what differs
-is told on standard error, and then the status is 1. --write writes answers.txt anew, to be read by hand.
+take the two files; so with what may be pasted instead. README.md says how a case is written. Prints how many cases were looked at; what
+differs is told on standard error, and then the status is 1. --write writes answers.txt anew, to be read by hand.
 """
 from __future__ import annotations
 
