@@ -47,7 +47,7 @@ PAGES = {
     "docs/PERFORMANCE.md": (65, 750),
     "docs/POST.md": (45, 500),
     "docs/PROMISES.md": (250, 5900),
-    "docs/RULES.md": (200, 2480),
+    "docs/RULES.md": (210, 2620),
     "bench/README.md": (22, 275),
     "checks/README.md": (20, 310),
 }
