@@ -92,7 +92,8 @@ def scripts(_: Optional[str]) -> Came:
 def own_tests(_: Optional[str]) -> Came:
     """The tests of the scripts, in each folder `tests`."""
     for folder in sorted({it.parent for it in files(".py") if it.parent.name == "tests" and it.name.startswith("test")}):
-        status, said = run(sys.executable, "-m", "unittest", "discover", "-s", str(folder), "-t", str(TOP))
+        within = ["-t", str(TOP)] if (folder / "__init__.py").is_file() else []
+        status, said = run(sys.executable, "-m", "unittest", "discover", "-s", str(folder), *within)
         if status:
             return status, said
     return 0, ""
