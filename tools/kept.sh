@@ -7,7 +7,7 @@
 #     out/proved/SUM     the program that was proved of the sources of this sum
 #     out/compiled/SUM   the program that was compiled of the sources of this sum, and not proved
 #     out/first/SUM      the same, compiled as fast as can be: it answers until the other one stands
-#     out/CRATE/SUM      a program of cases, compiled so
+#     out/CRATE/SUM      a program of cases, compiled as `compiled` is
 #
 # A name holds a whole program or none, since it is put there by `mv`; and a program is found by the sum of its sources alone.
 kept=$top/out whole=''
