@@ -1,5 +1,5 @@
 //! Links over TCP.
-ghost use Rattle.std.specs.Prelude.{None};
+ghost use Rattle.std.specs.Prelude.{None, Some};
 
 use crate::Links;
 use crate::exchange::{Peer, answered};
@@ -82,7 +82,11 @@ impl<'a, R> TcpLinks<'a, R> {
 impl<'a, R: Net + Clock + Sync> Links for TcpLinks<'a, R> {
     type One = TcpLink<'a, R>;
 
-    ghost use Rattle.std.specs.Prelude.{None};
+    ghost use Rattle.std.specs.Prelude.{None, Some};
+
+    ghost asked = { λ s. None };
+
+    ghost peer = { λ l. Some (record { host = l.host.bytes; port = l.port }) };
 
     ghost returned = { λ s. None };
 
