@@ -46,7 +46,7 @@ pub fn begin<
         ensures over { result.over ≡ theirs }
     {
         let result = runner.run(rt, job);
-        let over = Told::of(&theirs, theirs.raise(rt));
+        let over = Told::of(&theirs, theirs.put_up(rt));
         Done { result, over }
     };
     match scope.spawn_with(promise, work) {

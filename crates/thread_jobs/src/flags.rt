@@ -35,8 +35,13 @@ impl<'a> Model for Raised<'a> {
 }
 
 impl Flag {
+    /// Raises it, where it isn't up. It doesn't wait, and shows nothing.
+    pub fn raise(&self) {
+        let _token = self.lock.try_set(());
+    }
+
     /// Raises it, where it isn't up, and shows that it is. It waits only while another thread raises it.
-    pub fn raise<R: Wait>(&self, rt: &R) -> Raised<'_>
+    pub fn put_up<R: Wait>(&self, rt: &R) -> Raised<'_>
         ensures { result ≡ self.now }
     {
         match self.lock.try_insert(rt, ()) {
@@ -97,7 +102,7 @@ pub(crate) fn raise<'f, R: Wait>(rt: &R, flag: Option<&'f Flag>) -> Option<Raise
     ensures { MatchOption flag.entry (result ≡ None) (λ f. result ≡ Some f.now) }
 {
     match flag {
-        Some(flag) => Some(flag.raise(rt)),
+        Some(flag) => Some(flag.put_up(rt)),
         None => None,
     }
 }
