@@ -6,6 +6,7 @@
 #![tactic(auto)]
 
 mod exchange;
+pub mod laws;
 mod limits;
 mod links;
 mod mem_links;

@@ -1,7 +1,9 @@
 -- What std's readers and writers do, one call after the other.
-use Rattle.std.proofs.Common.{◌≡◌, ◌<◌, ◌+◌, ℕ, List, [], ◌++◌, length, Option, Some, None, refl, sym, ap, ◌∙◌, append_assoc, append-nil, length-append, arith}
-use Rattle.std.specs.Prelude.{IfSome, take}
-use Rattle.std.specs.Io.KnownBytes.{Appends, Consumes, IsAtEnd, Keeps}
+use Rattle.std.proofs.Common.{◌≡◌, ◌<◌, ◌≤◌, ◌+◌, ℕ, List, [], ◌++◌, length, drop, subst, Option, Some, None, refl, sym, ap, ◌∙◌, append_assoc, append-nil, length-append, arith}
+use Rattle.std.specs.Prelude.{IfSome, take, Result, Ok, Err}
+use Rattle.std.proofs.lemmas.List.{take-take, take_all}
+use Rattle.std.specs.Io.KnownBytes.{Appends, Consumes, IsAtEnd, Keeps, ReadConsumes}
+use Rattle.edge_io.specs.laws.Sending.{take_further}
 
 -- p was read, and then q
 pub consumes_more : (a b c : Option (List ℕ)) (p q : List ℕ) → Consumes a b p → Consumes b c q → Consumes a c (p ++ q)
@@ -49,6 +51,21 @@ pub appends_none : (a : Option (List ℕ)) → Appends a a []
 appends_none None = tt
 appends_none (Some xs) = sym (append-nil xs)
 
+-- what stands behind a front was written
+pub appends_further : (a b c : Option (List ℕ)) (piece : List ℕ) (i n k : ℕ) → Appends a b (take i piece)
+    → Appends b c (take n (take k (drop i piece))) → n ≤ k → Appends a c (take (i + n) piece)
+appends_further a b c piece i n k first second within =
+    subst (Appends a c) (sym (take_further i n piece)) (appends_more a b c (take i piece) (take n (drop i piece)) first
+    (subst (Appends b c) (take-take n k (drop i piece) within) second))
+
+-- all of it was written
+pub appends_whole : (a b c : Option (List ℕ)) (piece : List ℕ) (i : ℕ) → Appends a b (take i piece) → Keeps b c → length piece ≤ i → Appends a c piece
+appends_whole None b c piece i first second all = tt
+appends_whole (Some xs) None c piece i first second all = absurd first
+appends_whole (Some xs) (Some ys) None piece i first second all = absurd second
+appends_whole (Some xs) (Some ys) (Some zs) piece i first second all =
+    second ∙ first ∙ ap (λ (t : List ℕ). xs ++ t) (take_all i piece all)
+
 -- nothing was done, and then something was read
 pub keeps_consumes : (a b c : Option (List ℕ)) (p : List ℕ) → Keeps a b → Consumes b c p → Consumes a c p
 keeps_consumes None b c p first second = tt
@@ -61,6 +78,12 @@ keeps_keeps None b c first second = tt
 keeps_keeps (Some xs) None c first second = absurd first
 keeps_keeps (Some xs) (Some ys) None first second = absurd second
 keeps_keeps (Some xs) (Some ys) (Some zs) first second = second ∙ first
+
+-- nothing was done, and then that read
+pub keeps_reads : {E : Type 0} (a b c : Option (List ℕ)) (result : Result ℕ E) (into : List ℕ) → Keeps a b → ReadConsumes b c result into
+    → ReadConsumes a c result into
+keeps_reads a b c (Ok n) into first second = (keeps_consumes a b c (take n into) first second.0, second.1)
+keeps_reads a b c (Err e) into first second = keeps_keeps a b c first second
 
 pub keeps_same : (a : Option (List ℕ)) → Keeps a a
 keeps_same None = tt
