@@ -2,6 +2,7 @@ pub mod Causes
 pub mod Content
 pub mod Connections
 pub mod Files
+pub mod Pieces
 pub mod Calls
 pub mod Memory
 pub mod MemoryFiles

@@ -1,3 +1,4 @@
+pub mod Answers
 pub mod Links
 pub mod MemoryLinks
 pub mod Returned
