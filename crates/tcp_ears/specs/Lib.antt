@@ -1,2 +1,2 @@
-pub mod Patience
 pub mod Streams
+pub mod inner

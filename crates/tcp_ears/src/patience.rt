@@ -1,6 +1,6 @@
 //! How long a peer is waited for.
 ghost use Rattle.std.specs.Prelude.{◌↔◌, IsTrue};
-ghost use Rattle.tcp_ears.specs.Patience.{IsSilent, IsSlow};
+ghost use Rattle.tcp_ears.specs.inner.Patience.{IsSilent, IsSlow};
 
 use std::alloc::Global;
 use std::sync::Arc;
