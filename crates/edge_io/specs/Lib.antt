@@ -2,7 +2,6 @@ pub mod Causes
 pub mod Content
 pub mod Connections
 pub mod Files
-pub mod Pieces
 pub mod Calls
 pub mod Memory
 pub mod MemoryFiles

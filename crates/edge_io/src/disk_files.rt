@@ -2,7 +2,7 @@
 ghost use Rattle.std.specs.Prelude.{◌≡◌, ◌≤◌, ◌++◌, None, IfOk, IfErr, IfSome, length};
 ghost use Rattle.edge_io.specs.Causes.{Rose};
 ghost use Rattle.edge_io.specs.Files.{OnFailed, ReadsFile, ShowsFault};
-ghost use Rattle.edge_io.specs.Pieces.{ReadsPiece};
+ghost use Rattle.edge_io.specs.laws.Pieces.{ReadsPiece};
 
 use crate::{FileFault, Files, MOST_FILE_BYTES};
 use kj_value::Txt;

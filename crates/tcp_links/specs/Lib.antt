@@ -1,4 +1,4 @@
-pub mod Answers
 pub mod Links
 pub mod MemoryLinks
 pub mod Returned
+pub mod inner

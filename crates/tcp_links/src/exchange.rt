@@ -2,8 +2,8 @@
 ghost use Rattle.std.specs.Prelude.{◌≡◌, ◌≤◌, ◌<◌, ◌+◌, ◌*◌, length, IfOk, OnOk, IsTrue};
 ghost use Rattle.std.specs.Duration.{as_nanos};
 ghost use Rattle.std.specs.Io.KnownBytes.{Appends, Consumes, IsAtEnd};
-ghost use Rattle.edge_io.specs.Pieces.{ReadsPiece};
-ghost use Rattle.tcp_links.specs.Answers.{IsAnswered};
+ghost use Rattle.edge_io.specs.laws.Pieces.{ReadsPiece};
+ghost use Rattle.tcp_links.specs.inner.Answers.{IsAnswered};
 
 use crate::limits::{CONNECT_SECONDS, EXCHANGE_SECONDS, MOST_ANSWER_BYTES, READ_BYTES};
 use std::alloc::Global;

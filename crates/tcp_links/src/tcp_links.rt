@@ -1,7 +1,7 @@
 //! Links over TCP.
 ghost use Rattle.std.specs.Prelude.{◌≡◌, None, Some, IfOk};
 ghost use Rattle.std.specs.IoError.{error_kind};
-ghost use Rattle.tcp_links.specs.Answers.{IsHandedOn};
+ghost use Rattle.tcp_links.specs.inner.Answers.{IsHandedOn};
 
 use crate::Links;
 use crate::exchange::{Peer, answered};

@@ -1,4 +1,4 @@
--- For private clauses: what one piece of a reader adds to what was read.
+-- What one piece of a reader adds to what was read.
 use Rattle.std.specs.Prelude.{◌≡◌, ◌<◌, ℕ, Bool, true, false, List, ◌++◌, length, Option}
 use Rattle.std.specs.Io.KnownBytes.{Consumes, IsAtEnd}
 
