@@ -10,8 +10,11 @@ a few small ones, which can't be told from it. Each answer is read and compared 
 
 import json
 
-from documents import list_of, names_of, pair_of, responds, review_of, spelled
-from programs import SHARED_FILES, built, each_of, parser_with_runs, run_of
+import parts  # noqa: F401
+from harness.documents import list_of, names_of, pair_of, responds, review_of, spelled
+from harness.programs import SHARED_FILES, built, parser_of
+from harness.tables import Firsts, Table
+from harness.timing import each_of, run_of
 
 KIB, MIB = 2**10, 2**20
 # What stands in `extra`, and of which sizes.
@@ -52,14 +55,12 @@ def works_of(program):
 
 
 def main():
-    """Reads the words, runs and prints."""
-    options = parser_with_runs(__doc__).parse_args()
-    works, first = works_of(built(options.program)), {}
-    print(f"{'kind':<26}{'bytes each':>11}{'objects':>9}{'ns a byte':>11}{'us an object':>14}{'byte to first':>15}")
+    options = parser_of(__doc__, runs=3).parse_args()
+    works, firsts = works_of(built(options.program)), Firsts()
+    table = Table("kind:<26", "bytes each:11", "objects:9", "ns a byte:11.1f", "us an object:14.2f", "byte to first:15.2f")
     for (kind, each, count), seconds in each_of(options.runs, works).items():
         byte = seconds / each / count
-        row = f"{byte * 1e9:>11.1f}{seconds / count * 1e6:>14.2f}{byte / first.setdefault(kind, byte):>15.2f}"
-        print(f"{kind:<26}{each:>11}{count:>9}{row}")
+        table.row(kind, each, count, byte * 1e9, seconds / count * 1e6, firsts.ratio(kind, byte))
 
 
 if __name__ == "__main__":

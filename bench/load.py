@@ -13,10 +13,14 @@ has no objects, and 201 for each create."""
 import pathlib
 import tempfile
 
-from documents import definition_of, files_of, list_of, names_of, object_of, responds, review_of, spelled, text_of
+import parts  # noqa: F401
+from harness.client import request
+from harness.crontabs import path_of
+from harness.documents import definition_of, files_of, list_of, names_of, object_of, object_schema, responds, review_of, spelled, text_of
+from harness.programs import SHARED_FILES, built, parser_of
+from harness.tables import Firsts, Table
+from harness.timing import each_of, is_empty, run_of
 from pipe import answered
-from programs import SHARED_FILES, built, each_of, is_empty, parser_with_runs, run_of
-from serving import path_of, request
 
 VERSIONS = 2, 4, 8
 # A group of names has six nodes at each version, and seven rules at each but the hub; then come objects as deep as rules may nest.
@@ -75,16 +79,16 @@ def largest(versions):
         groups = {}
         for group in range(GROUPS):
             groups |= names_at(group)
-        return groups | both, free
+        return object_schema(groups | both, free)
 
     spokes = [f"v{number}" for number in range(1, versions)]
     rules = [rule for group in range(GROUPS) for rule in rules_of(group)] + inner_rules
-    return definition_of({"v0": root(hub_names), **{name: root(spoke_names) for name in spokes}}, {name: rules for name in spokes})
+    return definition_of({"v0": root(hub_names), **{name: root(spoke_names) for name in spokes}}), {name: rules for name in spokes}, "v0"
 
 
 def smallest():
-    roots = {"v1": ({"host": TEXT}, []), "v1beta1": ({"address": TEXT}, [])}
-    return definition_of(roots, {"v1beta1": [{"same": ["address", "host"]}]})
+    schemas = {"v1": object_schema({"host": TEXT}), "v1beta1": object_schema({"address": TEXT})}
+    return definition_of(schemas), {"v1beta1": [{"same": ["address", "host"]}]}
 
 
 def deep():
@@ -103,40 +107,38 @@ def body_of(name, extra):
     return {**body, "note": "n" * (MOST_BYTES - len(spelled(body)))}
 
 
+def works_of(program, folder, small_count, large_count):
+    """Each run by its chore, its kind, the bytes of it and how often it is made, with the run that is taken off."""
+
+    def load(name, documents):
+        return run_of([program, "review", *files_of(folder, name, *documents)], review_of([]), responds([]))
+
+    def creates(bodies):
+        given = b"".join(request("POST", path_of("v1beta1"), body) for body in bodies)
+        return run_of([program, "pipe", *SHARED_FILES], given, answered([201] * len(bodies)) if bodies else is_empty)
+
+    least, none = load("smallest", smallest()), creates([])
+    for versions in VERSIONS:
+        name, (definition, rules, hub) = f"{versions} versions", largest(versions)
+        length = len(spelled(definition)) + len(spelled({"hub": hub, "spokes": rules}))
+        yield ("load", name, length, 1), (load(name, (definition, rules, hub)), least)
+    extras = {"small": None, "a list": list_of(EXTRA_BYTES), "lists inside lists": deep(), "many names": names_of(MANY_NAMES)}
+    for kind, extra in extras.items():
+        bodies = [body_of(f"a{number:04}", extra) for number in range(large_count if extra else small_count)]
+        yield ("create", kind, len(spelled(bodies[0])), len(bodies)), (creates(bodies), none)
+
+
 def main():
-    """Reads the words, runs and prints."""
-    parser = parser_with_runs(__doc__)
-    parser.add_argument("--creates", type=int, default=5000, help="small objects of a run (default: 5000)")
-    parser.add_argument("--large-creates", type=int, default=50, help="objects of each other kind in a run (default: 50)")
-    options = parser.parse_args()
-    program = built(options.program)
-    works = {}
+    creates = {"creates": (5000, "small objects of a run"), "large_creates": (50, "objects of each other kind in a run")}
+    options = parser_of(__doc__, runs=3, **creates).parse_args()
     with tempfile.TemporaryDirectory() as place:
-
-        def load(name, documents):
-            files = files_of(pathlib.Path(place), name, documents)
-            return run_of([program, "review", *files], review_of([]), responds([]))
-
-        def creates(bodies):
-            given = b"".join(request("POST", path_of("v1beta1", "default"), body) for body in bodies)
-            return run_of([program, "pipe", *SHARED_FILES], given, answered([201] * len(bodies)) if bodies else is_empty)
-
-        least, none = load("smallest", smallest()), creates([])
-        for versions in VERSIONS:
-            name, documents = f"{versions} versions", largest(versions)
-            works["load", name, sum(len(spelled(it)) for it in documents), 1] = load(name, documents), least
-        extras = {"small": None, "a list": list_of(EXTRA_BYTES), "lists inside lists": deep(), "many names": names_of(MANY_NAMES)}
-        for kind, extra in extras.items():
-            bodies = [body_of(f"a{number:04}", extra) for number in range(options.large_creates if extra else options.creates)]
-            works["create", kind, len(spelled(bodies[0])), len(bodies)] = creates(bodies), none
-        each = each_of(options.runs, works)
-    first = {}
-    print(f"{'chore':<8}{'of':<20}{'bytes':>8}{'a second':>11}{'us each':>11}{'ns a byte':>11}{'time to first':>15}{'a byte':>8}")
+        each = each_of(options.runs, dict(works_of(built(options.program), pathlib.Path(place), options.creates, options.large_creates)))
+    firsts = Firsts()
+    table = Table("chore:<8", "of:<20", "bytes:8", "a second:11.1f", "us each:11.2f", "ns a byte:11.1f", "time to first:15.2f", "a byte:8.2f")
     for (chore, kind, length, count), seconds in each.items():
         one, byte = seconds / count, seconds / count / length
-        first_one, first_byte = first.setdefault(chore, (one, byte))
-        rate = f"{1 / one:>11.1f}{one * 1e6:>11.2f}{byte * 1e9:>11.1f}"
-        print(f"{chore:<8}{kind:<20}{length:>8}{rate}{one / first_one:>15.2f}{byte / first_byte:>8.2f}")
+        ratios = firsts.ratio(chore, one), firsts.ratio((chore, "byte"), byte)
+        table.row(chore, kind, length, 1 / one, one * 1e6, byte * 1e9, *ratios)
 
 
 if __name__ == "__main__":

@@ -12,34 +12,35 @@ many that is as with four connections, and as the plain server makes; the proces
 many times as much that is as with four connections; and the wait in which 99 of 100 answers came, and the longest, in milliseconds. The
 client takes processors too. It checks every answer's code."""
 
-import argparse
 import pathlib
 import socket
-import statistics
 import subprocess
 import sys
 import time
 
-from programs import built
-from serving import Server
+import parts  # noqa: F401
+from harness.client import Connection
+from harness.programs import built, parser_of
+from harness.server import Listening, Server
+from harness.tables import Table
+from harness.timing import middle_of
 
 CONNECTIONS = 1, 4, 16, 60
 KINDS = "get", "create", "mix"
 FOUR = 4
 
 
-class Plain(Server):
+class Plain(Listening):
     """The plain server at a port that was free."""
 
     def __init__(self, program):
         with socket.socket() as free:
             free.bind(("127.0.0.1", 0))
             self.address = free.getsockname()
-        self.process = subprocess.Popen([program, f"127.0.0.1:{self.address[1]}"], stdin=subprocess.DEVNULL)
+        self.process = subprocess.Popen([program, f"127.0.0.1:{self.address[1]}"], stdin=subprocess.DEVNULL, stdout=subprocess.PIPE)
         for _ in range(1_000):
             try:
-                socket.create_connection(self.address).close()
-                return
+                return Connection(self.address).close()
             except ConnectionRefusedError:
                 time.sleep(0.01)
         sys.exit("the plain server doesn't listen")
@@ -65,37 +66,24 @@ def row(server, client, connections, requests, kind):
     return made / float(told[0]), used / made * 1e6, int(told[2]) / 1e3, int(told[3]) / 1e3
 
 
-def rounds(options, programs):
-    """What each row of each program came to in each round."""
-    came = {}
-    for _ in range(options.runs):
-        for kind in options.kinds:
-            for connections in options.connections:
-                for name, start in programs.items():
-                    one = row(start(), options.client, connections, options.requests, kind)
-                    came.setdefault((kind, name, connections), []).append(one)
-    return {key: [statistics.median(column) for column in zip(*ones)] for key, ones in came.items()}
+NONE = float("nan"), float("nan")
 
 
-def print_rows(middle, plain):
+def print_rows(middle):
     """The table."""
-    print(f"{'':<8}{'program':<12}{'connections':>11}{'a second':>10}{'to four':>9}{'to plain':>9}{'us each':>9}{'to four':>9}{'99th ms':>9}{'longest':>9}")
+    columns = ["a second:10.0f", "to four:9.2f", "to plain:9.2f", "us each:9.1f", "to four:9.2f", "99th ms:9.2f", "longest:9.1f"]
+    table = Table(":<8", "program:<12", "connections:11", *columns)
     for (kind, name, connections), (a_second, each, late, longest) in middle.items():
-        four = middle.get((kind, name, FOUR), (float("nan"),) * 2)
-        beside = middle.get((kind, plain, connections), (float("nan"),))[0]
-        print(f"{kind:<8}{name:<12}{connections:>11}{a_second:>10.0f}{a_second / four[0]:>9.2f}{a_second / beside:>9.2f}{each:>9.1f}{each / four[1]:>9.2f}{late:>9.2f}{longest:>9.1f}")
+        four, beside = middle.get((kind, name, FOUR), NONE), middle.get((kind, "plain", connections), NONE)
+        table.row(kind, name, connections, a_second, a_second / four[0], a_second / beside[0], each, each / four[1], late, longest)
 
 
 def main():
-    """Reads the words, runs and prints."""
-    parser = argparse.ArgumentParser(description=__doc__, formatter_class=argparse.RawDescriptionHelpFormatter)
+    counts = {"requests": (8_000, "requests of each row, at most 10,000 a connection"), "workers": (2, "workers beside the connections")}
+    parser = parser_of(__doc__, None, runs=5, connections=(CONNECTIONS, ""), **counts)
     parser.add_argument("--program", action="append", help="a built program (default: crates/kubeconv/out/kubeconv)")
     parser.add_argument("--client", required=True, help="the client, built by go")
     parser.add_argument("--plain", help="the plain server, built by go")
-    parser.add_argument("--requests", type=int, default=8_000, help="requests of each row, at most 10,000 a connection (default: 8,000)")
-    parser.add_argument("--runs", type=int, default=5, help="rounds, of which the middle counts (default: 5)")
-    parser.add_argument("--workers", type=int, default=2, help="workers beside the connections (default: 2)")
-    parser.add_argument("--connections", type=int, nargs="+", default=CONNECTIONS)
     parser.add_argument("--kinds", nargs="+", choices=KINDS, default=KINDS)
     options = parser.parse_args()
     programs = {}
@@ -104,7 +92,12 @@ def main():
         programs[pathlib.Path(program).name] = lambda program=program: Server(program, options.workers)
     if options.plain:
         programs["plain"] = lambda: Plain(options.plain)
-    print_rows(rounds(options, programs), "plain")
+
+    def task(kind, name, connections):
+        return lambda: row(programs[name](), options.client, connections, options.requests, kind)
+
+    keys = [(kind, name, connections) for kind in options.kinds for connections in options.connections for name in programs]
+    print_rows(middle_of(options.runs, {key: task(*key) for key in keys}))
 
 
 if __name__ == "__main__":

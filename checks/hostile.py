@@ -20,24 +20,12 @@ import struct
 import threading
 import time
 
-import parts  # noqa: F401  finds the next ones
-from programs import built, parser_of
-from serving import (
-    DEFINITION,
-    MIGRATIONS,
-    Connection,
-    Gone,
-    Server,
-    address_of,
-    body_of,
-    looked_at,
-    migration,
-    moved,
-    path_of,
-    request,
-    seconds_now,
-)
-from told import check, end
+import parts  # noqa: F401
+from harness.client import Connection, Gone, address_of, request
+from harness.crontabs import DEFINITION, MIGRATIONS, body_of, looked_at, migration, moved, path_of
+from harness.programs import built, parser_of
+from harness.server import Server
+from harness.told import check, end
 
 IDLE = 200
 IDLE_SECONDS = 60
@@ -63,9 +51,9 @@ class Early:
 
     def ask(self, method, path, body=None):
         with self.lock:
-            start = seconds_now()
+            start = time.monotonic()
             came = self.connection.ask(method, path, body)
-            self.slowest = max(self.slowest, seconds_now() - start)
+            self.slowest = max(self.slowest, time.monotonic() - start)
         return came
 
     def go_on(self):
@@ -88,7 +76,7 @@ def slow(address, came):
         for byte in request("GET", path_of("v1", "hostile", "slow")):
             connection.send(bytes([byte]))
             time.sleep(1)
-        came.append(connection.answer()[0])
+        came.append(connection.next().code)
     except Gone as gone:
         came.append(str(gone))
     connection.close()
@@ -112,19 +100,19 @@ def deaf(address, came):
     peer.setsockopt(socket.SOL_SOCKET, socket.SO_RCVBUF, HEAD_BYTES)
     peer.connect(address)
     peer.settimeout(1)
-    start = wrote = seconds_now()
+    start = wrote = time.monotonic()
     held = 0
-    while seconds_now() - start < 10 * IDLE_SECONDS:
+    while time.monotonic() - start < 10 * IDLE_SECONDS:
         now = waiting(address, peer.getsockname()[1])
         if now is not None and now > held:
-            held, wrote = now, seconds_now()
+            held, wrote = now, time.monotonic()
         try:
             peer.send(asked * 10)
             time.sleep(0.1)
         except TimeoutError:
             continue
         except OSError:
-            came.append(seconds_now() - wrote)
+            came.append(time.monotonic() - wrote)
             break
     peer.close()
 
@@ -145,7 +133,7 @@ def long_head(address):
     front = b"GET / HTTP/1.1\r\nX: "
     connection.send(front + b"x" * (HEAD_BYTES - len(front)))
     try:
-        code, _body = connection.answer()
+        code = connection.next().code
         connection.more()
     except Gone:
         closed = True
@@ -180,7 +168,7 @@ def seconds_to_end(held, start):
     """The seconds after which a connection on which nothing was sent is closed, or none where it isn't."""
     held.settimeout(IDLE_SECONDS + LATE_SECONDS)
     try:
-        return seconds_now() - start if held.recv(1) == b"" else None
+        return time.monotonic() - start if held.recv(1) == b"" else None
     except OSError:
         return None
 
@@ -206,7 +194,7 @@ def behind(address, came):
 def idle(address, early, mark):
     """Opens so many connections and sends nothing, while one that was there before makes requests; then one more, which is
     answered in the end."""
-    start, came = seconds_now(), []
+    start, came = time.monotonic(), []
     held = [silent(address) for _ in range(IDLE)]
     last = threading.Thread(target=behind, args=(address, came))
     last.start()
@@ -215,7 +203,7 @@ def idle(address, early, mark):
     told = "never" if seconds is None else f"{seconds:.0f} seconds after it came"
     check(seconds is not None and seconds < LATE_SECONDS, f"an idle connection was closed {told}")
     last.join()
-    seconds = seconds_now() - start
+    seconds = time.monotonic() - start
     check(came == [200], f"a connection behind {IDLE} idle ones is answered {came}, after {seconds:.0f} seconds")
     for it in held:
         it.close()
@@ -237,13 +225,13 @@ def drip(peers, over):
 def crowd(address):
     """Connections that say nothing and connections that say little, and one that comes behind them."""
     idle, slow = [silent(address) for _ in range(CROWD)], [silent(address) for _ in range(CROWD)]
-    over, start = threading.Event(), seconds_now()
+    over, start = threading.Event(), time.monotonic()
     dripping = threading.Thread(target=drip, args=(slow, over), daemon=True)
     dripping.start()
     time.sleep(0.1)
     came = []
     behind(address, came)
-    seconds = seconds_now() - start
+    seconds = time.monotonic() - start
     told = f"a connection behind {CROWD} idle ones and {CROWD} slow ones is answered {came}, after {seconds:.1f} seconds"
     check(came == [200] and seconds < CROWD_SECONDS, told)
     over.set()
@@ -292,7 +280,7 @@ def main():
     early.close()
     if server:
         check(server.process.poll() is None, "the server still runs")
-        print(f"memory: {server.memory():.1f} MB, at most {server.memory('VmHWM'):.1f} MB; {server.threads()} threads")
+        print(f"memory: {server.memory():.1f} MB, at most {server.memory('VmHWM'):.1f} MB; {server.count()} threads")
         server.stop()
     end()
 

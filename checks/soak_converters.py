@@ -13,18 +13,18 @@ lost, the last migration ends, and no object stands at another version.
 
 Each step says what it saw, and the status is 1 where something is wrong. WORDs are more words of `serve`."""
 
-import argparse
 import signal
-import subprocess
 import sys
 import threading
 import time
 
-import parts  # noqa: F401  finds the next ones
-from programs import SHARED_FILES, TOP, built
-from serving import MIGRATIONS, Connection, Resource, Server
-from soak import OPERATOR, PATIENCE, Client, faults_at_end, faults_of_numbers, faults_of_shared, open_shared
-from told import check, end, told_of
+import parts  # noqa: F401
+from clients import OPERATOR, PATIENCE, Client, judged, open_shared
+from harness.client import Connection
+from harness.crontabs import CERTIFICATES, MIGRATIONS
+from harness.programs import SHARED_FILES, TOP, built, parser_of
+from harness.server import Listening, Server
+from harness.told import check, end, told_of
 
 EXAMPLE, WEBHOOK = TOP / "examples/converter", TOP / "examples/webhook/serve.py"
 # So long a converter runs and is away, and so long a request waits that had none.
@@ -36,34 +36,6 @@ WORKERS = 2
 FAILED = 502, "ConverterFailed"
 
 
-# ---- the definition of examples/converter
-
-
-def certificate_of(version, name, state, number=None):
-    """The body that submits a certificate of this state. At v1 it has a field for which v1beta1 has no place."""
-    host, algorithm, size = state
-    metadata = {"name": name} if number is None else {"name": name, "resourceVersion": str(number)}
-    spec = {"dnsName": host}
-    if version == "v1":
-        spec["privateKey"] = {"algorithm": algorithm, "size": size, "rotationPolicy": f"of {host}"}
-    else:
-        spec |= {"keyAlgorithm": algorithm, "keySize": size}
-    return {"apiVersion": f"example.com/{version}", "kind": "Certificate", "metadata": metadata, "spec": spec}
-
-
-def certificate_state(shown):
-    """The state of a certificate that is shown at either version. What only v1 has is that of its last edit at v1, or isn't there."""
-    spec = shown["spec"]
-    if shown["apiVersion"].endswith("/v1"):
-        key = spec.get("privateKey", {})
-        policy = key.get("rotationPolicy", f"of {spec.get('dnsName')}")
-        return spec.get("dnsName") if policy == f"of {spec.get('dnsName')}" else policy, key.get("algorithm"), key.get("size")
-    return spec.get("dnsName"), spec.get("keyAlgorithm"), spec.get("keySize")
-
-
-CERTIFICATES = Resource("certificates", certificate_of, certificate_state)
-
-
 # ---- converters
 
 
@@ -71,24 +43,18 @@ class Converter:
     """A converter at a port that the system chose first, which can be killed and started again there."""
 
     def __init__(self, *line):
-        self.line, self.port, self.starts = line, 0, 0
+        self.line, self.port = line, 0
         self.start()
 
     def start(self, *line):
-        """Starts it, by another line where one is given."""
+        """Starts it, by another line where one is given. None stands for the port."""
         self.line = line or self.line
-        line = [sys.executable, *(str(self.port) if it is None else it for it in self.line)]
-        self.process = subprocess.Popen(line, stdin=subprocess.DEVNULL, stdout=subprocess.PIPE, text=True)
-        told = self.process.stdout.readline()
-        if not told.startswith("listening on "):
-            sys.exit(f"the converter told {told!r} and ended with status {self.process.wait()}")
-        self.port = int(told.rpartition(":")[2])
-        self.starts += 1
+        self.running = Listening([sys.executable, *(self.port if it is None else it for it in self.line)])
+        self.port = self.running.port
 
     def kill(self):
-        self.process.send_signal(signal.SIGKILL)
-        self.process.wait()
-        self.process.stdout.close()
+        self.running.process.send_signal(signal.SIGKILL)
+        self.running.stop()
 
     def come_and_go(self, over):
         """Kills it and starts it again, until `over` is set. Then it runs."""
@@ -98,7 +64,7 @@ class Converter:
             self.start()
 
 
-def converting_server(program, converter, definition, words):
+def converting_server(program, converter, definition, words=()):
     files = ["--crd", definition, "--hub", "v1", "--converter", f"http://127.0.0.1:{converter.port}/"]
     return Server(program, WORKERS, words=words, files=files)
 
@@ -151,44 +117,32 @@ def soak(kind, address, converter, options):
 
 def conditions(address):
     """How many migrations there are of each condition."""
-    connection, found = Connection(address), {}
-    for it in connection.ask("GET", MIGRATIONS)[1]["items"]:
-        condition = it["status"]["conditions"][0]["type"]
-        found[condition] = found.get(condition, 0) + 1
-    connection.close()
-    return found
+    with Connection(address) as connection:
+        found = [it["status"]["conditions"][0]["type"] for it in connection.expect(200, "GET", MIGRATIONS)["items"]]
+    return {it: found.count(it) for it in found}
 
 
 def look_at_soak(kind, address, made, clients):
     known = [it.known() for it in clients]
-    wrong = [fault for one in known for fault in one["wrong"]]
-    of_numbers, touched = faults_of_numbers(made, known)
-    of_shared, edits = faults_of_shared(made, known, touched)
-    at_end, objects = faults_at_end(address, "k", known, edits, kind.resource)
-    wrong += of_numbers + of_shared + at_end
+    wrong, touches, objects = judged(address, "k", made, known, kind.resource)
     asked, failed = (sum(it) for it in zip(*((one.asked, one.failed) for one in clients)))
     writes, ended = sum(len(one["numbers"]) for one in known), conditions(address)
-    said = f"{asked} requests, {failed} of them without a converter, {writes} writes, {objects} objects, migrations {ended}, {len(touched)} touches seen"
+    said = f"{asked} requests, {failed} of them without a converter, {writes} writes, {objects} objects, migrations {ended}, {touches} touches seen"
     check(failed and writes and ended and "Running" not in ended and not wrong, said + told_of(wrong))
 
 
 def step(what, program, converter, kind, definition, options):
     print(f"{what}: {options.connections} connections for {options.seconds} s", flush=True)
-    server = converting_server(program, converter, definition, options.words)
     try:
-        made, clients = soak(kind, server.address, converter, options)
-        look_at_soak(kind, server.address, made, clients)
+        with converting_server(program, converter, definition, options.words) as server:
+            look_at_soak(kind, server.address, *soak(kind, server.address, converter, options))
     finally:
-        server.stop()
         converter.kill()
 
 
 def main():
-    """Reads the words, runs and prints."""
-    parser = argparse.ArgumentParser(description=__doc__, formatter_class=argparse.RawDescriptionHelpFormatter)
-    parser.add_argument("program", help="the built program")
-    parser.add_argument("--seconds", type=int, default=20, help="so long each converter is asked (default: 20)")
-    parser.add_argument("--connections", type=int, default=16, help="of which one moves the storage version (default: 16)")
+    counts = {"seconds": (20, "so long each converter is asked"), "connections": (16, "of which one moves the storage version")}
+    parser = parser_of(__doc__, "program", **counts)
     parser.add_argument("--words", nargs="*", default=[], help="more words of serve")
     options = parser.parse_args()
     program = built(options.program)

@@ -182,7 +182,7 @@ func (s *server) ServeHTTP(w http.ResponseWriter, request *http.Request) {
 
 func main() {
 	s := &server{objects: map[string]object{}, number: 1}
-	if len(os.Args) > 1 {
+	if len(os.Args) > 1 && os.Args[1] != "pipe" {
 		panic(http.ListenAndServe(os.Args[1], s))
 	}
 	in, out := bufio.NewReaderSize(os.Stdin, 1<<16), bufio.NewWriterSize(os.Stdout, 1<<16)
