@@ -123,11 +123,6 @@ class Peer(Connection):
         """How many bytes came that aren't read."""
         return struct.unpack("i", fcntl.ioctl(self.socket, termios.FIONREAD, b"\0" * 4))[0]
 
-    def breaks(self):
-        """The connection is broken, and not ended."""
-        self.socket.setsockopt(socket.SOL_SOCKET, socket.SO_LINGER, struct.pack("ii", 1, 0))
-        self.close()
-
 
 class Ending(Server):
     """The program over a line of `serve`, for so many connections and with so many workers, until it ends so."""

@@ -24,6 +24,7 @@ from harness.client import answers_in, request
 from harness.crontabs import path_of
 from harness.documents import GROUP, definition_of, files_of, object_of, review_of
 from harness.programs import built, parser_of
+from harness.progress import Progress
 
 KIND = "CronTab"
 OBJECTS, REPLACES = 12, 6
@@ -171,7 +172,7 @@ def try_one(program, folder, start):
 
 def main():
     options = parser_of(__doc__, definitions=(300, "so many definitions"), start=(0, "the number of the first one")).parse_args()
-    program, counts = built(options.program), [0, 0, 0, 0]
+    program, counts, progress = built(options.program), [0, 0, 0, 0], Progress()
     with tempfile.TemporaryDirectory() as place:
         folder = pathlib.Path(place)
         for start in range(options.start, options.start + options.definitions):
@@ -182,6 +183,8 @@ def main():
                     print(f"{file.name}: {file.read_text()}", file=sys.stderr)
                 sys.exit(f"definition {start}: {it}")
             counts = [one + other for one, other in zip(counts, came)]
+            progress.tell(f"definition {start}", (start - options.start) / options.definitions)
+    progress.end()
     late, requests, objects, completed = counts
     said = f"{options.definitions} definitions, of which {late} were refused; {requests} answers and {objects} converted objects are the model's"
     print(f"{said}; {completed} fields got the default of another version")

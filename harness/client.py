@@ -4,6 +4,7 @@ from __future__ import annotations
 import json
 import re
 import socket
+import struct
 import sys
 from typing import Any, Dict, List, Optional, Tuple
 
@@ -148,6 +149,11 @@ class Connection:
         while piece := self.socket.recv(1 << 18):
             answer += piece
         return bytes(answer)
+
+    def breaks(self) -> None:
+        """The connection is broken, and not ended."""
+        self.socket.setsockopt(socket.SOL_SOCKET, socket.SO_LINGER, struct.pack("ii", 1, 0))
+        self.close()
 
     def close(self) -> None:
         self.socket.close()

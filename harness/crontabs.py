@@ -120,7 +120,7 @@ def move(connection: Connection, resource: Resource = CRONTABS) -> str:
     """Moves the storage version, and gives its name."""
     definition = moved(connection.expect(200, "GET", resource.definition))
     connection.expect(200, "PUT", resource.definition, definition)
-    return next(it["name"] for it in definition["spec"]["versions"] if it["storage"])
+    return str(next(it["name"] for it in definition["spec"]["versions"] if it["storage"]))
 
 
 def migration(name: str, plural: str = "crontabs") -> Document:

@@ -87,4 +87,4 @@ def review_of(objects: List[Document], version: str = "v1", uid: str = "u") -> b
 
 def responds(objects: List[Document]) -> Callable[[bytes], bool]:
     """Whether what was written is the response to a review, with these objects."""
-    return lambda output: json.loads(output)["response"].get("convertedObjects") == objects
+    return lambda output: bool(json.loads(output)["response"].get("convertedObjects") == objects)

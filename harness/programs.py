@@ -5,7 +5,7 @@ import argparse
 import os
 import pathlib
 import sys
-from typing import List, Optional, Union
+from typing import Any, Dict, List, Optional, Union
 
 TOP = pathlib.Path(__file__).resolve().parent.parent
 CRATE = TOP / "crates/kubeconv"
@@ -15,7 +15,7 @@ SHARED_FILES: List[Word] = ["--crd", TOP / "examples/crontabs.json", "--rules", 
 FIRST_FILES: List[Word] = ["--crd", TOP / "examples/rules/same.json", "--rules", TOP / "examples/rules/same.rules.json"]
 
 
-def parser_of(description: Optional[str], program: Optional[str] = "--program", runs: int = 0, **counts: object) -> argparse.ArgumentParser:
+def parser_of(description: Optional[str], program: Optional[str] = "--program", runs: int = 0, **counts: Any) -> argparse.ArgumentParser:
     """A parser of the options that scripts have: the program, as an option, by the name `program` as a word, or not; the runs of each kind,
     where there are some; and options that are numbers. Each of these has its default, or a pair of the default and what it says."""
     parser = argparse.ArgumentParser(description=description, formatter_class=argparse.RawDescriptionHelpFormatter)
@@ -25,7 +25,7 @@ def parser_of(description: Optional[str], program: Optional[str] = "--program", 
         parser.add_argument("--runs", type=int, default=runs, help=f"runs of each kind; the best one counts (default: {runs})")
     for name, said in counts.items():
         default, says = said if isinstance(said, tuple) and isinstance(said[1], str) else (said, "")
-        many = {"nargs": "+", "type": int} if isinstance(default, (tuple, list)) else {"type": type(default)}
+        many: Dict[str, Any] = {"nargs": "+", "type": int} if isinstance(default, (tuple, list)) else {"type": type(default)}
         told = " ".join(map(str, default)) if many.get("nargs") else default
         parser.add_argument(f"--{name.replace('_', '-')}", default=default, help=f"{says} (default: {told})".strip(), **many)
     return parser

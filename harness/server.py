@@ -23,10 +23,12 @@ class Listening:
 
     def __init__(self, line: Sequence[object], **more: Any) -> None:
         self.process = subprocess.Popen([str(it) for it in line], stdin=subprocess.DEVNULL, stdout=subprocess.PIPE, bufsize=0, **more)
-        self.told = self.process.stdout.readline().decode()
+        assert self.process.stdout
+        self.output = self.process.stdout
+        self.told = self.output.readline().decode()
         if " on " not in self.told:
             status = self.process.wait()
-            self.process.stdout.close()
+            self.output.close()
             sys.exit(f"{line[0]} told {self.told!r} and ended with status {status}")
         self.address: Address = address_of(self.told.rpartition("/" if "//" in self.told else " ")[2].strip())
         self.port = self.address[1]
@@ -44,7 +46,7 @@ class Listening:
     def stop(self) -> None:
         self.process.kill()
         self.process.wait()
-        self.process.stdout.close()
+        self.output.close()
 
     # ---- what the system tells of it
 

@@ -16,6 +16,7 @@ from harness.client import Connection, Gone, address_of, answers_in, messages_of
 from harness.crontabs import CERTIFICATES, CRONTABS, drawn_state, generator, migration, moved
 from harness.documents import definition_of, files_of, list_of, name_of, object_schema, spelled
 from harness.programs import built, parser_of
+from harness.progress import Progress
 from harness.server import Listening
 from harness.tables import Firsts, Table
 from harness.timing import best_of, best_rates, each_of, is_empty, middle_of, ran, run_of
@@ -130,6 +131,16 @@ class Told(unittest.TestCase):
         self.assertEqual(table, "name    count      ms   of\na           3       -  50%\n")
         firsts = Firsts()
         self.assertEqual([firsts.ratio("x", 2), firsts.ratio("x", 3), firsts.ratio("y", 3)], [1, 1.5, 1])
+
+    def test_a_bar(self):
+        with contextlib.redirect_stderr(io.StringIO()) as errors:
+            progress = Progress()
+            progress.tell("nothing without a terminal", 0.5)
+            progress.is_shown, progress.told = True, 0.0
+            progress.tell("half", 0.5)
+            progress.tell("at once again", 0.6)
+            progress.end()
+        self.assertEqual(errors.getvalue(), f"\r\033[K[{'#' * 15:<30}]  50% half\r\033[K")
 
     def test_faults(self):
         self.addCleanup(told.FAULTS.clear)
