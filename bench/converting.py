@@ -1,8 +1,8 @@
 #!/usr/bin/env python3
 """Times creates of `kubeconv serve --converter` over a converter that answers after some milliseconds:
 
-    go build -o converter bench/plain/converter/converter.go
-    python3 bench/converting.py --converter ./converter [--program FILE] [--slow MS] [--seconds N] [--connections N ..]
+    go build -o plain bench/plain/*.go
+    python3 bench/converting.py --plain ./plain [--program FILE] [--slow MS] [--seconds N] [--connections N ..]
 
 The converter is one in Go, which takes little of the processors beside the server. It answers a review after MS (20) milliseconds. For so many
 seconds (5) each of so many connections (1 and 16) creates one object after the other, at the version that is stored. Prints for each number of
@@ -57,10 +57,10 @@ def rate(address, count, seconds):
 def main():
     counts = {"slow": (20, "milliseconds after which the converter answers"), "seconds": (5, "of each run"), "connections": ([1, 16], "")}
     parser = parser_of(__doc__, **counts)
-    parser.add_argument("--converter", required=True, help="the converter, built by go")
+    parser.add_argument("--plain", required=True, help="the programs in Go, of which one is the converter")
     options, is_low = parser.parse_args(), False
     first = options.connections[0]
-    with Listening([options.converter, options.slow]) as converter:
+    with Listening([options.plain, "converter", options.slow]) as converter:
         files = ["--crd", DEFINITION, "--hub", "v1", "--converter", f"http://127.0.0.1:{converter.port}/"]
         with Server(built(options.program), files=files) as server:
             table, rates = Table("connections:11", "a second:10.1f", "to the first:14.2f", "ms each:9.1f", "processor:11.2f"), {}

@@ -1,9 +1,8 @@
 #!/usr/bin/env python3
 """Times `kubeconv serve` by 1, 4, 16 and 60 connections, beside other programs and beside a plain server, all in one run:
 
-    go build -o plain bench/plain/server.go
-    go build -o client bench/plain/client/client.go
-    python3 bench/many.py --client ./client --plain ./plain [--program FILE [--program FILE ..]]
+    go build -o plain bench/plain/*.go
+    python3 bench/many.py --plain ./plain [--alone] [--program FILE [--program FILE ..]]
 
 Each connection asks one request after the other and waits for each answer: gets of one object, creates, or a mix of seven gets, two
 replaces and a create of ten. In a round each program and the plain server make each row once, so that what disturbs the machine hits all
@@ -13,53 +12,32 @@ many times as much that is as with four connections; and the wait in which 99 of
 client takes processors too. It checks every answer's code."""
 
 import pathlib
-import socket
 import subprocess
-import sys
-import time
 
 import parts  # noqa: F401
-from harness.client import Connection
 from harness.programs import built, parser_of
 from harness.server import Listening, Server
 from harness.tables import Table
 from harness.timing import middle_of
+from harness.told import must
 
 CONNECTIONS = 1, 4, 16, 60
 KINDS = "get", "create", "mix"
 FOUR = 4
 
 
-class Plain(Listening):
-    """The plain server at a port that was free."""
-
-    def __init__(self, program):
-        with socket.socket() as free:
-            free.bind(("127.0.0.1", 0))
-            self.address = free.getsockname()
-        self.process = subprocess.Popen([program, f"127.0.0.1:{self.address[1]}"], stdin=subprocess.DEVNULL, stdout=subprocess.PIPE)
-        for _ in range(1_000):
-            try:
-                return Connection(self.address).close()
-            except ConnectionRefusedError:
-                time.sleep(0.01)
-        sys.exit("the plain server doesn't listen")
-
-
 def row(server, client, connections, requests, kind):
     """Requests a second, the server's processor microseconds a request, and the waits that the client tells, in milliseconds."""
-    line = [client, f"127.0.0.1:{server.address[1]}", str(connections), str(requests), kind]
+    line = [client, "client", f"127.0.0.1:{server.address[1]}", str(connections), str(requests), kind]
     asked = subprocess.Popen(line, stdin=subprocess.PIPE, stdout=subprocess.PIPE, text=True)
     told = asked.stdout.readline().strip()
-    if told != "ready":
-        sys.exit(f"the client told {told!r}")
+    must(told == "ready", f"the client told {told!r}")
     used = server.thread_seconds()
     asked.stdin.write("\n")
     asked.stdin.flush()
     told = asked.stdout.readline().split()
     used = server.thread_seconds() - used
-    if len(told) != 4:
-        sys.exit(f"the client told {told}")
+    must(len(told) == 4, f"the client told {told}")
     asked.communicate("\n")
     server.stop()
     made = requests // connections * connections
@@ -82,19 +60,19 @@ def main():
     counts = {"requests": (8_000, "requests of each row, at most 10,000 a connection"), "workers": (2, "workers beside the connections")}
     parser = parser_of(__doc__, None, runs=5, connections=(CONNECTIONS, ""), **counts)
     parser.add_argument("--program", action="append", help="a built program (default: crates/kubeconv/out/kubeconv)")
-    parser.add_argument("--client", required=True, help="the client, built by go")
-    parser.add_argument("--plain", help="the plain server, built by go")
+    parser.add_argument("--plain", required=True, help="the programs in Go, of which one is the client")
+    parser.add_argument("--alone", action="store_true", help="without the plain server")
     parser.add_argument("--kinds", nargs="+", choices=KINDS, default=KINDS)
     options = parser.parse_args()
     programs = {}
     for path in options.program or [None]:
         program = built(path)
         programs[pathlib.Path(program).name] = lambda program=program: Server(program, options.workers)
-    if options.plain:
-        programs["plain"] = lambda: Plain(options.plain)
+    if not options.alone:
+        programs["plain"] = lambda: Listening([options.plain, "serve"])
 
     def task(kind, name, connections):
-        return lambda: row(programs[name](), options.client, connections, options.requests, kind)
+        return lambda: row(programs[name](), options.plain, connections, options.requests, kind)
 
     keys = [(kind, name, connections) for kind in options.kinds for connections in options.connections for name in programs]
     print_rows(middle_of(options.runs, {key: task(*key) for key in keys}))

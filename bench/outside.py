@@ -1,11 +1,11 @@
 #!/usr/bin/env python3
 """Times `kubeconv migrate`, `dump` and `load`, which ask a server over loopback:
 
-    go build -o plain bench/plain/migrate/migrate.go && go build -o far bench/plain/far/far.go
+    go build -o plain bench/plain/*.go
     python3 bench/outside.py migrate --plain ./plain [--program FILE] [--sizes N ..] [--runs N]
     python3 bench/outside.py dump [--sizes N ..]
-    python3 bench/outside.py load --far ./far [--sizes N ..]
-    python3 bench/outside.py memory --far ./far [--sizes N ..]
+    python3 bench/outside.py load --plain ./plain [--sizes N ..]
+    python3 bench/outside.py memory --plain ./plain [--sizes N ..]
 
 `migrate`: against `kubeconv serve`, beside the exchanges alone. So many objects stand, and the storage version is moved. Then `migrate` puts
 all of them back; and once the storage version is moved again, a plain client makes the same exchanges, by the same bytes, each over a
@@ -67,7 +67,7 @@ def exchanged(address, asked):
 
 def alone(plain, address):
     """The exchanges of a run of the plain client, their seconds, and those of its processor time in them."""
-    done = ran([plain, "{}:{}".format(*address), RESOURCE])
+    done = ran([plain, "migrate", "{}:{}".format(*address), RESOURCE])
     must(done.status == 0, f"the plain client: {done}")
     exchanges, seconds, processor = done.output.split()
     return int(exchanges), float(seconds), float(processor)
@@ -178,7 +178,7 @@ class Far(Listening):
     """The server in Go, over so many objects."""
 
     def __init__(self, server, objects):
-        super().__init__([server, objects, BYTES])
+        super().__init__([server, "far", objects, BYTES])
 
     def came(self):
         with Connection(self.address) as connection:
@@ -204,7 +204,7 @@ def loaded(program, server, size):
 def loads(program, options):
     table, firsts = Table("lines:8", "load, s:10.2f", "us each:9.0f", "of load:9.0f", "to the fewest:15.2f"), Firsts()
     for size in options.sizes:
-        seconds, used = (min(it) for it in zip(*(loaded(program, options.far, size) for _ in range(options.runs))))
+        seconds, used = (min(it) for it in zip(*(loaded(program, options.plain, size) for _ in range(options.runs))))
         table.row(size, seconds, seconds / size * 1e6, used / size * 1e6, firsts.ratio("line", seconds / size))
 
 
@@ -256,7 +256,7 @@ def memories(program, options):
     for size in options.sizes:
         print(f"{size:>8}", end="", flush=True)
         for name in names:
-            memory, *seconds = made_up(program, name, options.far, size)
+            memory, *seconds = made_up(program, name, options.plain, size)
             by_clock, used = (it / size * 10_000 for it in seconds)
             print(f"{memory:>13.2f}{by_clock:>12.2f}{used:>7.2f}", end="", flush=True)
             must(memory < first.setdefault(name, memory) + SLACK, f"the memory of {name} grows with the objects")
@@ -267,14 +267,12 @@ def main():
     """Reads the words, runs and prints."""
     parser = parser_of(__doc__, runs=3)
     parser.add_argument("work", nargs="?", choices=WORKS, default="migrate", help="what is timed (default: migrate)")
-    parser.add_argument("--plain", help="the plain client, built by go; for migrate")
-    parser.add_argument("--far", help="the server in Go, built by go; for load and memory")
+    parser.add_argument("--plain", help="the programs in Go: a client for migrate, a server for load and memory")
     parser.add_argument("--sizes", type=int, nargs="+", help="so many objects, or lines")
     options = parser.parse_args()
     options.sizes = options.sizes or WORKS[options.work]
-    wants = {"migrate": "plain", "load": "far", "memory": "far"}.get(options.work)
-    if wants and not getattr(options, wants):
-        parser.error(f"{options.work} wants --{wants}")
+    if options.work != "dump" and not options.plain:
+        parser.error(f"{options.work} wants --plain")
     {"migrate": migrations, "dump": dumps, "load": loads, "memory": memories}[options.work](built(options.program), options)
 
 

@@ -6,7 +6,7 @@ fewest; the run that makes the objects alone is taken off. Every answer is check
 
 The definition is the one that is built in, or with `--shared` the one in `examples/`, whose objects have some 190 bytes and go over by
 a split, a table and a factor. With `--beside OTHER` another program is timed in the same rounds, and how many times as long each request
-takes as there is printed too: an earlier build of this one, or the plain server of `bench/plain/server.go`, which has no shared definition.
+takes as there is printed too: an earlier build of this one, or the programs of `bench/plain`, whose server has no shared definition.
 
 A run answers at most 10,000 requests, the creates among them. With 5,000 objects 4,900 requests are left to be timed over them; with more,
 what is left takes too little time beside the creates to be told from them. `store.py` goes on to 16,000 by several connections."""

@@ -46,7 +46,7 @@ def listening(line):
 
 def going(server, mode, objects, size):
     """The server in Go."""
-    return listening([server, mode, objects, size])
+    return listening([server, "keeper", mode, objects, size])
 
 
 def proxied(address, *words):

@@ -8,7 +8,7 @@
   trim to the storage version is taken, so no object stands at another; the raw text of each object says the same once the clients have
   ended; and no answer to a client was wrong. A list that is forgotten 17 times is told, and `migrate` is run again.
 - `dump` and `load` beside such clients, and over lines, inputs and servers that fail: backups.py beside this file says what is looked at.
-- Against a server of Go's `net/http` (outside.go beside this file, which says what it does): it answers in chunks, its objects have
+- Against a server of Go's `net/http` (bench/plain/keeper.go, which says what it does): it answers in chunks, its objects have
   managedFields, and its continue tokens are of its own form. Each count of the tally is the one that follows of what that server does,
   and what is put back is what was given. Pages of more than 1 MiB, and of more than 2, are asked for by halves. Where the server
   ends meanwhile there is no tally. Without `go` this is skipped.
@@ -31,10 +31,9 @@ from clients import SHARED, SHARED_NAMES
 from harness.client import Connection
 from harness.crontabs import DEFINITION, GROUP
 from harness.documents import name_of
-from harness.programs import built, parser_of
+from harness.programs import TOP, built, parser_of
 from harness.told import check, end, told_of
 
-HERE = pathlib.Path(__file__).resolve().parent
 # How many objects stand beside those of the clients, how long a client waits behind each request, and how often storage is moved.
 BESIDE = (600, 0.05, 2), (100, 0, 2)
 # `migrate` is run so often where its list is forgotten, and then the clients wait so many times as long.
@@ -199,8 +198,8 @@ def main():
     faults(program)
     if shutil.which("go"):
         with tempfile.TemporaryDirectory() as folder:
-            server = pathlib.Path(folder) / "outside"
-            subprocess.run(["go", "build", "-o", server, HERE / "outside.go"], check=True)
+            server = pathlib.Path(folder) / "plain"
+            subprocess.run(["go", "build", "-o", server, *(TOP / "bench/plain").glob("*.go")], check=True)
             against_go(program, server, 100, [500])
             against_go(program, server, 5_000, [500, 250, 125])
             against_limits(program, server)
