@@ -1,4 +1,4 @@
-"""The requests that store.py and serve.py make over the objects of a filled server."""
+"""The requests that serve.py makes over the objects of a filled server."""
 
 import parts  # noqa: F401
 from harness.client import request

@@ -9,7 +9,7 @@ a split, a table and a factor. With `--beside OTHER` another program is timed in
 takes as there is printed too: an earlier build of this one, or the programs of `bench/plain`, whose server has no shared definition.
 
 A run answers at most 10,000 requests, the creates among them. With 5,000 objects 4,900 requests are left to be timed over them; with more,
-what is left takes too little time beside the creates to be told from them. `store.py` goes on to 16,000 by several connections."""
+what is left takes too little time beside the creates to be told from them. `serve.py store` goes on to 16,000 by several connections."""
 
 import sys
 

@@ -1,6 +1,11 @@
 #!/usr/bin/env python3
-"""Times `kubeconv serve`, by four tables, of which each is a comparison within one run:
+"""Times `kubeconv serve`, by five tables, of which each is a comparison within one run:
 
+- store: creates, deletes, gets, replaces and lists of 500 by one connection while 1,000, 4,000 and 16,000 objects stand, and migrations of all
+  of them: what each takes of the server, in microseconds of processor time, and how many times as long that is as while the fewest stand.
+  What makes the objects isn't timed. Of a migration it is what one object takes of it: the storage version is moved, a migration is posted
+  and waited for until it says `Succeeded`, there and back, by one worker; what the connection asks meanwhile counts too. Behind it the
+  version is looked at, at which an object is stored.
 - rates: requests a second by 1, 4, 16 and 64 connections over loopback, and the processor time that a request takes of the
   server, each also as a ratio to one connection. A connection asks for one object after the other, and waits for each answer:
   nine reads at either version, then an edit. The clients are processes of this script, so requests a second are bounded by what
@@ -12,8 +17,7 @@
 - idle: the part of a processor that the server takes with 2 and 15 workers while nobody asks, and how long behind its 201 a
   migration that has nothing to move is marked then.
 
-What a request takes while more and more objects stand is timed by store.py, by one connection.
-Every answer is checked for its code. The program is the one in the folder of its crate, or that of --program."""
+Every answer is checked for its code. A connection is answered 10,000 requests at most, so several come one after the other."""
 
 import multiprocessing
 import os
@@ -24,19 +28,22 @@ import time
 import parts  # noqa: F401
 from chores import creations, deletes, edits, gets, lists, written
 from harness.client import Connection
-from harness.crontabs import GROUP, MIGRATIONS, VERSIONS, body_of, drawn_state, generator, looked_at, migration, number_of, path_of
+from harness.crontabs import GROUP, MIGRATIONS, VERSIONS, body_of, drawn_state, generator, looked_at, migration, move, number_of, path_of
 from harness.documents import name_of
 from harness.programs import built, parser_of
 from harness.server import CREATED, Filled, Server, at_once
 from harness.tables import Table
-from harness.timing import best_rates
+from harness.timing import best_of, best_rates
 from harness.told import must
 
 CONNECTIONS = 1, 4, 16, 64
 # So many seconds a run may take.
 PATIENCE = 300
 
-SIZES = 1_000, 16_000
+# So many objects stand.
+STORED, SIZES = (1_000, 4_000, 16_000), (1_000, 16_000)
+# So many gets and replaces are made over them by one connection, and so often a migration is looked at.
+TIMES, PAUSE = 4_800, 0.01
 # So many connections ask beside each other, so many gets or replaces in all, and so many creates, since a server holds few objects more.
 CALLERS = 1, 2, 4, 8
 ASKED = 9_600
@@ -52,6 +59,81 @@ IDLE_WORKERS = 2, 15
 IDLE_SECONDS, GROWING_SECONDS = 20, 2
 # So many migrations are started then, each behind such a rest, and looked at so often.
 MARKS, RESTED_SECONDS, SHORT_PAUSE = 9, 2, 0.0003
+
+
+# ---- store
+
+
+def each_of(requests_of, wanted=200):
+    """What one of these requests takes."""
+
+    def chore(filled):
+        requests = requests_of(filled)
+        return filled.asked(requests, wanted)[0] / len(requests)
+
+    return chore
+
+
+def further(filled):
+    """The numbers of the objects behind those that stand."""
+    return range(len(filled.numbers), len(filled.numbers) + CREATES)
+
+
+def get(version):
+    return each_of(lambda filled: gets(version, (turn % len(filled.numbers) for turn in range(TIMES))))
+
+
+def replace(filled):
+    """Edits of the objects that were written longest ago, one after the other."""
+    turns = sorted(range(len(filled.numbers)), key=filled.numbers.__getitem__)[:TIMES]
+    seconds, bodies = filled.asked(edits(filled, turns), 200)
+    written(filled, turns, bodies)
+    return seconds / len(turns)
+
+
+def migrate(filled):
+    """Migrations of all objects to v1 and back."""
+    with filled.alone() as connection:
+        before = filled.thread_seconds()
+        for version in VERSIONS:
+            move(connection)
+            name = f"m{time.time_ns()}"
+            connection.expect(201, "POST", MIGRATIONS, migration(name))
+            condition, _shown = looked_at(connection, name, PAUSE)
+            stored = connection.expect(200, "GET", f"/raw/default/{name_of(0)}")["apiVersion"]
+            must(condition == "Succeeded" and stored.endswith(f"/{version}"), f"the migration {name} is {condition}, and an object is stored at {stored}")
+        return (filled.thread_seconds() - before) / len(VERSIONS) / len(filled.numbers)
+
+
+# What is timed without a worker, and what with one.
+CHORES = {
+    0: {
+        "create": each_of(lambda filled: creations(further(filled)), 201),
+        "delete": each_of(lambda filled: deletes(further(filled))),
+        "get at the stored version": get("v1beta1"),
+        "get at the other version": get("v1"),
+        "replace": replace,
+        "list of 500, stored": each_of(lambda _filled: lists("v1beta1", LISTS)),
+        "list of 500, converted": each_of(lambda _filled: lists("v1", LISTS)),
+    },
+    1: {"migration, an object": migrate},
+}
+
+
+def print_store(program, options):
+    """The table of one connection over more and more objects."""
+    sizes = options.sizes or STORED
+    first, *others = sizes
+    table = Table("request:<26", f"us, {first}:12.1f", *(it for size in others for it in (f"us, {size}:12.1f", "ratio:8.2f")))
+    for workers, chores in CHORES.items():
+        servers = {size: Filled(program, size, workers) for size in sizes}
+        tasks = {(size, name): lambda it=it, chore=chore: chore(it) * 1e6 for name, chore in chores.items() for size, it in servers.items()}
+        best = best_of(options.runs, tasks)
+        for name in chores:
+            least = best[first, name]
+            table.row(name, least, *(it for size in others for it in (best[size, name], best[size, name] / least)))
+        for it in servers.values():
+            it.stop()
 
 
 # ---- clients beside each other
@@ -205,7 +287,7 @@ BESIDE = {
 def print_callers(program, options):
     """The second table."""
     table = Table("request:<26", "objects:8", "connections:12", *RATES)
-    for size in options.sizes:
+    for size in options.sizes or SIZES:
         with Filled(program, size) as filled:
             keys = [(name, callers) for name in BESIDE for callers in CALLERS]
             best = best_rates(options.runs, {(name, callers): lambda name=name, callers=callers: BESIDE[name](filled, callers) for name, callers in keys})
@@ -261,13 +343,14 @@ def print_idle(program, _options):
             print(f"idle: a migration is marked {waits[0]:.1f} to {waits[-1]:.1f} ms behind its 201, {waits[MARKS // 2]:.1f} in the middle", flush=True)
 
 
-TABLES = {"rates": print_rates, "callers": print_callers, "memory": print_memory, "idle": print_idle}
+TABLES = {"store": print_store, "rates": print_rates, "callers": print_callers, "memory": print_memory, "idle": print_idle}
 
 
 def main():
     counts = {"requests": (9_600, "requests of each rate, 9,900 at most"), "workers": (2, "workers beside the rates and the memory")}
-    parser = parser_of(__doc__, runs=3, sizes=(SIZES, "so many objects stand while callers ask"), **counts)
-    parser.add_argument("tables", nargs="*", metavar="TABLE", help="rates, callers, memory, idle (default: all)")
+    parser = parser_of(__doc__, runs=3, **counts)
+    parser.add_argument("--sizes", type=int, nargs="+", help="so many objects stand for store and callers")
+    parser.add_argument("tables", nargs="*", metavar="TABLE", help=f"{', '.join(TABLES)} (default: all)")
     options = parser.parse_args()
     program = built(options.program)
     for name in options.tables or TABLES:
