@@ -1,6 +1,7 @@
 """The server under test: it is started, tells where it listens, is measured from outside, and ends."""
 from __future__ import annotations
 
+import atexit
 import contextlib
 import os
 import pathlib
@@ -19,10 +20,12 @@ CREATED = 8_000
 
 
 class Listening:
-    """A program that tells at the end of its first line at which address it listens. `stop` kills it, and so does the end of a block."""
+    """A program that tells at the end of its first line at which address it listens. `stop` kills it, and so does the end of a
+    block, and that of the script."""
 
     def __init__(self, line: Sequence[object], **more: Any) -> None:
         self.process = subprocess.Popen([str(it) for it in line], stdin=subprocess.DEVNULL, stdout=subprocess.PIPE, bufsize=0, **more)
+        atexit.register(self.process.kill)
         assert self.process.stdout
         self.output = self.process.stdout
         self.told = self.output.readline().decode()

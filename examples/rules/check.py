@@ -162,7 +162,7 @@ def try_project(program, file):
 def prepared(file, *words):
     """What tools/prepare_crd.py prints of a definition, and what it says."""
     done = subprocess.run([sys.executable, TOP / "tools" / "prepare_crd.py", *words, "-"], input=file.read_text(), capture_output=True, text=True)
-    return done.stdout, [line.removeprefix("prepare_crd.py: -: ") for line in done.stderr.splitlines()]
+    return done.stdout, [line.replace("prepare_crd.py: -: ", "", 1) for line in done.stderr.splitlines()]
 
 
 def try_prepared(program, file):

@@ -15,7 +15,7 @@ from harness import told
 from harness.client import Connection, Gone, address_of, answers_in, messages_of, request
 from harness.crontabs import CERTIFICATES, CRONTABS, drawn_state, generator, migration, moved
 from harness.documents import definition_of, files_of, list_of, name_of, object_schema, spelled
-from harness.programs import built, parser_of
+from harness.programs import TOP, built, parser_of
 from harness.progress import Progress
 from harness.server import Listening
 from harness.tables import Firsts, Table
@@ -114,6 +114,11 @@ class Runs(unittest.TestCase):
         self.assertEqual(it.process.returncode, -9)
         with self.assertRaises(SystemExit):
             Listening([sys.executable, "-c", "print('no')"])
+
+    def test_a_program_ends_with_the_script(self):
+        listens = "import time; print('listening on 127.0.0.1:81', flush=True); time.sleep(60)"
+        script = f"import sys; from harness.server import Listening; Listening([sys.executable, '-c', {listens!r}]); sys.exit('wrong')"
+        self.assertEqual(ran([sys.executable, "-c", script], cwd=TOP)[:3], (1, b"", b"wrong\n"))
 
     def test_options(self):
         parser = parser_of("x", runs=3, sizes=(1, 2), most_bytes=(7, "what"))
