@@ -84,9 +84,9 @@ class Mark(NamedTuple):
     where: str
     says: str
 
-    def said(self, file: str) -> str:
-        """As it is told of a file; a place in what was YAML is none of its author's."""
-        return self.says if file.endswith((".yaml", ".yml")) or not self.where else f"{self.where}: {self.says}"
+    def said(self, is_own: bool) -> str:
+        """As it is told; a place in a text that its author didn't write so is left out."""
+        return f"{self.where}: {self.says}" if is_own and self.where else self.says
 
 
 def whole(text: str) -> int:
