@@ -111,7 +111,8 @@ def main() -> int:
             definition, chosen = prepare(given, room)
             tally = rehearse(of_files(given.objects), definition, chosen, given.most, given.processes, progress)
     except Refused as why:
-        print(f"{why}rehearse: {given.rules} doesn't load by what tools/prepare_crd.py --webhook makes of {given.crd}: nothing was tried", file=sys.stderr)
+        made = f"what tools/prepare_crd.py --webhook makes of {given.crd}"
+        print(f"{why}rehearse: {given.rules} doesn't load by {made}: nothing was tried", file=sys.stderr)
         return WRONG
     except (Faulty, Unreadable, Unreachable, BrokenProcessPool) as why:
         for line in str(why).splitlines():

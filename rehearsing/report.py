@@ -79,7 +79,8 @@ def verdict(tally: Tally) -> Iterator[str]:
     counts = out_of_sight(tally)
     if counts:
         (first, count), *others = counts.items()
-        yield ", ".join([f"{counted(count, 'field')} {'is' if count == 1 else 'are'} out of sight at {first}", *(f"{it:,} at {at}" for at, it in others)])
+        said = f"{counted(count, 'field')} {'is' if count == 1 else 'are'} out of sight at {first}"
+        yield ", ".join([said, *(f"{it:,} at {at}" for at, it in others)])
 
 
 def lines(definition: Definition, tally: Tally, seconds: float) -> Iterator[str]:

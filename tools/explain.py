@@ -57,7 +57,9 @@ def lines(told: Told, names: Sequence[str]) -> str:
     return f"{name[told.fault.file]}: {told.fault.path}: {told.fault.word}\n    {told.says}\n{pastes}"
 
 
-def explained(kubeconv: str, crd: str, rules: str, names: Sequence[str], objects: str = "", to: str = "", name: Optional[str] = None) -> Tuple[str, int]:
+def explained(
+    kubeconv: str, crd: str, rules: str, names: Sequence[str], objects: str = "", to: str = "", name: Optional[str] = None
+) -> Tuple[str, int]:
     """What is told of two files, which are told by these names, or where a file of objects and a version are given of these; and the
     status."""
     program = Program(kubeconv)
