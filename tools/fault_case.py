@@ -7,7 +7,7 @@ from typing import Any, List, Optional, Tuple
 from document_faults import Told
 from fault_texts import Document, Edit, shown
 from program_asks import Fault, Program
-from schemas import HUB, ONLY, SIDES, SPOKE, Level, Node, Rule, Spot, differences, fits, is_closed, kind_of, levels, names_of, same_shaped
+from schemas import HUB, ONLY, SIDES, SPOKE, Level, Node, Rule, Spot, differences, fits, is_closed, kind_of, levels, names_of
 
 MOST_TOLD = 6
 # What the rules of each kind take.
@@ -38,15 +38,13 @@ class Case:
             found += [(level, None, spots)] if spots else []
         self.level, self.rule, self.spots = found[0] if found else (root, None, [])
         self.kind = kind_of(self.rule)
+        self.done: List[str] = []  # the paths of faults that are told with this one
 
     def with_others(self) -> List[Fault]:
         """The fault, and those of the other names of its level without a rule, where it is of one."""
-        level, told = self.level, [self.fault.path]
-        if self.rule is None and self.fault.word == "NameMissing":
-            pairs = [[level.paths[side] + name for side, name in zip(SIDES, it)] for it in same_shaped(level).items()]
-            for path in [level.paths[side] + it for side in SIDES for it in level.unpaired(side)]:
-                told += [path] if path not in told and not any(path in it and {*it} & {*told} for it in pairs) else []
-        return [self.fault, *(Fault("rules", it, "NameMissing") for it in told[1:])]
+        others = [level.paths[side] + it for level in [self.level] for side in SIDES for it in level.unpaired(side)]
+        is_free = self.rule is None and self.fault.word == "NameMissing"
+        return [self.fault, *(Fault("rules", it, "NameMissing") for it in others if is_free and it != self.fault.path)]
 
     def is_of(self, level: Level, names: List[Spot]) -> bool:
         """Whether the fault is of a rule: NameTwice and NameMissing of one with the name, others of one whose first name it is."""

@@ -204,8 +204,11 @@ class Search:
             if fault.word == "Shape":
                 told = [Told(fault, f"spokes.{name}: {MOST}; this is what mends would add")]
             elif name in spokes:
-                cases = [self.case(name, it) for it in self.case(name, fault).with_others()]
-                told = [fit_told(it) for it in cases if it is cases[0] or it.rule is None]
+                told, done = [], []  # type: List[Told], List[str]
+                for case in [self.case(name, it) for it in self.case(name, fault).with_others()]:
+                    if not told or case.rule is None and case.fault.path not in done:
+                        told.append(fit_told(case))
+                        done += case.done
             else:
                 told = [self.no_list(name, fault)]
             if not self.tell(*told):

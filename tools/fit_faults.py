@@ -98,28 +98,39 @@ def renamed(case: Case) -> Iterator[Told]:
 
 
 def partner(case: Case) -> Iterator[Told]:
-    """A field without a rule: kept, or paired with the one of the other side that it may be."""
+    """A field without a rule: kept, or paired with the one of the other side that it may be; then that one is told with it."""
     if case.rule or not case.spots:
         return
     (side, name), level = case.spots[0], case.level
-    free = level.unpaired(1 - side)
-    like = {SPOKE: same_shaped(level), HUB: {it: own for own, it in same_shaped(level).items()}}[side].get(name, "")
-    names = [name, like][:: 1 - 2 * side]
-    if like and case.takes({"same": names}):
-        both = kept(level, list(zip(SIDES, names)))
-        says = f"{level.of(1 - side, like)} has the same schema: is it the same field? If not, keep both"
-        yield case.told(says, case.instead({"same": names}), case.instead(*both) if case.takes(*both) else None)
-    near = nearest(name, free)
-    pairs = {it: {"same": [name, it][:: 1 - 2 * side]} for it in ([near] if near else free if len(free) <= MOST_TRIED else [])}
-    fitting = [it for it in pairs if case.takes(pairs[it])]
-    other = fitting[0] if len(fitting) == 1 else ""
-    back = level.unpaired(side) if other and not near else []
-    if len(back) > MOST_TRIED or any(it != name and case.takes({"same": [it, other][:: 1 - 2 * side]}) for it in back):
-        other = ""  # it may be that of another field as well
+    likely = {SPOKE: same_shaped(level), HUB: {it: own for own, it in same_shaped(level).items()}}[side].get(name, "")
+    other = likely or likely_name(case, side, name)
+    names = [name, other][:: 1 - 2 * side]
+    both = kept(level, list(zip(SIDES, names))) if other else []
+    ways = [case.instead({"same": names}), case.instead(*both)]
+    if likely and case.takes({"same": names}):
+        case.done.append(level.paths[1 - side] + other)
+        says = f"{level.of(1 - side, other)} has the same schema: is it the same field? If not, keep both"
+        yield case.told(says, ways[0], ways[1] if case.takes(*both) else None)
+    elif other and case.takes(*both):
+        case.done.append(level.paths[1 - side] + other)
+        yield case.told(f"keep it and {level.of(1 - side, other)}, which has no rule too, or pair the two", ways[1], ways[0])
     alone = kept(level, case.spots[:1])
     if case.takes(*alone):
-        says = f"keep it, where {level.versions[1 - side]} has nothing like it{f', or pair it with `{other}`' if other else ''}"
-        yield case.told(says, case.instead(*alone), case.instead(pairs[other]) if other else None)
+        yield case.told(f"keep it, where {level.versions[1 - side]} has nothing like it", case.instead(*alone))
+
+
+def likely_name(case: Case, side: int, name: str) -> str:
+    """The one field of the other side without a rule that fits by `same`, where no other fits it: by a name that is near, or else of all."""
+    near = nearest(name, case.level.unpaired(1 - side))
+    if near and nearest(near, case.level.unpaired(side)) != name:
+        return ""
+    sides = [case.level.unpaired(it) for it in SIDES]
+    sides[side], sides[1 - side] = [name] if near else sides[side], [near] if near else sides[1 - side]
+    if max(map(len, sides)) > MOST_TRIED:
+        return ""
+    fitting = [it for it in sides[1 - side] if case.takes({"same": [name, it][:: 1 - 2 * side]})]
+    back = [it for other in fitting for it in sides[side] if len(fitting) == 1 and case.takes({"same": [it, other][:: 1 - 2 * side]})]
+    return fitting[0] if back == [name] else ""
 
 
 # ---- other rules
