@@ -236,6 +236,13 @@ def stripped(case: Case) -> Iterator[Told]:
         yield case.told("take it out of the schema", edits + needed)
 
 
+def undefaulted(case: Case) -> Iterator[Told]:
+    """Fields without a rule that can be kept, but for their default."""
+    edits = [case.crd.drop(node, "default") for node in case.nodes() if "default" in node and not case.rule]
+    if edits:
+        yield case.told("a field that is kept has no default; take it out of the schema", edits)
+
+
 def pair_fault(case: Case, i: int) -> Optional[str]:
     """What is wrong with a pair of a table."""
     pairs = case.rule["table"]["pairs"] if case.rule else []
@@ -296,8 +303,8 @@ def bounds(case: Case) -> Iterator[Told]:
 
 # The ways to mend what a word is of, in the order in which they are tried.
 WAYS: Dict[str, List[Callable[[Case], Iterator[Told]]]] = {
-    "NameMissing": [of_object, turned, elsewhere, renamed, partner, both_kept, stripped],
-    "SchemaDiffers": [turned, elsewhere, other_kind, checks, opened, stripped, both_kept],
+    "NameMissing": [of_object, turned, elsewhere, renamed, partner, both_kept, stripped, undefaulted],
+    "SchemaDiffers": [turned, elsewhere, other_kind, checks, opened, stripped, both_kept, undefaulted],
     "UnpairedDefault": [tables, stripped],
     "RequiredLost": [tables, stripped],
     "RangeLost": [turned, other_hub, stripped, tables, bounds, both_kept],
