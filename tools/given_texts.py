@@ -1,7 +1,8 @@
 """The texts of the files that ./explain is given, as JSON. It is no command: tools/explain.py reads by it.
 
 A text that is JSON is taken as it stands, so that faults are told by its lines. YAML, a List, or one of several documents is written anew as
-JSON. What a file whose name ends in .json has is JSON: where it isn't, that is a fault, which kubeconv tells too.
+JSON. What a file whose name ends in .json has is JSON, and so is what begins as JSON in others but .yaml: where it isn't, that is a fault, which
+kubeconv tells too.
 """
 from __future__ import annotations
 
@@ -41,15 +42,20 @@ def as_json(text: str) -> Any:
         return None
 
 
+def is_for_json(path: str, text: str) -> bool:
+    """Whether a text is meant as JSON: by the name of its file, or else by how it begins."""
+    return path.endswith(".json") or (not path.endswith((".yaml", ".yml")) and text.lstrip()[:1] in ("{", "["))
+
+
 def documents(path: str, text: str) -> List[Any]:
-    """The documents of a text; of a faulty one in a file of JSON that is to be told as such, nothing."""
+    """The documents of a text; of a faulty one that is meant as JSON, and is to be told as such, nothing."""
     try:
         found = list(yaml2json.documents(text))
     except (ValueError, RecursionError, yaml2json.Unsaid) as why:
-        if path.endswith(".json"):
+        if is_for_json(path, text):
             return []
         raise Unusable(f"{path}: {' '.join(str(why).split())}") from None
-    return found if len(found) > 1 or not path.endswith(".json") or as_json(text) is not None else []
+    return found if len(found) > 1 or not is_for_json(path, text) or as_json(text) is not None else []
 
 
 def written(path: str, value: Any) -> Text:

@@ -28,6 +28,8 @@ class Given(unittest.TestCase):
     def test_a_text_of_json_stays_as_it_is(self):
         for text in (json.dumps(ONE, indent=3), '{"kind": "Other"}', '{"a": 1,, }', "kind: CustomResourceDefinition", ""):
             self.assertEqual(given_texts.definition(self.file(text), None), (text, True))
+        slip = '{"hub": "v1", "spokes": {},}'
+        self.assertEqual(given_texts.rules(self.file(slip, "RULES")), (slip, True))
 
     def test_yaml_and_several_definitions(self):
         several = (self.file(LIST), self.file(f"{json.dumps(ONE)}\n---\n{json.dumps(TWO)}", "y.json"), self.file(IN_YAML + "---\n" + json.dumps(TWO), "z"))
