@@ -6,20 +6,15 @@ it takes in the longer drill as in the shorter one; the run of no steps is taken
 model of checks/drill_model.py prints, so the same in every run; as many objects were created as were deleted and are there, and 64 are
 there at most."""
 
-import sys
-
-from programs import TOP, built, each_of, parser_with_runs, run_of
-
-sys.path.append(str(TOP / "checks"))
-import drill_model  # noqa: E402
+import parts  # noqa: F401
+import drill_model
+from harness.programs import built, parser_of
+from harness.tables import Table
+from harness.timing import each_of, run_of
+from harness.told import must
 
 START = 7
 STEPS = 10_000, 100_000
-
-
-def summary_of(output):
-    """The numbers of a drill, by their words."""
-    return {word: int(number) for word, number in (line.split() for line in output.decode().splitlines())}
 
 
 def drill_of(program, steps):
@@ -27,26 +22,24 @@ def drill_of(program, steps):
     wanted = drill_model.drill(START, steps)
 
     def holds(output):
-        told = summary_of(output)
-        if told["created"] != told["deleted"] + told["objects"] or told["objects"] > 64:
-            sys.exit(f"a drill of {steps} steps doesn't add up: {told}")
+        told = {word: int(number) for word, number in (line.split() for line in output.decode().splitlines())}
+        adds_up = told["created"] == told["deleted"] + told["objects"] and told["objects"] <= 64
+        must(adds_up, f"a drill of {steps} steps doesn't add up: {told}")
         return output.decode() == wanted
 
     return run_of([program, "drill", str(START), str(steps)], b"", holds)
 
 
 def main():
-    """Reads the words, runs and prints."""
-    options = parser_with_runs(__doc__).parse_args()
+    options = parser_of(__doc__, runs=3).parse_args()
     program = built(options.program)
     none = drill_of(program, 0)
     each = each_of(options.runs, {steps: (drill_of(program, steps), none) for steps in STEPS})
-    few, many = STEPS
-    times = {steps: seconds / steps * 1e6 for steps, seconds in each.items()}
-    print(f"{'steps':>8} {'microseconds a step':>20}")
+    table = Table("steps:8", "microseconds a step:20.1f")
     for steps in STEPS:
-        print(f"{steps:>8} {times[steps]:>20.1f}")
-    print(f"a step of {many} takes {times[many] / times[few]:.2f} times as long as one of {few}")
+        table.row(steps, each[steps] / steps * 1e6)
+    few, many = STEPS
+    print(f"a step of {many} takes {each[many] / many / each[few] * few:.2f} times as long as one of {few}")
 
 
 if __name__ == "__main__":

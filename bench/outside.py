@@ -1,11 +1,11 @@
 #!/usr/bin/env python3
 """Times `kubeconv migrate`, `dump` and `load`, which ask a server over loopback:
 
-    go build -o plain bench/plain/migrate/migrate.go && go build -o far bench/plain/far/far.go
+    go build -o plain bench/plain/*.go
     python3 bench/outside.py migrate --plain ./plain [--program FILE] [--sizes N ..] [--runs N]
     python3 bench/outside.py dump [--sizes N ..]
-    python3 bench/outside.py load --far ./far [--sizes N ..]
-    python3 bench/outside.py memory --far ./far [--sizes N ..]
+    python3 bench/outside.py load --plain ./plain [--sizes N ..]
+    python3 bench/outside.py memory --plain ./plain [--sizes N ..]
 
 `migrate`: against `kubeconv serve`, beside the exchanges alone. So many objects stand, and the storage version is moved. Then `migrate` puts
 all of them back; and once the storage version is moved again, a plain client makes the same exchanges, by the same bytes, each over a
@@ -26,21 +26,23 @@ is 1 MB more than for the fewest objects. A million is asked for by --sizes 1000
 
 Each tally and each code is looked at, how many lines there are, and what is put. The status is 1 where something is wrong."""
 
-import json
 import os
 import pathlib
 import re
-import resource
 import socket
 import subprocess
-import sys
 import tempfile
 import threading
 import time
-import urllib.request
 
-from programs import built, parser_with_runs
-from serving import DEFINITION, GROUP, Filled, address_of, ask, moved
+import parts  # noqa: F401
+from harness.client import Connection, end_of
+from harness.crontabs import GROUP, move
+from harness.programs import built, parser_of
+from harness.server import Filled, Listening
+from harness.tables import Firsts, Table
+from harness.timing import ran
+from harness.told import must
 
 # What is timed, by so many objects or lines.
 WORKS = {"migrate": (1_000, 4_000, 16_000), "dump": (1_000, 16_000), "load": (10_000, 100_000), "memory": (1_000, 20_000, 100_000)}
@@ -57,33 +59,27 @@ def url_of(address):
 
 
 def exchanged(address, asked):
-    """All that a request is answered."""
-    with socket.create_connection(address, 60) as connection:
-        connection.setsockopt(socket.IPPROTO_TCP, socket.TCP_NODELAY, 1)
-        connection.sendall(asked)
-        answer = bytearray()
-        while piece := connection.recv(1 << 18):
-            answer += piece
-    return bytes(answer)
+    """All that a request is answered on a connection that the server closes."""
+    with Connection(address, 60) as connection:
+        connection.send(asked)
+        return connection.rest()
 
 
 def alone(plain, address):
     """The exchanges of a run of the plain client, their seconds, and those of its processor time in them."""
-    line = [plain, "{}:{}".format(*address), RESOURCE]
-    ran = subprocess.run(line, stdin=subprocess.DEVNULL, stdout=subprocess.PIPE, text=True, check=True)
-    exchanges, seconds, processor = ran.stdout.split()
+    done = ran([plain, "migrate", "{}:{}".format(*address), RESOURCE])
+    must(done.status == 0, f"the plain client: {done}")
+    exchanges, seconds, processor = done.output.split()
     return int(exchanges), float(seconds), float(processor)
 
 
 def migrated(program, address, size):
     """A run of `migrate`: its seconds, and those of its processor time."""
-    before, begin = resource.getrusage(resource.RUSAGE_CHILDREN), time.perf_counter()
-    ran = subprocess.run([program, "migrate", url_of(address)], stdin=subprocess.DEVNULL, capture_output=True, text=True)
-    seconds, after = time.perf_counter() - begin, resource.getrusage(resource.RUSAGE_CHILDREN)
-    tally = dict(line.split() for line in ran.stdout.splitlines())
-    if ran.returncode != 0 or int(tally["listed"]) != size or int(tally["written"]) + int(tally["unchanged"]) != size:
-        sys.exit(f"migrate ended with status {ran.returncode}, {ran.stdout!r} and {ran.stderr!r}")
-    return seconds, after.ru_utime + after.ru_stime - before.ru_utime - before.ru_stime
+    done = ran([program, "migrate", url_of(address)])
+    tally = dict(line.split() for line in done.output.decode().splitlines())
+    is_whole = done.status == 0 and int(tally["listed"]) == size and int(tally["written"]) + int(tally["unchanged"]) == size
+    must(is_whole, f"migrate ended with status {done.status}, {done.output!r} and {done.errors!r}")
+    return done.seconds, done.processor
 
 
 # ---- whether the bytes are the same
@@ -95,22 +91,10 @@ def relayed(listener, address, count, kept):
         peer, _from = listener.accept()
         with peer:
             asked = b""
-            while not (found := re.match(rb"(?s).*?\r\n\r\n", asked)) or len(asked) < found.end() + length_of(found[0]):
+            while len(asked) < (end_of(asked) or len(asked) + 1):
                 asked += peer.recv(1 << 18)
             kept.append(asked)
             peer.sendall(exchanged(address, asked))
-
-
-def length_of(head):
-    found = re.search(rb"Content-Length: (\d+)", head)
-    return int(found[1]) if found else 0
-
-
-def move(filled):
-    """The other storage version."""
-    connection = filled.alone()
-    ask(connection, 200, "PUT", DEFINITION, moved(ask(connection, 200, "GET", DEFINITION)))
-    connection.close()
 
 
 def sent(address, run):
@@ -126,51 +110,41 @@ def sent(address, run):
 
 def look_at_bytes(program, plain):
     """Whether `migrate` and the plain client send the same."""
-    filled = Filled(program, FEW)
-    ours = sent(filled.server.address, lambda address: migrated(program, address, FEW))
-    plains = sent(filled.server.address, lambda address: alone(plain, address))
-    filled.server.stop()
+    with Filled(program, FEW) as filled:
+        ours = sent(filled.address, lambda address: migrated(program, address, FEW))
+        plains = sent(filled.address, lambda address: alone(plain, address))
     for one, other in zip(ours, plains):
-        if one != other:
-            sys.exit(f"migrate sends {one!r}, and the plain client {other!r}")
+        must(one == other, f"migrate sends {one!r}, and the plain client {other!r}")
 
 
 # ---- the table
 
 
-def timed(program, plain, filled, size, rows):
-    """Both, one after the other. What they took is kept in `rows`."""
-    for name in "migrate", "alone":
-        move(filled)
-        used = filled.server.processor_seconds()
-        if name == "migrate":
-            seconds, processor = migrated(program, filled.server.address, size)
-        else:
-            rows["exchanges"], seconds, processor = alone(plain, filled.server.address)
-        processor += filled.server.processor_seconds() - used
-        best = rows.setdefault(name, (seconds, processor))
-        rows[name] = min(best[0], seconds), min(best[1], processor)
+def beside(program, plain, filled, size):
+    """The seconds by the clock, and those of the processor time of both sides, of `migrate` and of the exchanges alone, and how many these are."""
+    came = []
+    for is_plain in False, True:
+        with filled.alone() as connection:
+            move(connection)
+        used = filled.processor_seconds()
+        exchanges, seconds, processor = alone(plain, filled.address) if is_plain else (0, *migrated(program, filled.address, size))
+        came += [seconds, processor + filled.processor_seconds() - used]
+    return (*came, exchanges)
 
 
 def migrations(program, options):
     look_at_bytes(program, options.plain)
-    print(f"{'objects':>8}{'exchanges':>11}{'migrate, s':>12}{'alone, s':>10}{'us each':>9}{'alone':>8}{'ratio':>8}{'processor':>11}", flush=True)
+    columns = ["migrate, s:12.2f", "alone, s:10.2f", "us each:9.0f", "alone:8.0f", "ratio:8.2f", "processor:11.2f"]
+    table = Table("objects:8", "exchanges:11", *columns)
     for size in options.sizes:
-        filled, rows = Filled(program, size), {}
-        for _ in range(options.runs):
-            timed(program, options.plain, filled, size, rows)
-        filled.server.stop()
-        exchanges, (ours, ours_used), (plains, plains_used) = rows["exchanges"], rows["migrate"], rows["alone"]
-        each = f"{ours / exchanges * 1e6:>9.0f}{plains / exchanges * 1e6:>8.0f}"
-        print(f"{size:>8}{exchanges:>11}{ours:>12.2f}{plains:>10.2f}{each}{ours / plains:>8.2f}{ours_used / plains_used:>11.2f}", flush=True)
+        with Filled(program, size) as filled:
+            runs = [beside(program, options.plain, filled, size) for _ in range(options.runs)]
+        ours, ours_used, plains, plains_used, _ = (min(it) for it in zip(*runs))
+        exchanges = runs[-1][-1]
+        table.row(size, exchanges, ours, plains, ours / exchanges * 1e6, plains / exchanges * 1e6, ours / plains, ours_used / plains_used)
 
 
 # ---- dumps and loads
-
-
-def is_so(holds, what):
-    if not holds:
-        sys.exit(f"wrong: {what}")
 
 
 def pages_alone(address):
@@ -186,40 +160,29 @@ def pages_alone(address):
 
 def dumped(program, address, size):
     """The seconds of a dump."""
-    with tempfile.TemporaryFile() as lines:
-        begin = time.perf_counter()
-        ran = subprocess.run([program, "dump", url_of(address)], stdin=subprocess.DEVNULL, stdout=lines, stderr=subprocess.PIPE)
-        seconds = time.perf_counter() - begin
-        lines.seek(0)
-        count = sum(1 for _line in lines)
-    is_so((ran.returncode, ran.stderr, count) == (0, b"", size), f"dump: {ran}, {count} lines")
-    return seconds
+    done = ran([program, "dump", url_of(address)])
+    must((done.status, done.errors, done.output.count(b"\n")) == (0, b"", size), f"dump: status {done.status}, {done.errors!r}")
+    return done.seconds
 
 
 def dumps(program, options):
-    print(f"{'objects':>8}{'dump, s':>10}{'pages, s':>10}{'us each':>9}{'pages':>8}{'ratio':>8}", flush=True)
+    table = Table("objects:8", "dump, s:10.3f", "pages, s:10.3f", "us each:9.1f", "pages:8.1f", "ratio:8.2f")
     for size in options.sizes:
-        filled = Filled(program, size)
-        ours = min(dumped(program, filled.server.address, size) for _ in range(options.runs))
-        plain = min(pages_alone(filled.server.address) for _ in range(options.runs))
-        filled.server.stop()
-        print(f"{size:>8}{ours:>10.3f}{plain:>10.3f}{ours / size * 1e6:>9.1f}{plain / size * 1e6:>8.1f}{ours / plain:>8.2f}", flush=True)
+        with Filled(program, size) as filled:
+            ours = min(dumped(program, filled.address, size) for _ in range(options.runs))
+            plain = min(pages_alone(filled.address) for _ in range(options.runs))
+        table.row(size, ours, plain, ours / size * 1e6, plain / size * 1e6, ours / plain)
 
 
-class Far:
+class Far(Listening):
     """The server in Go, over so many objects."""
 
     def __init__(self, server, objects):
-        self.process = subprocess.Popen([server, str(objects), str(BYTES)], stdin=subprocess.DEVNULL, stdout=subprocess.PIPE, text=True)
-        self.address = address_of(self.process.stdout.readline().rpartition(" ")[2].strip())
+        super().__init__([server, "far", objects, BYTES])
 
-    def told(self):
-        with urllib.request.urlopen("http://{}:{}/told".format(*self.address)) as answer:
-            return json.load(answer)
-
-    def stop(self):
-        self.process.kill()
-        self.process.wait()
+    def came(self):
+        with Connection(self.address) as connection:
+            return connection.expect(200, "GET", "/told", fields="Host: x\r\n")
 
 
 def line_of(number):
@@ -229,27 +192,20 @@ def line_of(number):
 
 def loaded(program, server, size):
     """The seconds of a load, by the clock and of its processor time."""
-    far = Far(server, 0)
-    with tempfile.TemporaryFile() as lines:
+    with Far(server, 0) as far, tempfile.TemporaryFile() as lines:
         lines.writelines(line_of(number) for number in range(size))
         lines.seek(0)
-        before, begin = resource.getrusage(resource.RUSAGE_CHILDREN), time.perf_counter()
-        ran = subprocess.run([program, "load", url_of(far.address)], stdin=lines, capture_output=True, text=True)
-        seconds, after = time.perf_counter() - begin, resource.getrusage(resource.RUSAGE_CHILDREN)
-    posts = far.told()["posts"]
-    far.stop()
-    is_so((ran.returncode, ran.stdout, posts) == (0, f"created {size}\npresent 0\n", size), f"load: {ran}, {posts} posts")
-    return seconds, after.ru_utime + after.ru_stime - before.ru_utime - before.ru_stime
+        done = ran([program, "load", url_of(far.address)], lines)
+        posts = far.came()["posts"]
+    must((done.status, done.output, posts) == (0, b"created %d\npresent 0\n" % size, size), f"load: {done}, {posts} posts")
+    return done.seconds, done.processor
 
 
 def loads(program, options):
-    print(f"{'lines':>8}{'load, s':>10}{'us each':>9}{'of load':>9}{'to the fewest':>15}", flush=True)
-    first = None
+    table, firsts = Table("lines:8", "load, s:10.2f", "us each:9.0f", "of load:9.0f", "to the fewest:15.2f"), Firsts()
     for size in options.sizes:
-        runs = [loaded(program, options.far, size) for _ in range(options.runs)]
-        seconds, used = (min(it) for it in zip(*runs))
-        first = first or seconds / size
-        print(f"{size:>8}{seconds:>10.2f}{seconds / size * 1e6:>9.0f}{used / size * 1e6:>9.0f}{seconds / size / first:>15.2f}", flush=True)
+        seconds, used = (min(it) for it in zip(*(loaded(program, options.plain, size) for _ in range(options.runs))))
+        table.row(size, seconds, seconds / size * 1e6, used / size * 1e6, firsts.ratio("line", seconds / size))
 
 
 # ---- memory
@@ -278,8 +234,7 @@ def wanted_of(line, size):
 
 def made_up(program, line, server, size):
     """The most memory that a line held over so many made up objects, in MB, and its seconds: by the clock, and of its processor time."""
-    far = Far(server, 0 if line == "load" else size)
-    with tempfile.TemporaryFile() as lines, tempfile.TemporaryFile() as told:
+    with Far(server, 0 if line == "load" else size) as far, tempfile.TemporaryFile() as lines, tempfile.TemporaryFile() as told:
         lines.writelines(line_of(number) for number in range(size if line == "load" else 0))
         lines.seek(0)
         begin = time.perf_counter()
@@ -288,10 +243,9 @@ def made_up(program, line, server, size):
         ours.stdout.close()
         memory, used = held(ours)
         seconds, written, errors = time.perf_counter() - begin, output.communicate()[0], told.seek(0) or told.read()
-    came = far.told()
-    far.stop()
+        came = far.came()
     seen = ours.returncode, errors, came["wrong"], (written, came["puts"], came["posts"])
-    is_so(seen == (0, b"", 0, wanted_of(line, size)), f"{line} of {size} made up objects: {seen}")
+    must(seen == (0, b"", 0, wanted_of(line, size)), f"{line} of {size} made up objects: {seen}")
     return memory, seconds, used
 
 
@@ -302,25 +256,23 @@ def memories(program, options):
     for size in options.sizes:
         print(f"{size:>8}", end="", flush=True)
         for name in names:
-            memory, *seconds = made_up(program, name, options.far, size)
+            memory, *seconds = made_up(program, name, options.plain, size)
             by_clock, used = (it / size * 10_000 for it in seconds)
             print(f"{memory:>13.2f}{by_clock:>12.2f}{used:>7.2f}", end="", flush=True)
-            is_so(memory < first.setdefault(name, memory) + SLACK, f"the memory of {name} grows with the objects")
+            must(memory < first.setdefault(name, memory) + SLACK, f"the memory of {name} grows with the objects")
         print(flush=True)
 
 
 def main():
     """Reads the words, runs and prints."""
-    parser = parser_with_runs(__doc__)
+    parser = parser_of(__doc__, runs=3)
     parser.add_argument("work", nargs="?", choices=WORKS, default="migrate", help="what is timed (default: migrate)")
-    parser.add_argument("--plain", help="the plain client, built by go; for migrate")
-    parser.add_argument("--far", help="the server in Go, built by go; for load and memory")
+    parser.add_argument("--plain", help="the programs in Go: a client for migrate, a server for load and memory")
     parser.add_argument("--sizes", type=int, nargs="+", help="so many objects, or lines")
     options = parser.parse_args()
     options.sizes = options.sizes or WORKS[options.work]
-    wants = {"migrate": "plain", "load": "far", "memory": "far"}.get(options.work)
-    if wants and not getattr(options, wants):
-        parser.error(f"{options.work} wants --{wants}")
+    if options.work != "dump" and not options.plain:
+        parser.error(f"{options.work} wants --plain")
     {"migrate": migrations, "dump": dumps, "load": loads, "memory": memories}[options.work](built(options.program), options)
 
 

@@ -1,6 +1,11 @@
 #!/usr/bin/env python3
-"""Times `kubeconv serve`, by four tables, of which each is a comparison within one run:
+"""Times `kubeconv serve`, by five tables, of which each is a comparison within one run:
 
+- store: creates, deletes, gets, replaces and lists of 500 by one connection while 1,000, 4,000 and 16,000 objects stand, and migrations of all
+  of them: what each takes of the server, in microseconds of processor time, and how many times as long that is as while the fewest stand.
+  What makes the objects isn't timed. Of a migration it is what one object takes of it: the storage version is moved, a migration is posted
+  and waited for until it says `Succeeded`, there and back, by one worker; what the connection asks meanwhile counts too. Behind it the
+  version is looked at, at which an object is stored.
 - rates: requests a second by 1, 4, 16 and 64 connections over loopback, and the processor time that a request takes of the
   server, each also as a ratio to one connection. A connection asks for one object after the other, and waits for each answer:
   nine reads at either version, then an edit. The clients are processes of this script, so requests a second are bounded by what
@@ -12,44 +17,33 @@
 - idle: the part of a processor that the server takes with 2 and 15 workers while nobody asks, and how long behind its 201 a
   migration that has nothing to move is marked then.
 
-What a request takes while more and more objects stand is timed by store.py, by one connection.
-Every answer is checked for its code. The program is the one in the folder of its crate, or that of --program."""
+Every answer is checked for its code. A connection is answered 10,000 requests at most, so several come one after the other."""
 
 import multiprocessing
 import os
 import sys
+import threading
 import time
 
-from documents import name_of
-from programs import built, parser_with_runs
-from serving import (
-    CREATED,
-    GROUP,
-    MIGRATIONS,
-    VERSIONS,
-    Connection,
-    Filled,
-    Server,
-    answers_of,
-    ask,
-    at_once,
-    body_of,
-    creation,
-    drawn_state,
-    generator,
-    looked_at,
-    migration,
-    number_of,
-    path_of,
-    request,
-    seconds_now,
-)
+import parts  # noqa: F401
+from chores import creations, deletes, edits, gets, lists, written
+from harness.client import Connection
+from harness.crontabs import GROUP, MIGRATIONS, VERSIONS, body_of, drawn_state, generator, looked_at, migration, move, number_of, path_of
+from harness.documents import name_of
+from harness.programs import built, parser_of
+from harness.server import CREATED, Filled, Server, at_once
+from harness.tables import Table
+from harness.timing import best_of, best_rates
+from harness.told import must
 
 CONNECTIONS = 1, 4, 16, 64
 # So many seconds a run may take.
 PATIENCE = 300
 
-SIZES = 1_000, 16_000
+# So many objects stand.
+STORED, SIZES = (1_000, 4_000, 16_000), (1_000, 16_000)
+# So many gets and replaces are made over them by one connection, and so often a migration is looked at.
+TIMES, PAUSE = 4_800, 0.01
 # So many connections ask beside each other, so many gets or replaces in all, and so many creates, since a server holds few objects more.
 CALLERS = 1, 2, 4, 8
 ASKED = 9_600
@@ -67,115 +61,191 @@ IDLE_SECONDS, GROWING_SECONDS = 20, 2
 MARKS, RESTED_SECONDS, SHORT_PAUSE = 9, 2, 0.0003
 
 
+# ---- store
+
+
+def each_of(requests_of, wanted=200):
+    """What one of these requests takes."""
+
+    def chore(filled):
+        requests = requests_of(filled)
+        return filled.asked(requests, wanted)[0] / len(requests)
+
+    return chore
+
+
+def further(filled):
+    """The numbers of the objects behind those that stand."""
+    return range(len(filled.numbers), len(filled.numbers) + CREATES)
+
+
+def get(version):
+    return each_of(lambda filled: gets(version, (turn % len(filled.numbers) for turn in range(TIMES))))
+
+
+def replace(filled):
+    """Edits of the objects that were written longest ago, one after the other."""
+    turns = sorted(range(len(filled.numbers)), key=filled.numbers.__getitem__)[:TIMES]
+    seconds, bodies = filled.asked(edits(filled, turns), 200)
+    written(filled, turns, bodies)
+    return seconds / len(turns)
+
+
+def migrate(filled):
+    """Migrations of all objects to v1 and back."""
+    with filled.alone() as connection:
+        before = filled.thread_seconds()
+        for version in VERSIONS:
+            move(connection)
+            name = f"m{time.time_ns()}"
+            connection.expect(201, "POST", MIGRATIONS, migration(name))
+            condition, _shown = looked_at(connection, name, PAUSE)
+            stored = connection.expect(200, "GET", f"/raw/default/{name_of(0)}")["apiVersion"]
+            must(condition == "Succeeded" and stored.endswith(f"/{version}"), f"the migration {name} is {condition}, and an object is stored at {stored}")
+        return (filled.thread_seconds() - before) / len(VERSIONS) / len(filled.numbers)
+
+
+# What is timed without a worker, and what with one.
+CHORES = {
+    0: {
+        "create": each_of(lambda filled: creations(further(filled)), 201),
+        "delete": each_of(lambda filled: deletes(further(filled))),
+        "get at the stored version": get("v1beta1"),
+        "get at the other version": get("v1"),
+        "replace": replace,
+        "list of 500, stored": each_of(lambda _filled: lists("v1beta1", LISTS)),
+        "list of 500, converted": each_of(lambda _filled: lists("v1", LISTS)),
+    },
+    1: {"migration, an object": migrate},
+}
+
+
+def print_store(program, options):
+    """The table of one connection over more and more objects."""
+    sizes = options.sizes or STORED
+    first, *others = sizes
+    table = Table("request:<26", f"us, {first}:12.1f", *(it for size in others for it in (f"us, {size}:12.1f", "ratio:8.2f")))
+    for workers, chores in CHORES.items():
+        servers = {size: Filled(program, size, workers) for size in sizes}
+        tasks = {(size, name): lambda it=it, chore=chore: chore(it) * 1e6 for name, chore in chores.items() for size, it in servers.items()}
+        best = best_of(options.runs, tasks)
+        for name in chores:
+            least = best[first, name]
+            table.row(name, least, *(it for size in others for it in (best[size, name], best[size, name] / least)))
+        for it in servers.values():
+            it.stop()
+
+
+# ---- clients beside each other
+
+
+def take_part(meeting, call, *words):
+    """A client: up to its first `yield` it gets ready, up to its second it does what is timed, and behind it, it leaves."""
+    client = call(*words)
+    try:
+        for _ in range(2):
+            next(client)
+            meeting.wait()
+            meeting.wait()
+        next(client, None)
+    except BaseException:
+        meeting.abort()
+        raise
+
+
+def take_parts(meeting, calls):
+    at_once(take_part, [(meeting, *call) for call in calls])
+
+
+def together(server, groups, came=()):
+    """The seconds by the clock, and of the server, that calls take which are made beside each other: those of a group in the threads of one
+    process; and what is put into the queues `came` as they leave. The server's threads are asked what they took before a client leaves."""
+    meeting = multiprocessing.Barrier(sum(map(len, groups)) + 1, timeout=PATIENCE)
+    started = [multiprocessing.Process(target=take_parts, args=(meeting, group), daemon=True) for group in groups]
+    for process in started:
+        process.start()
+    try:
+        meeting.wait()
+        used, begin = server.thread_seconds(), time.monotonic()
+        meeting.wait()
+        meeting.wait()
+        seconds, used = time.monotonic() - begin, server.thread_seconds() - used
+        meeting.wait()
+    except threading.BrokenBarrierError:
+        sys.exit("a client failed")
+    found = [queue.get(timeout=PATIENCE) for queue in came]
+    for process in started:
+        process.join()
+    return seconds, used, found
+
+
 # ---- rates
 
 
-def work(address, number, requests, gate, done):
+def work(address, number, requests):
     """The requests of one connection, over one object of its own."""
     draw, name = generator("serve", number), f"w{number}"
-    connection = Connection(address)
-    code, shown = connection.ask("GET", path_of("v1", "work", name))
-    if code == 404:
-        shown = ask(connection, 201, "POST", path_of("v1", "work"), body_of("v1", name, drawn_state(draw)))
-    at = number_of(shown)
-    done.put(number)
-    gate.wait()
-    for turn in range(requests):
-        version = VERSIONS[turn % 2]
-        if turn % 10 == 9:
-            shown = ask(connection, 200, "PUT", path_of(version, "work", name), body_of(version, name, drawn_state(draw), at))
-            at = number_of(shown)
-        else:
-            ask(connection, 200, "GET", path_of(version, "work", name))
-    connection.close()
-    done.put(number)
-
-
-def beside(address, numbers, requests, gate, done):
-    """Connections of one process, each in a thread."""
-    at_once(work, [(address, number, requests, gate, done) for number in numbers])
+    with Connection(address) as connection:
+        code, shown = connection.ask("GET", path_of("v1", "work", name))
+        if code == 404:
+            shown = connection.expect(201, "POST", path_of("v1", "work"), body_of("v1", name, drawn_state(draw)))
+        yield
+        for turn in range(requests):
+            version = VERSIONS[turn % 2]
+            if turn % 10 == 9:
+                body = body_of(version, name, drawn_state(draw), number_of(shown))
+                shown = connection.expect(200, "PUT", path_of(version, "work", name), body)
+            else:
+                connection.expect(200, "GET", path_of(version, "work", name))
+        yield
 
 
 def rate(server, connections, requests):
     """Requests a second, and the server's processor time a request, by so many connections."""
-    gate, done = multiprocessing.Event(), multiprocessing.Queue()
-    processes = min(os.cpu_count() or 1, connections)
-    each = requests // connections
-    started = []
-    for one in range(processes):
-        words = server.address, list(range(one, connections, processes)), each, gate, done
-        started.append(multiprocessing.Process(target=beside, args=words, daemon=True))
-        started[-1].start()
-    for _ in range(connections):
-        done.get(timeout=PATIENCE)
-    used, start = server.processor_seconds(), seconds_now()
-    gate.set()
-    for _ in range(connections):
-        done.get(timeout=PATIENCE)
-    seconds = seconds_now() - start
-    used = server.processor_seconds() - used
-    for process in started:
-        process.join()
-        if process.exitcode:
-            sys.exit("a client failed")
+    each, processes = requests // connections, min(os.cpu_count() or 1, connections)
+    groups = [[(work, server.address, number, each) for number in range(one, connections, processes)] for one in range(processes)]
+    seconds, used, _ = together(server, groups)
     return each * connections / seconds, used / (each * connections)
+
+
+RATES = "a second:10.0f", "to one:8.2f", "us each:9.1f", "to one:8.2f"
+
+
+def rates_of(best, one):
+    """The columns of RATES, of the most a second and the fewest seconds of one, beside those of one connection."""
+    return best[0], best[0] / one[0], best[1] * 1e6, best[1] / one[1]
 
 
 def print_rates(program, options):
     """The first table, and the most memory that its connections took."""
-    server, best = Server(program, options.workers), {}
-    for _ in range(options.runs):
-        for connections in CONNECTIONS:
-            a_second, seconds = rate(server, connections, options.requests)
-            before = best.get(connections, (0, float("inf")))
-            best[connections] = max(before[0], a_second), min(before[1], seconds)
-    print(f"{'connections':>11} {'a second':>10} {'to one':>8} {'us each':>9} {'to one':>8}")
-    for connections, (a_second, seconds) in best.items():
-        one = best[CONNECTIONS[0]]
-        print(f"{connections:>11} {a_second:>10.0f} {a_second / one[0]:>8.2f} {seconds * 1e6:>9.1f} {seconds / one[1]:>8.2f}")
-    print(f"memory: {server.memory('VmHWM'):.1f} MB at most with {max(CONNECTIONS)} connections", flush=True)
-    server.stop()
+    with Server(program, options.workers) as server:
+        best = best_rates(options.runs, {it: lambda it=it: rate(server, it, options.requests) for it in CONNECTIONS})
+        table = Table("connections:11", *RATES)
+        for connections, came in best.items():
+            table.row(connections, *rates_of(came, best[CONNECTIONS[0]]))
+        print(f"memory: {server.memory('VmHWM'):.1f} MB at most with {max(CONNECTIONS)} connections", flush=True)
 
 
 # ---- callers
 
 
-def send_all(address, asked, wanted, gate, leave, done):
-    """One connection's requests, a batch at a time; in the end the numbers at which what it wrote stands."""
-    connection = Connection(address)
-    ask(connection, 200, "GET", GROUP)
-    done.put(None)
-    gate.wait()
-    bodies = answers_of(connection, asked, wanted)
-    done.put(None)
-    # The server's thread is asked what it took before it ends.
-    leave.wait()
-    connection.close()
-    done.put([number_of(Connection.read(text)) for text in bodies] if asked[0].startswith(b"PUT") else [])
+def send_all(address, asked, wanted, came):
+    """One connection's requests, a batch at a time; gives the bodies of the answers to its edits."""
+    with Connection(address) as connection:
+        connection.expect(200, "GET", GROUP)
+        yield
+        bodies = connection.expect_all(asked, wanted)
+        yield
+    came.put(bodies if asked[0].startswith(b"PUT") else [])
 
 
-def together(server, lists, wanted):
-    """Requests a second of connections that ask for these lists of requests beside each other, what one takes of the server, and the numbers that each wrote."""
-    gate, leave, started = multiprocessing.Event(), multiprocessing.Event(), []
-    for asked in lists:
-        done = multiprocessing.Queue()
-        started.append((multiprocessing.Process(target=send_all, args=(server.address, asked, wanted, gate, leave, done), daemon=True), done))
-        started[-1][0].start()
-    for _process, done in started:
-        done.get(timeout=PATIENCE)
-    used, start = server.thread_seconds(), seconds_now()
-    gate.set()
-    for _process, done in started:
-        done.get(timeout=PATIENCE)
-    seconds, used = seconds_now() - start, server.thread_seconds() - used
-    leave.set()
-    wrote = [done.get(timeout=PATIENCE) for _process, done in started]
-    for process, _done in started:
-        process.join()
-        if process.exitcode:
-            sys.exit("a client failed")
-    count = sum(map(len, lists))
-    return count / seconds, used / count, wrote
+def callers_of(filled, lists_asked, wanted=200):
+    """Requests a second of connections that ask for these lists of requests beside each other, what one takes of the server, and the bodies
+    of the answers to each one's edits."""
+    count, came = sum(map(len, lists_asked)), [multiprocessing.Queue() for _ in lists_asked]
+    groups = [[(send_all, filled.address, asked, wanted, queue)] for asked, queue in zip(lists_asked, came)]
+    seconds, used, bodies = together(filled, groups, came)
+    return count / seconds, used / count, bodies
 
 
 def shares(filled, callers, count):
@@ -185,24 +255,14 @@ def shares(filled, callers, count):
 
 
 def get_beside(version):
-    def chore(filled, callers):
-        path = path_of(version, "default")
-        lists = [[request("GET", f"{path}/{name_of(turn)}") for turn in turns] for turns in shares(filled, callers, ASKED)]
-        return together(filled.server, lists, 200)[:2]
-
-    return chore
+    return lambda filled, callers: callers_of(filled, [gets(version, turns) for turns in shares(filled, callers, ASKED)])[:2]
 
 
 def replace_beside(filled, callers):
     turns = [own[: len(filled.numbers) // callers] for own in shares(filled, callers, ASKED)]
-    lists = []
-    for own in turns:
-        bodies = [body_of("v1beta1", name_of(turn), drawn_state(generator("edit", filled.numbers[turn])), filled.numbers[turn]) for turn in own]
-        lists.append([request("PUT", path_of("v1beta1", "default", name_of(turn)), body) for turn, body in zip(own, bodies)])
-    rate, each, wrote = together(filled.server, lists, 200)
-    for own, numbers in zip(turns, wrote):
-        for turn, number in zip(own, numbers):
-            filled.numbers[turn] = number
+    rate, each, bodies = callers_of(filled, [edits(filled, own) for own in turns])
+    for own, texts in zip(turns, bodies):
+        written(filled, own, texts)
     return rate, each
 
 
@@ -210,14 +270,9 @@ def create_beside(filled, callers):
     """Creates, which are deleted again, by as many connections as made them."""
     first, each = len(filled.numbers), CREATES // callers
     owns = [range(first + caller * each, first + (caller + 1) * each) for caller in range(callers)]
-    rate, seconds, _wrote = together(filled.server, [[creation(number) for number in own] for own in owns], 201)
-    together(filled.server, [[request("DELETE", path_of("v1beta1", "default", name_of(number))) for number in own] for own in owns], 200)
-    return rate, seconds
-
-
-def list_beside(filled, callers):
-    asked = [request("GET", path_of("v1beta1", "default") + "?limit=500")] * (LISTS // callers)
-    return together(filled.server, [asked] * callers, 200)[:2]
+    rates = callers_of(filled, [creations(own) for own in owns], 201)[:2]
+    callers_of(filled, [deletes(own) for own in owns])
+    return rates
 
 
 BESIDE = {
@@ -225,26 +280,19 @@ BESIDE = {
     "get at the other version": get_beside("v1"),
     "create": create_beside,
     "replace": replace_beside,
-    "list of 500, stored": list_beside,
+    "list of 500, stored": lambda filled, callers: callers_of(filled, [lists("v1beta1", LISTS // callers)] * callers)[:2],
 }
 
 
 def print_callers(program, options):
     """The second table."""
-    print(f"{'request':<26}{'objects':>8}{'connections':>12}{'a second':>10}{'to one':>8}{'us each':>9}{'to one':>8}")
-    for size in options.sizes:
-        filled, best = Filled(program, size), {}
-        for _ in range(options.runs):
-            for name, chore in BESIDE.items():
-                for callers in CALLERS:
-                    a_second, seconds = chore(filled, callers)
-                    before = best.get((name, callers), (0, float("inf")))
-                    best[name, callers] = max(before[0], a_second), min(before[1], seconds)
-        for (name, callers), (a_second, seconds) in best.items():
-            one = best[name, CALLERS[0]]
-            print(f"{name:<26}{size:>8}{callers:>12}{a_second:>10.0f}{a_second / one[0]:>8.2f}{seconds * 1e6:>9.1f}{seconds / one[1]:>8.2f}")
-        filled.server.stop()
-    sys.stdout.flush()
+    table = Table("request:<26", "objects:8", "connections:12", *RATES)
+    for size in options.sizes or SIZES:
+        with Filled(program, size) as filled:
+            keys = [(name, callers) for name in BESIDE for callers in CALLERS]
+            best = best_rates(options.runs, {(name, callers): lambda name=name, callers=callers: BESIDE[name](filled, callers) for name, callers in keys})
+        for name, callers in keys:
+            table.row(name, size, callers, *rates_of(best[name, callers], best[name, CALLERS[0]]))
 
 
 # ---- memory
@@ -252,22 +300,19 @@ def print_callers(program, options):
 
 def print_memory(program, options):
     """What the process holds at first, and with as many objects as there may be."""
-    server, made, full = Server(program, options.workers), 0, False
-    empty = server.memory()
-    while not full:
-        connection = Connection(server.address)
-        for _ in range(CREATED):
-            code, _shown = connection.ask("POST", path_of("v1beta1", "full"), body_of("v1beta1", name_of(made), drawn_state(generator("full", made))))
-            full = code == 507
-            if full:
-                break
-            if code != 201:
-                sys.exit(f"create {made} is answered {code}")
-            made += 1
-        connection.close()
-    print(f"memory: {empty:.1f} MB at the start, {server.memory():.1f} MB with {made} objects")
+    with Server(program, options.workers) as server:
+        made, code, empty = 0, 201, server.memory()
+        while code == 201:
+            with Connection(server.address) as connection:
+                for _ in range(CREATED):
+                    body = body_of("v1beta1", name_of(made), drawn_state(generator("full", made)))
+                    code, _shown = connection.ask("POST", path_of("v1beta1", "full"), body)
+                    if code != 201:
+                        break
+                    made += 1
+        must(code == 507, f"create {made} is answered {code}")
+        print(f"memory: {empty:.1f} MB at the start, {server.memory():.1f} MB with {made} objects")
     print(f"the chunks for objects are {CHUNKS_MB:.1f} MB, and what a connection reads and writes by {LINK_MB:.1f} MB", flush=True)
-    server.stop()
 
 
 # ---- idle
@@ -275,42 +320,37 @@ def print_memory(program, options):
 
 def marked_after(server, name):
     """So many milliseconds behind its 201 a migration is seen to be marked, where all workers had rested a while."""
-    connection = Connection(server.address)
-    time.sleep(RESTED_SECONDS)
-    ask(connection, 201, "POST", MIGRATIONS, migration(name))
-    start = seconds_now()
-    condition, shown = looked_at(connection, name, SHORT_PAUSE)
-    seconds = seconds_now() - start
-    connection.close()
-    if condition != "Succeeded":
-        sys.exit(f"{name} is {condition}: {shown}")
+    with Connection(server.address) as connection:
+        time.sleep(RESTED_SECONDS)
+        connection.expect(201, "POST", MIGRATIONS, migration(name))
+        start = time.monotonic()
+        condition, shown = looked_at(connection, name, SHORT_PAUSE)
+        seconds = time.monotonic() - start
+    must(condition == "Succeeded", f"{name} is {condition}: {shown}")
     return seconds * 1_000
 
 
 def print_idle(program, _options):
     """What the workers take while there is nothing to do."""
     for workers in IDLE_WORKERS:
-        server = Server(program, workers)
-        time.sleep(GROWING_SECONDS)
-        used, start = server.thread_seconds(), seconds_now()
-        time.sleep(IDLE_SECONDS)
-        used, seconds = server.thread_seconds() - used, seconds_now() - start
-        print(f"idle: {used / seconds:.2%} of a processor with {workers} workers", flush=True)
-        waits = sorted(marked_after(server, f"m{number}") for number in range(MARKS))
-        print(f"idle: a migration is marked {waits[0]:.1f} to {waits[-1]:.1f} ms behind its 201, {waits[MARKS // 2]:.1f} in the middle", flush=True)
-        server.stop()
+        with Server(program, workers) as server:
+            time.sleep(GROWING_SECONDS)
+            used, start = server.thread_seconds(), time.monotonic()
+            time.sleep(IDLE_SECONDS)
+            used, seconds = server.thread_seconds() - used, time.monotonic() - start
+            print(f"idle: {used / seconds:.2%} of a processor with {workers} workers", flush=True)
+            waits = sorted(marked_after(server, f"m{number}") for number in range(MARKS))
+            print(f"idle: a migration is marked {waits[0]:.1f} to {waits[-1]:.1f} ms behind its 201, {waits[MARKS // 2]:.1f} in the middle", flush=True)
 
 
-TABLES = {"rates": print_rates, "callers": print_callers, "memory": print_memory, "idle": print_idle}
+TABLES = {"store": print_store, "rates": print_rates, "callers": print_callers, "memory": print_memory, "idle": print_idle}
 
 
 def main():
-    """Reads the words, runs and prints."""
-    parser = parser_with_runs(__doc__)
-    parser.add_argument("--requests", type=int, default=9_600, help="requests of each rate, 9,900 at most (default: 9,600)")
-    parser.add_argument("--workers", type=int, default=2, help="workers beside the rates and the memory (default: 2)")
-    parser.add_argument("--sizes", type=int, nargs="+", default=SIZES, help="so many objects stand while callers ask (default: 1000 16000)")
-    parser.add_argument("tables", nargs="*", metavar="TABLE", help="rates, callers, memory, idle (default: all)")
+    counts = {"requests": (9_600, "requests of each rate, 9,900 at most"), "workers": (2, "workers beside the rates and the memory")}
+    parser = parser_of(__doc__, runs=3, **counts)
+    parser.add_argument("--sizes", type=int, nargs="+", help="so many objects stand for store and callers")
+    parser.add_argument("tables", nargs="*", metavar="TABLE", help=f"{', '.join(TABLES)} (default: all)")
     options = parser.parse_args()
     program = built(options.program)
     for name in options.tables or TABLES:

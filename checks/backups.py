@@ -13,11 +13,13 @@ import subprocess
 import tempfile
 import time
 
-from beside import SECONDS, Beside, asked_of, going, moment, move, proxied, served
-from documents import name_of, object_of
-from serving import GROUP, VERSIONS, Connection, Server, ask, body_of, drawn_state, generator, path_of, state_of
-from soak import SHARED
-from told import check, told_of
+from beside import SECONDS, Beside, Run, asked_of, begun, going, moment, move, proxied, served
+from clients import SHARED
+from harness.client import Connection
+from harness.crontabs import GROUP, VERSIONS, body_of, drawn_state, generator, path_of, state_of
+from harness.documents import name_of, object_of
+from harness.server import Server
+from harness.told import check, told_of
 
 # Set anew by a server.
 ANEW = "creationTimestamp", "deletionTimestamp", "generation", "resourceVersion", "uid"
@@ -37,33 +39,7 @@ ODD = [
 MORE = {"labels": {"b": "1", "a": ""}, "annotations": {"example.com/n": "ß"}, "finalizers": ["example.com/f"]}
 
 
-# ---- a run
-
-
-class Run:
-    """One run of `dump` or `load`: its status, what it wrote, and what it told."""
-
-    def __init__(self, program, line, address, version="v1", given=b"", **streams):
-        begin = time.monotonic()
-        streams = {"stdout": subprocess.PIPE, "stderr": subprocess.PIPE, **(streams or {"input": given})}
-        ran = subprocess.run([program, line, url_of(address, version)], timeout=SECONDS, **streams)
-        self.seconds = time.monotonic() - begin
-        self.status, self.output, self.told = ran.returncode, ran.stdout, ran.stderr.decode().strip().removeprefix("kubeconv: ")
-        self.lines = (self.output or b"").splitlines(keepends=True)
-
-    def ended(self, status, told="", output=None):
-        return (self.status, self.told) == (status, told) and (output is None or self.output == output)
-
-    def loaded(self, created, present=0):
-        return self.ended(0, "", b"created %d\npresent %d\n" % (created, present))
-
-    def said(self):
-        wrote = f"{len(self.lines)} lines" if len(self.lines) != 2 else self.output.decode().strip().replace("\n", ", ")[:80]
-        return f"{wrote}; status {self.status}{f', {self.told!r}' if self.told else ''}, {self.seconds:.2f} s"
-
-
-def url_of(address, version):
-    return "http://{}:{}{}/{}/crontabs".format(*address, GROUP, version)
+# ---- lines
 
 
 def line_of(shown):
@@ -148,15 +124,14 @@ def backups_beside(program):
 
 def odd_objects(address):
     """Makes objects whose lines have more than a state."""
-    connection = Connection(address)
-    for number, body in enumerate(ODD):
-        version = body["apiVersion"].rpartition("/")[2]
-        for namespace in "a", "a-b":
-            metadata = {**body["metadata"], **(MORE if number % 2 else {})}
-            ask(connection, 201, "POST", path_of(version, namespace), {**body, "metadata": metadata})
-    # One that is to be deleted stays, as it has finalizers.
-    ask(connection, 200, "DELETE", path_of("v1", "a-b", "owned"))
-    connection.close()
+    with Connection(address) as connection:
+        for number, body in enumerate(ODD):
+            version = body["apiVersion"].rpartition("/")[2]
+            for namespace in "a", "a-b":
+                metadata = {**body["metadata"], **(MORE if number % 2 else {})}
+                connection.expect(201, "POST", path_of(version, namespace), {**body, "metadata": metadata})
+        # One that is to be deleted stays, as it has finalizers.
+        connection.expect(200, "DELETE", path_of("v1", "a-b", "owned"))
 
 
 def lines_back(program):
@@ -220,24 +195,26 @@ def faults_of_inputs(program, address):
 
 def until_begun(address, namespace):
     """Waits until so many lines of a `load` stand."""
-    connection, until = Connection(address), time.monotonic() + SECONDS
-    while connection.ask("GET", path_of("v1", namespace, f"o{BEGUN:06d}"))[0] != 200:
-        if time.monotonic() > until:
-            raise TimeoutError(namespace)
-        time.sleep(0.01)
-    connection.close()
+    until = time.monotonic() + SECONDS
+    with Connection(address) as connection:
+        while connection.ask("GET", path_of("v1", namespace, f"o{BEGUN:06d}"))[0] != 200:
+            if time.monotonic() > until:
+                raise TimeoutError(namespace)
+            time.sleep(0.01)
 
 
-def begun(program, line, address, **streams):
-    return subprocess.Popen([program, line, url_of(address, "v1")], stderr=subprocess.PIPE, **{"stdout": subprocess.PIPE, **streams})
+def source_of(lines):
+    """A file of lines that is to be read from its begin."""
+    source = tempfile.TemporaryFile()
+    source.write(b"".join(lines))
+    source.seek(0)
+    return source
 
 
 def interrupted(program, address):
     """A `load` that is killed, one that reads a folder, and one whose input comes in small pieces, with waits."""
     lines = lines_for("killed", MANY)
-    with tempfile.TemporaryFile() as source:
-        source.write(b"".join(lines))
-        source.seek(0)
+    with source_of(lines) as source:
         load = begun(program, "load", address, stdin=source)
         until_begun(address, "killed")
         load.kill()
@@ -278,9 +255,7 @@ def faults_of_streams(program, address):
 
 def a_server_that_ends(program):
     server = Server(program, 0)
-    with tempfile.TemporaryFile() as source:
-        source.write(b"".join(lines_for("ended", MANY)))
-        source.seek(0)
+    with source_of(lines_for("ended", MANY)) as source:
         with begun(program, "load", server.address, stdin=source) as load:
             until_begun(server.address, "ended")
             server.stop()

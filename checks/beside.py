@@ -1,4 +1,4 @@
-"""What the steps of outside.py share: servers, and clients of `kubeconv serve` that write beside."""
+"""What the steps of outside.py share: servers, runs of a line, and clients of `kubeconv serve` that write beside."""
 
 import contextlib
 import json
@@ -8,10 +8,13 @@ import threading
 import time
 import urllib.request
 
-import parts  # noqa: F401  finds the next ones
-from serving import DEFINITION, Connection, Server, address_of, ask, creation, moved, state_of
-from soak import SHARED, Client, faults_at_end, faults_of_numbers, faults_of_shared, open_shared
-from told import check, told_of
+import parts  # noqa: F401
+from clients import SHARED, Client, judged, open_shared
+from harness import crontabs
+from harness.client import Connection
+from harness.crontabs import GROUP, state_of
+from harness.server import Filled, Listening
+from harness.told import check, told_of
 
 CLIENTS = 8
 # A connection is asked so much.
@@ -22,50 +25,28 @@ SECONDS = 300
 # ---- servers
 
 
-def fill(address, size):
-    connection = Connection(address)
-    for first in range(0, size, 100):
-        asked = [creation(number) for number in range(first, min(first + 100, size))]
-        connection.send(b"".join(asked))
-        if any(connection.answer()[0] != 201 for _ in asked):
-            sys.exit("an object isn't created")
-    connection.close()
-
-
 @contextlib.contextmanager
 def served(program, size):
-    """A server without workers at which so many objects stand."""
-    server = Server(program, 0)
-    try:
-        fill(server.address, size)
+    """The address of a server without workers at which so many objects stand."""
+    with Filled(program, size) as server:
         yield server.address
-    finally:
-        server.stop()
 
 
 def move(address):
     """The other storage version."""
-    connection = Connection(address)
-    definition = moved(ask(connection, 200, "GET", DEFINITION))
-    ask(connection, 200, "PUT", DEFINITION, definition)
-    connection.close()
-    return next(it["name"] for it in definition["spec"]["versions"] if it["storage"])
+    with Connection(address) as connection:
+        return crontabs.move(connection)
 
 
 @contextlib.contextmanager
 def listening(line):
-    """A program that tells at the end of its first line at which address it listens, and this address."""
-    process = subprocess.Popen(line, stdin=subprocess.DEVNULL, stdout=subprocess.PIPE, text=True)
-    try:
-        yield address_of(process.stdout.readline().rpartition(" ")[2].strip())
-    finally:
-        process.kill()
-        process.wait()
+    with Listening(line) as it:
+        yield it.address
 
 
 def going(server, mode, objects, size):
     """The server in Go."""
-    return listening([server, mode, str(objects), str(size)])
+    return listening([server, "keeper", mode, objects, size])
 
 
 def proxied(address, *words):
@@ -78,11 +59,49 @@ def asked_of(address, path):
         return answer.headers, json.load(answer)
 
 
+# ---- runs
+
+
+def url_of(address, version="v1"):
+    return "http://{}:{}{}/{}/crontabs".format(*address, GROUP, version)
+
+
+def begun(program, line, address, **streams):
+    return subprocess.Popen([program, line, url_of(address)], stderr=subprocess.PIPE, **{"stdout": subprocess.PIPE, **streams})
+
+
+class Run:
+    """One run of `migrate`, `dump` or `load`: its status, what it wrote, and what it told."""
+
+    def __init__(self, program, line, address, version="v1", given=b"", **streams):
+        begin = time.monotonic()
+        streams = {"stdout": subprocess.PIPE, "stderr": subprocess.PIPE, **(streams or {"input": given})}
+        try:
+            ran = subprocess.run([program, line, url_of(address, version)], timeout=SECONDS, **streams)
+        except subprocess.TimeoutExpired:
+            sys.exit(f"no end of {line} in {SECONDS} s")
+        self.seconds = time.monotonic() - begin
+        self.status, self.output, self.told = ran.returncode, ran.stdout, ran.stderr.decode().strip().removeprefix("kubeconv: ")
+        self.lines = (self.output or b"").splitlines(keepends=True)
+
+    def ended(self, status, told="", output=None):
+        return (self.status, self.told) == (status, told) and (output is None or self.output == output)
+
+    def loaded(self, created, present=0):
+        return self.ended(0, "", b"created %d\npresent %d\n" % (created, present))
+
+    def wrote(self):
+        return f"{len(self.lines)} lines" if len(self.lines) != 2 else self.output.decode().strip().replace("\n", ", ")[:80]
+
+    def said(self):
+        return f"{self.wrote()}; status {self.status}{f', {self.told!r}' if self.told else ''}, {self.seconds:.2f} s"
+
+
 # ---- clients
 
 
 class Writer(Client):
-    """A client of checks/soak.py that waits behind each request, goes on until it is told to end, and keeps what stood when."""
+    """A client that waits behind each request, goes on until it is told to end, and keeps what stood when."""
 
     def __init__(self, address, mark, number, pause):
         super().__init__(address, mark, number, REQUESTS, float("inf"))
@@ -142,14 +161,10 @@ class Beside:
             it.pause = times * max(it.pause, 0.005)
 
     def look(self):
-        """What the clients were answered, by the rules of checks/soak.py. A put of `migrate` looks like a worker's touch."""
-        wrong = [fault for one in self.known for fault in one["wrong"]]
-        of_numbers, touched = faults_of_numbers(self.made, [{**one, "moves": 1} for one in self.known])
-        of_shared, edits = faults_of_shared(self.made, self.known, touched)
-        at_end, objects = faults_at_end(self.address, self.mark, self.known, edits)
-        wrong += of_numbers + of_shared + at_end
+        """What the clients were answered, by the rules of clients.py. A put of `migrate` looks like a worker's touch."""
+        wrong, touches, objects = judged(self.address, self.mark, self.made, self.known, is_moved=True)
         writes = sum(len(one["numbers"]) for one in self.known)
-        said = f"{self.asked()} requests of clients, {writes} writes, {len(touched)} puts of migrate seen, {objects} objects of theirs"
+        said = f"{self.asked()} requests of clients, {writes} writes, {touches} puts of migrate seen, {objects} objects of theirs"
         check(not wrong, said + told_of(wrong))
 
     def keys(self):

@@ -12,7 +12,6 @@ then the status is 1. It takes a few seconds.
 import concurrent.futures
 import fcntl
 import json
-import os
 import re
 import resource
 import select
@@ -23,11 +22,15 @@ import sys
 import termios
 import time
 
-import parts  # noqa: F401  finds the next ones
+import parts  # noqa: F401
 from fold import Call, History
-from programs import TOP
+from harness.client import Connection, request
+from harness.crontabs import DEFINITION, MIGRATIONS, head_of, migration, moved, path_of
+from harness.documents import object_of, spelled
+from harness.programs import FIRST_FILES
+from harness.server import Server
+from harness.told import Wrong, cases, same
 
-FILES = ["--crd", TOP / "examples/rules/same.json", "--rules", TOP / "examples/rules/same.rules.json"]
 # So many seconds an answer, or the end of the program, is waited for, and what isn't to come.
 SECONDS, MOMENT = 30, 0.2
 # So many connections have a thread of their own at once, and so many handles each.
@@ -35,15 +38,6 @@ THREADS, HANDLES = 64, 2
 # So many requests two callers make each beside each other, of so many objects.
 TASKS, PLACES = 4_000, 16
 
-OBJECTS = "/apis/example.com/{}/namespaces/default/crontabs"
-DEFINITION = "/apis/apiextensions.k8s.io/v1/customresourcedefinitions/crontabs.example.com"
-MIGRATIONS = "/apis/storagemigration.k8s.io/v1alpha1/storageversionmigrations"
-MIGRATION = {
-    "apiVersion": "storagemigration.k8s.io/v1alpha1",
-    "kind": "StorageVersionMigration",
-    "metadata": {"name": "m"},
-    "spec": {"resource": {"group": "example.com", "resource": "crontabs"}},
-}
 STAMPS = re.compile(rb'"creationTimestamp":"\d{4}-\d\d-\d\dT\d\d:\d\d:\d\dZ"')
 UIDS = re.compile(rb'"uid":"[0-9a-f]{8}-[0-9a-f]{4}-8[0-9a-f]{3}-[89ab][0-9a-f]{3}-')
 NUMBER = re.compile(rb'"resourceVersion":"([0-9]+)"')
@@ -55,24 +49,8 @@ TOLD = re.compile(rb'"message":"([0-9]+)"')
 KINDS = [("create", (201, 409)), ("get", (200, 404)), ("replace", (200, 404, 409)), ("delete", (200, 404))]
 
 
-class Wrong(Exception):
-    """Something that isn't as it is to be."""
-
-
-def same(what, came, wanted):
-    if came != wanted:
-        raise Wrong(f"{what}:\n  came   {came!r:.1000}\n  wanted {wanted!r:.1000}")
-
-
-def request(method, path, body=None):
-    if body is None:
-        return f"{method} {path} HTTP/1.1\r\n\r\n".encode()
-    text = json.dumps(body, separators=(",", ":"))
-    return f"{method} {path} HTTP/1.1\r\nContent-Length: {len(text)}\r\n\r\n{text}".encode()
-
-
 def response(line, document):
-    text = json.dumps(document, separators=(",", ":"))
+    text = spelled(document).decode()
     return f"HTTP/1.1 {line}\r\nContent-Type: application/json\r\nContent-Length: {len(text)}\r\n\r\n{text}".encode()
 
 
@@ -107,52 +85,27 @@ def absent(name):
 
 
 def creates(host):
-    body = {"apiVersion": "example.com/v1beta1", "kind": "CronTab", "metadata": {"name": "a"}, "address": host}
-    return request("POST", OBJECTS.format("v1beta1"), body)
+    return request("POST", path_of("v1beta1"), object_of("v1beta1", "a", address=host))
 
 
 def gets(name):
-    return request("GET", f"{OBJECTS.format('v1')}/{name}")
+    return request("GET", path_of("v1", name=name))
 
 
 def stores_v1():
     """The definition, with the other storage version."""
-    definition = json.loads(FILES[1].read_text())
-    for version in definition["spec"]["versions"]:
-        version["storage"] = version["name"] == "v1"
-    return request("PUT", DEFINITION, definition)
+    return request("PUT", DEFINITION, moved(json.loads(FIRST_FILES[1].read_text())))
 
 
-class Peer:
+class Peer(Connection):
     """The peer of one connection."""
-
-    def __init__(self, port):
-        self.socket = socket.create_connection(("127.0.0.1", port), SECONDS)
-        self.held = b""
-
-    def send(self, data):
-        self.socket.sendall(data)
-
-    def more(self):
-        data = self.socket.recv(1 << 16)
-        if not data:
-            raise Wrong(f"the connection ended behind {self.held!r}")
-        self.held += data
 
     def answer(self):
         """The next answer, with one moment and one first half of a uid in the places of all."""
-        while b"\r\n\r\n" not in self.held:
-            self.more()
-        head, between, _ = self.held.partition(b"\r\n\r\n")
-        begin = len(head + between)
-        end = begin + int(re.search(rb"\r\nContent-Length: ([0-9]+)", head)[1])
-        while len(self.held) < end:
-            self.more()
-        body, self.held = self.held[begin:end], self.held[end:]
-        body = STAMPS.sub(b'"creationTimestamp":"2024-01-02T03:04:05Z"', body)
-        return head + between + UIDS.sub(b'"uid":"00000000-0000-8000-8000-', body)
+        text = STAMPS.sub(b'"creationTimestamp":"2024-01-02T03:04:05Z"', self.next().text)
+        return UIDS.sub(b'"uid":"00000000-0000-8000-8000-', text)
 
-    def ask(self, asked):
+    def told(self, asked):
         self.send(asked)
         return self.answer()
 
@@ -160,7 +113,7 @@ class Peer:
         """Sends nothing more, and is told nothing more."""
         self.socket.shutdown(socket.SHUT_WR)
         same("what comes behind the last answer", self.held + self.socket.recv(1), b"")
-        self.socket.close()
+        self.close()
 
     def is_told(self, seconds):
         """Whether something comes within so many seconds."""
@@ -170,48 +123,30 @@ class Peer:
         """How many bytes came that aren't read."""
         return struct.unpack("i", fcntl.ioctl(self.socket, termios.FIONREAD, b"\0" * 4))[0]
 
-    def breaks(self):
-        """The connection is broken, and not ended."""
-        self.socket.setsockopt(socket.SOL_SOCKET, socket.SO_LINGER, struct.pack("ii", 1, 0))
-        self.socket.close()
 
-
-class Server:
+class Ending(Server):
     """The program over a line of `serve`, for so many connections and with so many workers, until it ends so."""
 
     def __init__(self, program, connections, workers, status=0, errors=b""):
-        count = ["--connections", str(connections), "--workers", str(workers)]
-        line = [program, "serve", *FILES, "--listen", "127.0.0.1:0", *count]
-        pipes = {"stdin": subprocess.DEVNULL, "stdout": subprocess.PIPE, "stderr": subprocess.PIPE}
-        self.process = subprocess.Popen(line, bufsize=0, **pipes)
+        super().__init__(program, workers, connections, files=FIRST_FILES, stderr=subprocess.PIPE)
         self.wanted = (status, b"", errors)
-
-    def __enter__(self):
-        told = self.process.stdout.readline()
-        found = re.fullmatch(rb"listening on 127\.0\.0\.1:([1-9][0-9]*)\n", told)
-        if not found:
-            raise Wrong(f"it told {told!r}")
-        self.port = int(found[1])
-        return self
+        if not re.fullmatch(r"listening on 127\.0\.0\.1:[1-9][0-9]*\n", self.told):
+            self.stop()
+            raise Wrong(f"it told {self.told!r}")
 
     def __exit__(self, kind, _why, _where):
         if kind is None:
             output, errors = self.process.communicate(timeout=SECONDS)
             same("status, output and errors", (self.process.returncode, output, errors), self.wanted)
-        self.process.kill()
-        self.process.wait()
+        self.stop()
 
     def connect(self):
-        return Peer(self.port)
-
-    def seen(self, what):
-        """How many threads it has (`task`), or handles (`fd`)."""
-        return len(os.listdir(f"/proc/{self.process.pid}/{what}"))
+        return Peer(self.address, SECONDS)
 
 
 def one_connection_over_tcp(program):
     """Two requests are answered, and the program ends behind the one connection."""
-    with Server(program, 1, 2) as server:
+    with Ending(program, 1, 2) as server:
         peer = server.connect()
         peer.send(creates("localhost") + gets("a"))
         same("the create", peer.answer(), shown("201 Created", "v1beta1", "localhost", 2))
@@ -222,18 +157,18 @@ def one_connection_over_tcp(program):
 def three_connections_and_a_worker_of_serve(program):
     """Two connections, which came first, wait until a third was told that the migration succeeded which it started and a worker carried
     out beside the three. A program with one thread would wait for the first one, and never answer the third."""
-    with Server(program, 3, 1) as server:
+    with Ending(program, 3, 1) as server:
         first, second, third = server.connect(), server.connect(), server.connect()
-        third.send(creates("localhost") + stores_v1() + request("POST", MIGRATIONS, MIGRATION))
+        third.send(creates("localhost") + stores_v1() + request("POST", MIGRATIONS, migration("m")))
         same("the create", third.answer(), shown("201 Created", "v1beta1", "localhost", 2))
         same("the storage version", third.answer().split(b"\r\n")[0], b"HTTP/1.1 200 OK")
         same("the start", third.answer().split(b"\r\n")[0], b"HTTP/1.1 201 Created")
         until = time.monotonic() + SECONDS
-        while b'"Succeeded"' not in third.ask(request("GET", f"{MIGRATIONS}/m")):
+        while b'"Succeeded"' not in third.told(request("GET", f"{MIGRATIONS}/m")):
             same("whether the migration comes to its end in time", time.monotonic() < until, True)
             time.sleep(0.01)
         for peer in first, second:
-            same("the get", peer.ask(gets("a")), shown("200 OK", "v1", "localhost", 5))
+            same("the get", peer.told(gets("a")), shown("200 OK", "v1", "localhost", 5))
         for peer in first, second, third:
             peer.end()
 
@@ -242,22 +177,22 @@ def one_more_connection_than_threads(program):
     """As many connections as have a thread at once wait with a part of a request for one that comes behind them, which the accepting
     thread serves; one more isn't answered before that one has ended. A long part keeps a connection for a minute."""
     part, rest = gets("x")[:-4] + b"\r\nX: " + b"x" * 15_000, b"\r\n\r\n"
-    with Server(program, THREADS + 2, 0) as server:
+    with Ending(program, THREADS + 2, 0) as server:
         waiting = [server.connect() for _ in range(THREADS)]
         for peer in waiting:
             peer.send(part)
         last, behind = server.connect(), server.connect()
-        same("the one behind them", last.ask(gets("x")), absent("x"))
-        same("threads", server.seen("task"), THREADS + 1)
+        same("the one behind them", last.told(gets("x")), absent("x"))
+        same("threads", server.count("task"), THREADS + 1)
         last.send(part)
         behind.send(gets("x"))
         same("whether the last one is answered meanwhile", behind.is_told(MOMENT), False)
-        same("the one behind them, again", last.ask(rest), absent("x"))
+        same("the one behind them, again", last.told(rest), absent("x"))
         last.end()
         same("the last one", behind.answer(), absent("x"))
         behind.end()
         for peer in waiting:
-            same("one that waited", peer.ask(rest), absent("x"))
+            same("one that waited", peer.told(rest), absent("x"))
             peer.end()
 
 
@@ -273,9 +208,9 @@ def connections_that_fail_in_the_middle(program):
     """One breaks in the middle of a request and one in the middle of answers that it doesn't read. The others, one before and one behind
     these, are answered, and the program ends as if nothing had been."""
     host = "h" * 200_000
-    with Server(program, 4, 1) as server:
+    with Ending(program, 4, 1) as server:
         first, half, deaf = server.connect(), server.connect(), server.connect()
-        same("the create", first.ask(creates(host)), shown("201 Created", "v1beta1", host, 2))
+        same("the create", first.told(creates(host)), shown("201 Created", "v1beta1", host, 2))
         half.send(creates("localhost")[:-10])
         deaf.send(gets("a") * 100)
         is_held_up(deaf)
@@ -283,18 +218,18 @@ def connections_that_fail_in_the_middle(program):
         deaf.breaks()
         last = server.connect()
         for peer in last, first:
-            same("the get", peer.ask(gets("a")), shown("200 OK", "v1", host, 2))
+            same("the get", peer.told(gets("a")), shown("200 OK", "v1", host, 2))
             peer.end()
 
 
 def an_accept_that_fails(program):
     """There are handles for three connections. These are answered to their end, and then the program ends, as it can't listen."""
-    with Server(program, 4, 2, 8, b"kubeconv: listening failed\n") as server:
-        most = server.seen("fd") + 3 * HANDLES
+    with Ending(program, 4, 2, 8, b"kubeconv: listening failed\n") as server:
+        most = server.count("fd") + 3 * HANDLES
         resource.prlimit(server.process.pid, resource.RLIMIT_NOFILE, (most, most))
         peers = [server.connect() for _ in range(3)]
         for peer in reversed(peers):
-            same("the get", peer.ask(gets("x")), absent("x"))
+            same("the get", peer.told(gets("x")), absent("x"))
         for peer in peers:
             peer.end()
 
@@ -302,7 +237,7 @@ def an_accept_that_fails(program):
 def an_address_that_is_taken(program):
     """Nothing is told, and the status is the same."""
     with socket.create_server(("127.0.0.1", 0)) as taken:
-        line = [program, "serve", *FILES, "--listen", f"127.0.0.1:{taken.getsockname()[1]}"]
+        line = [program, "serve", *FIRST_FILES, "--listen", f"127.0.0.1:{taken.getsockname()[1]}"]
         came = subprocess.run(line, stdin=subprocess.DEVNULL, capture_output=True, timeout=SECONDS)
     same("status, output and errors", (came.returncode, came.stdout, came.stderr), (8, b"", b"kubeconv: listening failed\n"))
 
@@ -319,10 +254,9 @@ def place_of(caller, task):
     return ((task // 4 + caller * 5) * times + more) % PLACES
 
 
-def writes(method, place, host, **more):
-    path = OBJECTS.format("v1") + (f"/o{place}" if method == "PUT" else "")
-    body = {"apiVersion": "example.com/v1", "host": host, "kind": "CronTab", "metadata": {"name": f"o{place}", **more}}
-    return request(method, path, body)
+def writes(method, place, host, number=None):
+    body = {**head_of("CronTab", "v1", f"o{place}", number), "host": host}
+    return request(method, path_of("v1", name=f"o{place}" if method == "PUT" else None), body)
 
 
 def task_of(caller, task, last):
@@ -331,8 +265,8 @@ def task_of(caller, task, last):
     if task % 4 == 0:
         return writes("POST", place, host)
     if task % 4 == 2:
-        return writes("PUT", place, host, resourceVersion=found(NUMBER, last) or "1")
-    return request("GET" if task % 4 == 1 else "DELETE", f"{OBJECTS.format('v1')}/o{place}")
+        return writes("PUT", place, host, found(NUMBER, last) or "1")
+    return request("GET" if task % 4 == 1 else "DELETE", path_of("v1", name=f"o{place}"))
 
 
 def call_of(caller, task, asked, answer, sent, came):
@@ -353,7 +287,7 @@ def calls_of(server, caller):
     for task in range(TASKS):
         asked = task_of(caller, task, answer)
         sent = time.monotonic()
-        answer = peer.ask(asked)
+        answer = peer.told(asked)
         calls.append(call_of(caller, task, asked, answer, sent, time.monotonic()))
     peer.end()
     return calls
@@ -362,17 +296,17 @@ def calls_of(server, caller):
 def two_callers(program):
     """Two callers make requests beside each other. There is one history of writes, one after another, so that what each call was answered was so
     at a moment of it between its request and its answer, and what stands at the end is what all come to."""
-    with Server(program, 3, 0) as server:
+    with Ending(program, 3, 0) as server:
         with concurrent.futures.ThreadPoolExecutor() as pool:
             calls = [it for each in pool.map(lambda caller: calls_of(server, caller), range(2)) for it in each]
         history = History(calls, PLACES)
         same("the faults of the history", history.faults()[:3], [])
         peer = server.connect()
         for place in range(PLACES):
-            shown = peer.ask(request("GET", f"{OBJECTS.format('v1')}/o{place}"))
+            shown = peer.told(request("GET", path_of("v1", name=f"o{place}")))
             number, host = history.stands(place)
             same("the object", (found(NUMBER, shown), found(HOST, shown)), (number and str(number), host))
-        next_number = found(NUMBER, peer.ask(writes("POST", PLACES, "h")))
+        next_number = found(NUMBER, peer.told(writes("POST", PLACES, "h")))
         same("the number behind all writes", next_number, str(history.end + 1))
         peer.end()
 
@@ -388,20 +322,7 @@ CASES = [
 ]
 
 
-def main(words):
-    if len(words) != 1:
-        sys.exit(__doc__)
-    wrong = 0
-    for case in CASES:
-        begun = time.monotonic()
-        try:
-            case(words[0])
-            print(f"{case.__name__}: {time.monotonic() - begun:.1f} seconds")
-        except (Wrong, OSError, subprocess.TimeoutExpired) as why:
-            print(f"{case.__name__}: wrong: {why}", file=sys.stderr)
-            wrong = 1
-    return wrong
-
-
 if __name__ == "__main__":
-    sys.exit(main(sys.argv[1:]))
+    if len(sys.argv) != 2:
+        sys.exit(__doc__)
+    cases(CASES, sys.argv[1])

@@ -17,13 +17,16 @@ import subprocess
 import sys
 import tempfile
 
-import parts  # noqa: F401  finds the next ones
+import parts  # noqa: F401
 from conversion_draw import Draw
 from conversion_model import Definition, Refused, alike, is_taken, text
-from documents import GROUP, object_of, spelled
-from programs import built, parser_of
+from harness.client import answers_in, request
+from harness.crontabs import path_of
+from harness.documents import GROUP, definition_of, files_of, object_of, review_of
+from harness.programs import built, parser_of
+from harness.progress import Progress
 
-KIND, PLURAL = "CronTab", "crontabs"
+KIND = "CronTab"
 OBJECTS, REPLACES = 12, 6
 
 
@@ -39,9 +42,7 @@ class Store:
         self.stood, self.asked = {}, []
 
     def ask(self, method, version, name, given=None, wanted=(200, None)):
-        target = f"/apis/{GROUP}/{version}/namespaces/default/{PLURAL}" + ("" if method == "POST" else f"/{name}")
-        body = b"" if given is None else spelled(given)
-        self.asked.append((f"{method} {target} HTTP/1.1\r\nContent-Length: {len(body)}\r\n\r\n".encode() + body, wanted))
+        self.asked.append((request(method, path_of(version, name=None if method == "POST" else name), given), wanted))
 
     def shown(self, name, version):
         body, annotations, number, generation = self.stood[name]
@@ -86,17 +87,6 @@ def invalid(name, fault):
     return {**status, "metadata": {}, "reason": "Invalid", "status": "Failure"}
 
 
-def answers(output):
-    """The codes and the bodies of answers that stand one behind the other."""
-    at = 0
-    while at < len(output):
-        end = output.index(b"\r\n\r\n", at)
-        head = output[at:end].decode().lower().split("\r\n")
-        length = int(next(it for it in head if it.startswith("content-length: "))[16:])
-        at = end + 4 + length
-        yield int(head[0].split(" ")[1]), output[end + 4 : at].decode()
-
-
 def without_stamps(said):
     """A document without what the model doesn't know. It has to be compact text."""
     document = json.loads(said)
@@ -112,15 +102,9 @@ def same(asked, came, wanted):
         raise Different(f"{asked}\n  came   {came[0]} {text(came[1])}\n  wanted {wanted[0]} {text(wanted[1])}")
 
 
-def files_of(folder, draw):
-    """The words that name the files of a definition, and its storage version."""
-    stored = draw.random.choice(list(draw.schemas))
-    listed = [{"name": it, "served": True, "storage": it == stored, "schema": {"openAPIV3Schema": schema}} for it, schema in draw.schemas.items()]
-    spec = {"group": GROUP, "names": {"kind": KIND, "plural": PLURAL}, "scope": "Namespaced", "versions": listed}
-    head = {"apiVersion": "apiextensions.k8s.io/v1", "kind": "CustomResourceDefinition", "metadata": {"name": f"{PLURAL}.{GROUP}"}}
-    (folder / "crd.json").write_bytes(spelled({**head, "spec": spec}))
-    (folder / "rules.json").write_bytes(spelled({"hub": draw.hub, "spokes": draw.rules}))
-    return ["--crd", folder / "crd.json", "--rules", folder / "rules.json"]
+def written(folder, draw):
+    """The words that name the files of a definition."""
+    return files_of(folder, "drawn", definition_of(draw.schemas, draw.random.choice(list(draw.schemas))), draw.rules, draw.hub)
 
 
 def run(line, given=b""):
@@ -144,12 +128,12 @@ def try_requests(program, words, draw, definition):
             store.write(version, name, *draw.edited(version, store.shown(name, version)))
         else:
             store.write(version, name, *draw.written(version, definition))
-    done = run([program, "pipe", *words], b"".join(request for request, _ in store.asked))
+    done = run([program, "pipe", *words], b"".join(asked for asked, _ in store.asked))
     if done.returncode:
         raise Different(f"pipe ended with status {done.returncode}: {done.stderr.decode()}")
-    came = list(answers(done.stdout))
-    for (request, wanted), (code, said) in zip(store.asked, came, strict=True):
-        same(request.decode(), (code, without_stamps(said)), wanted)
+    came = answers_in(done.stdout)
+    for (asked, wanted), it in zip(store.asked, came, strict=True):
+        same(asked.decode(), (it.code, without_stamps(it.body.decode())), wanted)
     return len(came)
 
 
@@ -167,9 +151,7 @@ def try_reviews(program, words, draw, definition):
             objects.append(given)
             meta = {"name": f"o{number}", **({"annotations": beside} if beside else {})}
             wanted.append({**object_of(to, f"o{number}", **over), "metadata": meta})
-        asked = {"uid": "u", "desiredAPIVersion": f"{GROUP}/{to}", "objects": objects}
-        review = {"apiVersion": "apiextensions.k8s.io/v1", "kind": "ConversionReview", "request": asked}
-        done = run([program, "review", *words], spelled(review))
+        done = run([program, "review", *words], review_of(objects, to))
         came = json.loads(done.stdout)["response"].get("convertedObjects", [])
         for one, here, there in zip(objects, came, wanted, strict=True):
             same(f"{text(one)} to {to}", (0, here), (0, there))
@@ -181,7 +163,7 @@ def try_one(program, folder, start):
     """Whether a definition is refused, the answers and the converted objects, and the fields that got the default of another version."""
     draw = Draw(start)
     definition = Definition(draw.schemas, draw.hub, draw.rules)
-    words = files_of(folder, draw)
+    words = written(folder, draw)
     late = definition.late()
     if late:
         return try_late(program, words, late), 0, 0, 0
@@ -189,20 +171,20 @@ def try_one(program, folder, start):
 
 
 def main():
-    parser = parser_of(__doc__)
-    parser.add_argument("--definitions", type=int, default=300, help="so many definitions (default: 300)")
-    parser.add_argument("--start", type=int, default=0, help="the number of the first one (default: 0)")
-    options = parser.parse_args()
-    program, counts = built(options.program), [0, 0, 0, 0]
-    with tempfile.TemporaryDirectory() as folder:
+    options = parser_of(__doc__, definitions=(300, "so many definitions"), start=(0, "the number of the first one")).parse_args()
+    program, counts, progress = built(options.program), [0, 0, 0, 0], Progress()
+    with tempfile.TemporaryDirectory() as place:
+        folder = pathlib.Path(place)
         for start in range(options.start, options.start + options.definitions):
             try:
-                came = try_one(program, pathlib.Path(folder), start)
+                came = try_one(program, folder, start)
             except Different as it:
-                for file in ("crd.json", "rules.json"):
-                    print(f"{file}: {(pathlib.Path(folder) / file).read_text()}", file=sys.stderr)
+                for file in sorted(folder.iterdir()):
+                    print(f"{file.name}: {file.read_text()}", file=sys.stderr)
                 sys.exit(f"definition {start}: {it}")
             counts = [one + other for one, other in zip(counts, came)]
+            progress.tell(f"definition {start}", (start - options.start) / options.definitions)
+    progress.end()
     late, requests, objects, completed = counts
     said = f"{options.definitions} definitions, of which {late} were refused; {requests} answers and {objects} converted objects are the model's"
     print(f"{said}; {completed} fields got the default of another version")

@@ -30,9 +30,11 @@ import subprocess
 import sys
 import tempfile
 
-import parts  # noqa: F401  finds the next ones
-from documents import object_of, pair_of, spelled
-from programs import CRATE, SHARED_FILES, TOP, built, parser_of
+import parts  # noqa: F401
+from harness.client import messages_of, request
+from harness.crontabs import GROUP, path_of
+from harness.documents import object_of, pair_of, spelled
+from harness.programs import CRATE, SHARED_FILES, TOP, built, parser_of
 
 LIBRARY = r"""
 typedef unsigned long size;
@@ -84,36 +86,16 @@ ENDS = {"r": (5, b"kubeconv: read failed\n"), "w": (6, b""), "R": (0, b""), "W":
 # The words of `rt try` by which each call fails in turn.
 KIT_WORDS = ["--fail-alloc", "--fail-io", "--short-io"]
 NO_MEMORY = (7, b"kubeconv: out of memory\n")
-NAMESPACE = "/apis/example.com/%s/namespaces/default/crontabs"
 # What differs from run to run: the moment, and the half of a uid that is the start's.
 DIFFERS = re.compile(rb'(?<=Timestamp":")[0-9TZ:-]{20}(?=")|(?<="uid":")[0-9a-f-]{18}(?=-)')
-MESSAGE = re.compile(rb"(?:[^\r\n]+\r\n)+\r\n")
-LENGTH = re.compile(rb"\r\nContent-Length: (\d+)\r\n")
-
-
-def messages_of(text):
-    """The requests, or the responses, that stand in a text one behind the other; what is no whole one is the last."""
-    found, at = [], 0
-    while at < len(text):
-        head = MESSAGE.match(text, at)
-        length = LENGTH.search(head[0]) if head else None
-        end = head.end() + int(length[1] if length else 0) if head else len(text)
-        found.append(text[at:end])
-        at = end
-    return found
-
-
-def request(method, target, document=None):
-    body = spelled(document) if document else b""
-    return b"%s %s HTTP/1.1\r\nContent-Length: %d\r\n\r\n%s" % (method.encode(), target.encode(), len(body), body)
 
 
 def requests():
     """Those of the example, and an edit, a delete, and lists behind them."""
     edited = object_of("v1", "a", host="other", port="80")
     edited["metadata"]["resourceVersion"] = "2"
-    more = [request("PUT", NAMESPACE % "v1" + "/a", edited), request("GET", NAMESPACE % "v1beta1"), request("DELETE", NAMESPACE % "v1" + "/b")]
-    return messages_of((TOP / "examples/crontabs.http").read_bytes()) + more + [request("GET", NAMESPACE % "v1"), request("GET", "/apis/example.com")]
+    more = [("PUT", path_of("v1", name="a"), edited), ("GET", path_of("v1beta1")), ("DELETE", path_of("v1", name="b")), ("GET", path_of("v1")), ("GET", GROUP)]
+    return messages_of((TOP / "examples/crontabs.http").read_bytes()) + [request(*it) for it in more]
 
 
 def no_memory():
@@ -228,7 +210,6 @@ def by_the_kit():
 
 
 def main():
-    """Reads the words, runs and prints."""
     parser = parser_of(__doc__)
     parser.add_argument("--kit", action="store_true", help="by the kit's rt try")
     options = parser.parse_args()

@@ -16,28 +16,15 @@ crate, or --address names a server that runs already."""
 
 import pathlib
 import socket
-import struct
 import threading
 import time
 
-import parts  # noqa: F401  finds the next ones
-from programs import built, parser_of
-from serving import (
-    DEFINITION,
-    MIGRATIONS,
-    Connection,
-    Gone,
-    Server,
-    address_of,
-    body_of,
-    looked_at,
-    migration,
-    moved,
-    path_of,
-    request,
-    seconds_now,
-)
-from told import check, end
+import parts  # noqa: F401
+from harness.client import Connection, Gone, address_of, request
+from harness.crontabs import MIGRATIONS, body_of, looked_at, migration, move, path_of
+from harness.programs import built, parser_of
+from harness.server import Server
+from harness.told import check, end
 
 IDLE = 200
 IDLE_SECONDS = 60
@@ -63,10 +50,16 @@ class Early:
 
     def ask(self, method, path, body=None):
         with self.lock:
-            start = seconds_now()
+            start = time.monotonic()
             came = self.connection.ask(method, path, body)
-            self.slowest = max(self.slowest, seconds_now() - start)
+            self.slowest = max(self.slowest, time.monotonic() - start)
         return came
+
+    def expect(self, wanted, *asked):
+        code, shown = self.ask(*asked)
+        if code != wanted:
+            check(False, f"{asked[0]} {asked[1]} is answered {code}")
+        return shown
 
     def go_on(self):
         try:
@@ -83,15 +76,14 @@ class Early:
 
 def slow(address, came):
     """Sends a request by one byte a second, which takes longer than a peer that sends nothing is waited for."""
-    connection = Connection(address, 3 * IDLE_SECONDS)
-    try:
-        for byte in request("GET", path_of("v1", "hostile", "slow")):
-            connection.send(bytes([byte]))
-            time.sleep(1)
-        came.append(connection.answer()[0])
-    except Gone as gone:
-        came.append(str(gone))
-    connection.close()
+    with Connection(address, 3 * IDLE_SECONDS) as connection:
+        try:
+            for byte in request("GET", path_of("v1", "hostile", "slow")):
+                connection.send(bytes([byte]))
+                time.sleep(1)
+            came.append(connection.next().code)
+        except Gone as gone:
+            came.append(str(gone))
 
 
 def waiting(address, port):
@@ -112,51 +104,50 @@ def deaf(address, came):
     peer.setsockopt(socket.SOL_SOCKET, socket.SO_RCVBUF, HEAD_BYTES)
     peer.connect(address)
     peer.settimeout(1)
-    start = wrote = seconds_now()
+    start = wrote = time.monotonic()
     held = 0
-    while seconds_now() - start < 10 * IDLE_SECONDS:
+    while time.monotonic() - start < 10 * IDLE_SECONDS:
         now = waiting(address, peer.getsockname()[1])
         if now is not None and now > held:
-            held, wrote = now, seconds_now()
+            held, wrote = now, time.monotonic()
         try:
             peer.send(asked * 10)
             time.sleep(0.1)
         except TimeoutError:
             continue
         except OSError:
-            came.append(seconds_now() - wrote)
+            came.append(time.monotonic() - wrote)
             break
     peer.close()
 
 
 def cut(address, broken):
     """Is gone in mid-body, by an end or by a reset."""
-    connection = Connection(address)
-    sent = request("POST", path_of("v1", "hostile"), body_of("v1", "cut", ("h", "1", 1)))
-    connection.send(sent[:-10])
-    if broken:
-        connection.socket.setsockopt(socket.SOL_SOCKET, socket.SO_LINGER, struct.pack("ii", 1, 0))
-    connection.close()
+    with Connection(address) as connection:
+        connection.send(request("POST", path_of("v1", "hostile"), body_of("v1", "cut", ("h", "1", 1)))[:-10])
+        if broken:
+            connection.breaks()
 
 
 def long_head(address):
     """What a head without an end is answered, and whether the connection is closed then."""
-    connection, code, closed = Connection(address), None, False
-    front = b"GET / HTTP/1.1\r\nX: "
-    connection.send(front + b"x" * (HEAD_BYTES - len(front)))
-    try:
-        code, _body = connection.answer()
-        connection.more()
-    except Gone:
-        closed = True
-    connection.close()
-    return code, closed
+    code, front = None, b"GET / HTTP/1.1\r\nX: "
+    with Connection(address) as connection:
+        connection.send(front + b"x" * (HEAD_BYTES - len(front)))
+        try:
+            code = connection.next().code
+            connection.more()
+        except Gone:
+            return code, True
+    return code, False
 
 
-def migrates(early):
-    """Moves the storage version, starts a migration, and sees it to its end."""
-    _code, definition = early.ask("GET", DEFINITION)
-    early.ask("PUT", DEFINITION, moved(definition))
+def serves(early, mark):
+    """Creates objects and reads them, moves the storage version, and sees a migration to its end."""
+    for number in range(PAIRS):
+        early.expect(201, "POST", path_of("v1", "hostile"), body_of("v1", f"{mark}{number}", ("h", str(number), 1)))
+        early.expect(200, "GET", path_of("v1beta1", "hostile", f"{mark}{number}"))
+    move(early)
     name = f"h{time.time_ns()}"
     code, _shown = early.ask("POST", MIGRATIONS, migration(name))
     check(code == 201, f"a migration is started: {code}")
@@ -164,23 +155,11 @@ def migrates(early):
     check(condition == "Succeeded", f"the workers finish a migration: {condition}")
 
 
-def serves(early, pairs, mark):
-    """Creates objects and reads them, and has a migration done."""
-    for number in range(pairs):
-        code, _shown = early.ask("POST", path_of("v1", "hostile"), body_of("v1", f"{mark}{number}", ("h", str(number), 1)))
-        if code != 201:
-            check(False, f"a create is answered {code}")
-        code, _shown = early.ask("GET", path_of("v1beta1", "hostile", f"{mark}{number}"))
-        if code != 200:
-            check(False, f"a get is answered {code}")
-    migrates(early)
-
-
 def seconds_to_end(held, start):
     """The seconds after which a connection on which nothing was sent is closed, or none where it isn't."""
     held.settimeout(IDLE_SECONDS + LATE_SECONDS)
     try:
-        return seconds_now() - start if held.recv(1) == b"" else None
+        return time.monotonic() - start if held.recv(1) == b"" else None
     except OSError:
         return None
 
@@ -196,9 +175,8 @@ def silent(address):
 def behind(address, came):
     """A connection that comes behind the idle ones: what it is answered."""
     try:
-        connection = Connection(address, 6 * IDLE_SECONDS)
-        came.append(connection.ask("GET", path_of("v1", "many", "m000"))[0])
-        connection.close()
+        with Connection(address, 6 * IDLE_SECONDS) as connection:
+            came.append(connection.ask("GET", path_of("v1", "many", "m000"))[0])
     except (Gone, OSError) as fault:
         came.append(str(fault))
 
@@ -206,16 +184,16 @@ def behind(address, came):
 def idle(address, early, mark):
     """Opens so many connections and sends nothing, while one that was there before makes requests; then one more, which is
     answered in the end."""
-    start, came = seconds_now(), []
+    start, came = time.monotonic(), []
     held = [silent(address) for _ in range(IDLE)]
     last = threading.Thread(target=behind, args=(address, came))
     last.start()
-    serves(early, PAIRS, mark)
+    serves(early, mark)
     seconds = seconds_to_end(held[0], start)
     told = "never" if seconds is None else f"{seconds:.0f} seconds after it came"
     check(seconds is not None and seconds < LATE_SECONDS, f"an idle connection was closed {told}")
     last.join()
-    seconds = seconds_now() - start
+    seconds = time.monotonic() - start
     check(came == [200], f"a connection behind {IDLE} idle ones is answered {came}, after {seconds:.0f} seconds")
     for it in held:
         it.close()
@@ -237,13 +215,13 @@ def drip(peers, over):
 def crowd(address):
     """Connections that say nothing and connections that say little, and one that comes behind them."""
     idle, slow = [silent(address) for _ in range(CROWD)], [silent(address) for _ in range(CROWD)]
-    over, start = threading.Event(), seconds_now()
+    over, start = threading.Event(), time.monotonic()
     dripping = threading.Thread(target=drip, args=(slow, over), daemon=True)
     dripping.start()
     time.sleep(0.1)
     came = []
     behind(address, came)
-    seconds = seconds_now() - start
+    seconds = time.monotonic() - start
     told = f"a connection behind {CROWD} idle ones and {CROWD} slow ones is answered {came}, after {seconds:.1f} seconds"
     check(came == [200] and seconds < CROWD_SECONDS, told)
     over.set()
@@ -252,36 +230,27 @@ def crowd(address):
         it.close()
 
 
-def main():
-    """Reads the words, runs and prints."""
-    parser = parser_of(__doc__)
-    parser.add_argument("--address", help="HOST:PORT of a server that runs already, and is left running")
-    parser.add_argument("--workers", type=int, default=2)
-    parser.add_argument("--short", action="store_true", help="without what takes a minute and more")
-    options = parser.parse_args()
-    server = None if options.address else Server(built(options.program), options.workers)
-    address = address_of(options.address) if options.address else server.address
+def all_peers(address, is_short):
+    """All of them, one behind the other, but for those that take a minute, which are there all the time."""
     mark = f"o{time.time_ns()}-"
     # Lists that are worth not reading.
-    connection = Connection(address)
-    for number in range(LISTED):
-        connection.ask("POST", path_of("v1", "many"), body_of("v1", f"m{number:03}", ("h" * 200, str(number), 1)))
-    connection.close()
-    early, slow_came, deaf_came, peers = Early(address), [], [], []
-    if not options.short:
-        peers = [threading.Thread(target=slow, args=(address, slow_came)), threading.Thread(target=deaf, args=(address, deaf_came))]
+    with Connection(address) as connection:
+        for number in range(LISTED):
+            connection.ask("POST", path_of("v1", "many"), body_of("v1", f"m{number:03}", ("h" * 200, str(number), 1)))
+    early, slow_came, deaf_came = Early(address), [], []
+    peers = [threading.Thread(target=it, args=(address, came)) for it, came in ([] if is_short else [(slow, slow_came), (deaf, deaf_came)])]
     for peer in peers:
         peer.start()
     cut(address, False)
     cut(address, True)
     code, closed = long_head(address)
     check(code == 431 and closed, f"a head of {HEAD_BYTES} bytes with no end is answered {code} and let go")
-    serves(early, PAIRS, mark)
+    serves(early, mark)
     code, _shown = early.ask("GET", path_of("v1", "hostile", "cut"))
     check(code == 404, f"what was cut in mid-body isn't there: {code}")
     for peer in peers:
         peer.join()
-    if not options.short:
+    if not is_short:
         check(slow_came == [404], f"the one that sends a byte a second is answered {slow_came}")
         seconds = deaf_came[0] if deaf_came else 0
         near = IDLE_SECONDS - 2 <= seconds <= IDLE_SECONDS + LATE_SECONDS
@@ -290,10 +259,20 @@ def main():
     crowd(address)
     check(early.slowest < SLOW_SECONDS, f"another connection is answered meanwhile, the slowest time after {early.slowest:.3f} seconds")
     early.close()
-    if server:
-        check(server.process.poll() is None, "the server still runs")
-        print(f"memory: {server.memory():.1f} MB, at most {server.memory('VmHWM'):.1f} MB; {server.threads()} threads")
-        server.stop()
+
+
+def main():
+    parser = parser_of(__doc__, workers=2)
+    parser.add_argument("--address", help="HOST:PORT of a server that runs already, and is left running")
+    parser.add_argument("--short", action="store_true", help="without what takes a minute and more")
+    options = parser.parse_args()
+    if options.address:
+        all_peers(address_of(options.address), options.short)
+    else:
+        with Server(built(options.program), options.workers) as server:
+            all_peers(server.address, options.short)
+            check(server.process.poll() is None, "the server still runs")
+            print(f"memory: {server.memory():.1f} MB, at most {server.memory('VmHWM'):.1f} MB; {server.count()} threads")
     end()
 
 

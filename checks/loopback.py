@@ -12,17 +12,17 @@ import shutil
 import socket
 import subprocess
 
-import parts  # noqa: F401  finds the next ones
-from programs import SHARED_FILES, TOP, built, parser_of
-from serving import LISTENING, address_of
-from told import check, end
+import parts  # noqa: F401
+from harness.client import Connection
+from harness.crontabs import path_of
+from harness.programs import FIRST_FILES, SHARED_FILES, TOP, built, parser_of
+from harness.server import Server
+from harness.told import check, end
 
 FIRST = (TOP / "examples/first.http").read_bytes()
 SHARED = (TOP / "examples/crontabs.http").read_bytes() + (
     b"GET /apis/example.com/v1/crontabs HTTP/1.1\r\nConnection: close\r\n\r\n"
 )
-# What the built-in definition says, as files.
-FIRST_FILES = ["--crd", TOP / "examples/rules/same.json", "--rules", TOP / "examples/rules/same.rules.json"]
 OBJECT = '{"apiVersion":"example.com/v1beta1","kind":"CronTab","metadata":{"name":"a"},"hostPort":"localhost:1234"}'
 SECONDS = 300
 
@@ -32,26 +32,13 @@ def masked(output):
     return re.sub(rb'("(?:uid|creationTimestamp)":)"[^"]*"', rb'\1"..."', output)
 
 
-def begun(program, files, place, connections):
-    """A server at a place for so many connections, with what it told."""
-    line = [program, "serve", *files, "--listen", place, "--connections", str(connections)]
-    process = subprocess.Popen(line, stdin=subprocess.DEVNULL, stdout=subprocess.PIPE)
-    return process, process.stdout.readline().decode()
-
-
 def served(program, files, place, requests, pieces):
     """What one connection at this place is answered, the address that was printed, and the status at the end."""
-    process, told = begun(program, files, place, 1)
-    address = address_of(told[len(LISTENING) :].strip())
-    with socket.create_connection(address, SECONDS) as connection:
-        connection.setsockopt(socket.IPPROTO_TCP, socket.TCP_NODELAY, 1)
+    with Server(program, 0, 1, files=files, place=place) as server, Connection(server.address, SECONDS) as connection:
         for at in range(0, len(requests), pieces):
-            connection.sendall(requests[at : at + pieces])
-        connection.shutdown(socket.SHUT_WR)
-        answers = b""
-        while data := connection.recv(1 << 16):
-            answers += data
-    return answers, told, process.wait(SECONDS)
+            connection.send(requests[at : at + pieces])
+        connection.socket.shutdown(socket.SHUT_WR)
+        return connection.rest(), server.told, server.ended(SECONDS)
 
 
 def compare(program, name, place, files, requests, wanted, pieces):
@@ -82,31 +69,25 @@ def said(words):
 
 
 def by_clients(program):
-    """A create and a get by curl, and a get and a list by kubectl."""
+    """A create and a get by curl, and a get by kubectl."""
     commands = {
-        "curl -d": lambda at: ["curl", "-s", "-d", OBJECT, f"{at}/apis/example.com/v1beta1/namespaces/default/crontabs"],
-        "curl": lambda at: ["curl", "-s", f"{at}/apis/example.com/v1/namespaces/default/crontabs/a"],
-        "kubectl get --raw": lambda at: [
-            *["kubectl", f"--server={at}", "get", "--raw"],
-            "/apis/example.com/v1/namespaces/default/crontabs/a",
-        ],
+        "curl -d": lambda at: ["curl", "-s", "-d", OBJECT, at + path_of("v1beta1")],
+        "curl": lambda at: ["curl", "-s", at + path_of("v1", name="a")],
+        "kubectl get --raw": lambda at: ["kubectl", f"--server={at}", "get", "--raw", path_of("v1", name="a")],
     }
     there = {name: words for name, words in commands.items() if shutil.which(name.split()[0])}
     for name in commands.keys() - there.keys():
         print(f"absent {name}: the machine doesn't have it")
-    process, told = begun(program, SHARED_FILES, "127.0.0.1:0", max(len(there), 1))
-    at = f"http://{told[len(LISTENING) :].strip()}"
-    for name, words in there.items():
-        shown = said(words(at))
-        port = shown.get("port") or shown.get("hostPort", "").rpartition(":")[2] if isinstance(shown, dict) else None
-        check(port == "1234", f"{name}: {json.dumps(shown)}")
-    if there:
-        check(process.wait(SECONDS) == 0, "the status behind these is 0")
-    process.kill()
+    with Server(program, 0, max(len(there), 1)) as server:
+        for name, words in there.items():
+            shown = said(words("http://{}:{}".format(*server.address)))
+            port = shown.get("port") or shown.get("hostPort", "").rpartition(":")[2] if isinstance(shown, dict) else None
+            check(port == "1234", f"{name}: {json.dumps(shown)}")
+        if there:
+            check(server.ended(SECONDS) == 0, "the status behind these is 0")
 
 
 def main():
-    """Reads the words, runs and prints."""
     program = built(parser_of(__doc__).parse_args().program)
     first = masked(subprocess.run([program, "pipe"], input=FIRST, stdout=subprocess.PIPE).stdout)
     shared = masked(subprocess.run([program, "pipe", *SHARED_FILES], input=SHARED, stdout=subprocess.PIPE).stdout)

@@ -12,32 +12,26 @@ import subprocess
 import sys
 import tempfile
 
-import parts  # noqa: F401  finds the next ones
-from pipe import codes_of
-from programs import built, parser_with_runs
+import parts  # noqa: F401
+from harness.client import answers_in
+from harness.crontabs import Resource
+from harness.documents import GROUP, definition_of, files_of, object_schema
+from harness.programs import built, parser_of
+from harness.tables import Table
 
 BODY_BYTES = 1_048_576
 DEFAULTS = 20
 DEFAULT_BYTES = 40
 MOST_MB = 200
-GROUP, KIND, PLURAL = "example.com", "Wide", "wides"
+KIND = "Wide"
+WIDES = Resource("wides", None, None)
 
 
 def definition():
-    """The definition's text: an item has 20 texts, each with a default of 40 bytes."""
-    text = f'{{"default":"{"d" * DEFAULT_BYTES}","type":"string"}}'
-    texts = ",".join(f'"p{number:02}":{text}' for number in range(DEFAULTS))
-    item = f'{{"properties":{{{texts}}},"type":"object"}}'
-    schema = f'{{"properties":{{"l":{{"items":{item},"type":"array"}}}},"type":"object"}}'
-    versions = ",".join(
-        f'{{"name":"{name}","schema":{{"openAPIV3Schema":{schema}}},"served":true,"storage":{stored}}}'
-        for name, stored in (("v1", "true"), ("v1beta1", "false"))
-    )
-    names = f'"names":{{"kind":"{KIND}","plural":"{PLURAL}"}},"scope":"Namespaced"'
-    return (
-        '{"apiVersion":"apiextensions.k8s.io/v1","kind":"CustomResourceDefinition",'
-        f'"metadata":{{"name":"{PLURAL}.{GROUP}"}},"spec":{{"group":"{GROUP}",{names},"versions":[{versions}]}}}}'
-    )
+    """An item of a list has 20 texts, each with a default of 40 bytes."""
+    texts = {f"p{number:02}": {"default": "d" * DEFAULT_BYTES, "type": "string"} for number in range(DEFAULTS)}
+    schema = object_schema({"l": {"items": object_schema(texts), "type": "array"}})
+    return definition_of({"v1": schema, "v1beta1": schema}, "v1", KIND, WIDES.plural)
 
 
 def body():
@@ -49,8 +43,7 @@ def body():
 
 def request(given):
     """The request that creates an object of this body, and asks for closing."""
-    path = f"/apis/{GROUP}/v1/namespaces/default/{PLURAL}"
-    return f"POST {path} HTTP/1.1\r\nConnection: close\r\nContent-Length: {len(given)}\r\n\r\n{given}".encode()
+    return f"POST {WIDES.path_of('v1')} HTTP/1.1\r\nConnection: close\r\nContent-Length: {len(given)}\r\n\r\n{given}".encode()
 
 
 def peak_of(words, given):
@@ -68,21 +61,15 @@ def peak_of(words, given):
 
 
 def main():
-    """Reads the words, runs and prints."""
-    options = parser_with_runs(__doc__).parse_args()
-    program = built(options.program)
+    options = parser_of(__doc__, runs=3).parse_args()
     with tempfile.TemporaryDirectory() as folder:
-        crd, rules = pathlib.Path(folder, "crd.json"), pathlib.Path(folder, "rules.json")
-        crd.write_text(definition())
-        rules.write_text('{"hub":"v1","spokes":{}}')
-        words = [program, "pipe", "--crd", crd, "--rules", rules]
+        words = [built(options.program), "pipe", *files_of(pathlib.Path(folder), "wide", definition(), {})]
         given = body()
         empty, _nothing = peak_of(words, b"")
         runs = [peak_of(words, request(given)) for _ in range(options.runs)]
     peak = max(most for most, _output in runs)
-    codes = {code for _most, output in runs for code in codes_of(output)}
-    print(f"{'body bytes':>10} {'answer':>8} {'peak MB':>8} {'with no input':>14}")
-    print(f"{len(given):>10} {' '.join(map(str, sorted(codes))):>8} {peak:>8.1f} {empty:>14.1f}")
+    codes = {it.code for _most, output in runs for it in answers_in(output)}
+    Table("body bytes:10", "answer:9", "peak MB:9.1f", "with no input:15.1f").row(len(given), " ".join(map(str, sorted(codes))), peak, empty)
     if codes != {503} or peak >= MOST_MB:
         sys.exit(f"the answer is to be 503, and the peak below {MOST_MB} MB")
 

@@ -8,7 +8,7 @@
   trim to the storage version is taken, so no object stands at another; the raw text of each object says the same once the clients have
   ended; and no answer to a client was wrong. A list that is forgotten 17 times is told, and `migrate` is run again.
 - `dump` and `load` beside such clients, and over lines, inputs and servers that fail: backups.py beside this file says what is looked at.
-- Against a server of Go's `net/http` (outside.go beside this file, which says what it does): it answers in chunks, its objects have
+- Against a server of Go's `net/http` (bench/plain/keeper.go, which says what it does): it answers in chunks, its objects have
   managedFields, and its continue tokens are of its own form. Each count of the tally is the one that follows of what that server does,
   and what is put back is what was given. Pages of more than 1 MiB, and of more than 2, are asked for by halves. Where the server
   ends meanwhile there is no tally. Without `go` this is skipped.
@@ -21,20 +21,19 @@ import pathlib
 import re
 import shutil
 import subprocess
-import sys
 import tempfile
 import time
 
-import parts  # noqa: F401  finds the next ones
+import parts  # noqa: F401
 from backups import backups_against_go, backups_beside, backups_through_kubectl, faults, lines_back
-from beside import CLIENTS, SECONDS, Beside, asked_of, going, move, proxied, served
-from documents import name_of
-from programs import built
-from serving import DEFINITION, GROUP, Connection, ask
-from soak import SHARED, SHARED_NAMES
-from told import check, end, told_of
+from beside import CLIENTS, SECONDS, Beside, Run, asked_of, begun, going, move, proxied, served
+from clients import SHARED, SHARED_NAMES
+from harness.client import Connection
+from harness.crontabs import DEFINITION, GROUP
+from harness.documents import name_of
+from harness.programs import TOP, built, parser_of
+from harness.told import check, end, told_of
 
-HERE = pathlib.Path(__file__).resolve().parent
 # How many objects stand beside those of the clients, how long a client waits behind each request, and how often storage is moved.
 BESIDE = (600, 0.05, 2), (100, 0, 2)
 # `migrate` is run so often where its list is forgotten, and then the clients wait so many times as long.
@@ -47,37 +46,27 @@ OBJECTS, CONTESTED, BEGUN = 800, 721, 50
 # ---- a run
 
 
-class Run:
-    """One run of `migrate`: its status, its tally where it wrote one, and what it told."""
+class Migration(Run):
+    """One run of `migrate`, and its tally where it wrote one."""
 
     def __init__(self, program, address, version="v1"):
-        url = "http://{}:{}{}/{}/crontabs".format(*address, GROUP, version)
-        start = time.monotonic()
-        try:
-            ran = subprocess.run([program, "migrate", url], stdin=subprocess.DEVNULL, capture_output=True, text=True, timeout=SECONDS)
-        except subprocess.TimeoutExpired:
-            sys.exit(f"no end of migrate in {SECONDS} s")
-        self.seconds = time.monotonic() - start
-        self.status, self.told = ran.returncode, ran.stderr.strip()
-        found = re.fullmatch("".join(rf"{name} (\d+)\n" for name in COUNTS), ran.stdout)
+        super().__init__(program, "migrate", address, version, stdin=subprocess.DEVNULL)
+        found = re.fullmatch("".join(rf"{name} (\d+)\n" for name in COUNTS), self.output.decode())
         self.tally = dict(zip(COUNTS, map(int, found.groups()))) if found else None
-        self.is_silent = not ran.stdout
 
-    def said(self):
-        tally = " ".join(f"{name} {count}" for name, count in self.tally.items()) if self.tally else "no tally"
-        return f"{tally}; status {self.status}{f', {self.told!r}' if self.told else ''}, {self.seconds:.1f} s"
+    def wrote(self):
+        return " ".join(f"{name} {count}" for name, count in self.tally.items()) if self.tally else "no tally"
 
     def is_forgotten(self):
         """Whether its list was forgotten too often."""
-        return (self.status, self.is_silent, self.told) == (13, True, "kubeconv: contested")
+        return self.ended(13, "contested", b"")
 
     def is_settled(self):
         """Whether there is a tally that adds up, and the status that goes with it."""
         if not self.tally:
             return False
         listed, *others = self.tally.values()
-        wanted = (13, "kubeconv: contested") if self.tally["contested"] else (0, "")
-        return listed == sum(others) and (self.status, self.told) == wanted
+        return listed == sum(others) and self.ended(*((13, "contested") if self.tally["contested"] else (0,)))
 
 
 # ---- beside clients of `serve`
@@ -85,11 +74,10 @@ class Run:
 
 def trimmed(address, storage):
     """What a trim to the storage version is answered: it names an object that stands at another."""
-    connection = Connection(address)
-    definition = ask(connection, 200, "GET", DEFINITION)
-    definition["status"]["storedVersions"] = [storage]
-    code, shown = connection.ask("PUT", DEFINITION + "/status", definition)
-    connection.close()
+    with Connection(address) as connection:
+        definition = connection.expect(200, "GET", DEFINITION)
+        definition["status"]["storedVersions"] = [storage]
+        code, shown = connection.ask("PUT", DEFINITION + "/status", definition)
     return "taken" if code == 200 and shown["status"]["storedVersions"] == [storage] else f"{code} {json.dumps(shown)[:200]}"
 
 
@@ -98,7 +86,7 @@ def migrate_once(program, others, size):
     address = others.address
     storage, asked = move(address), others.asked()
     for times in range(1, RUNS + 1):
-        run = Run(program, address, "v1beta1" if times % 2 else "v1")
+        run = Migration(program, address, "v1beta1" if times % 2 else "v1")
         if not run.is_forgotten():
             break
         print(f"       to {storage}: {run.said()}: the list was forgotten; the clients wait {LONGER} times as long now", flush=True)
@@ -113,13 +101,9 @@ def migrate_once(program, others, size):
 def raw_faults(address, size, others, storage):
     """The objects whose stored text is of another version."""
     keys = [("default", name_of(number)) for number in range(size)] + [(SHARED, name) for name in SHARED_NAMES] + others.keys()
-    connection, wrong = Connection(address), []
-    for namespace, name in keys:
-        shown = ask(connection, 200, "GET", f"/raw/{namespace}/{name}")
-        if shown["apiVersion"] != f"example.com/{storage}":
-            wrong.append(f"{namespace}/{name} is stored at {shown['apiVersion']}")
-    connection.close()
-    return wrong, len(keys)
+    with Connection(address) as connection:
+        stored = {key: connection.expect(200, "GET", "/raw/{}/{}".format(*key))["apiVersion"] for key in keys}
+    return [f"{key} is stored at {version}" for key, version in stored.items() if version != f"example.com/{storage}"], len(keys)
 
 
 def beside(program, size, pause, moves):
@@ -154,14 +138,14 @@ def against_go(program, server, size, limits):
         headers, _page = asked_of(address, f"{GROUP}/v1/crontabs?limit={limits[0]}")
         coding = headers.get("Transfer-Encoding")
         check(coding == "chunked", f"Go, objects of {size} bytes: a page has Transfer-Encoding {coding}, Content-Length {headers.get('Content-Length')}")
-        run = Run(program, address)
+        run = Migration(program, address)
         check(run.is_settled() and run.tally == expected(limits[-1]), f"{run.said()}")
         told = asked_of(address, "/told")[1]
         check(told["Limits"] == limits, f"pages of at most {told['Limits']} objects are asked for")
         check(not told["Wrong"], f"{told['Lists']} lists, {told['Gets']} gets, {told['Puts']} puts{told_of(told['Wrong'] or [])}")
         old = told["Old"] or []
         check(not old, f"{len(old)} objects are left that weren't stored anew {old[:3] or ''}".strip())
-        run, there = Run(program, address), OBJECTS - OBJECTS // 50
+        run, there = Migration(program, address), OBJECTS - OBJECTS // 50
         done = dict(zip(COUNTS, [there, 0, there, 0, 0]))
         check(run.is_settled() and run.tally == done, f"again: {run.said()}")
 
@@ -175,15 +159,14 @@ def against_limits(program, server):
     }
     for what, words in cases.items():
         with going(server, *words) as address:
-            run = Run(program, address)
-            check((run.status, run.told, run.is_silent) == (12, "kubeconv: answer 0", True), f"{what}: {run.said()}")
+            run = Migration(program, address)
+            check(run.ended(12, "answer 0", b""), f"{what}: {run.said()}")
 
 
 def against_an_end(program, server):
     """The server ends when some objects are put. Its last answer may have been begun, which is an answer of another form."""
     with going(server, "plain", OBJECTS, 100) as address:
-        line = [program, "migrate", "http://{}:{}{}/v1/crontabs".format(*address, GROUP)]
-        migrate = subprocess.Popen(line, stdin=subprocess.DEVNULL, stdout=subprocess.PIPE, stderr=subprocess.PIPE)
+        migrate = begun(program, "migrate", address, stdin=subprocess.DEVNULL)
         while asked_of(address, "/told")[1]["Puts"] < BEGUN:
             time.sleep(0.001)
     output, told = migrate.communicate(timeout=SECONDS)
@@ -199,18 +182,15 @@ def through_kubectl(program):
     with served(program, 50) as server:
         move(server)
         with proxied(server) as address:
-            run = Run(program, address)
-            check((run.status, run.told) == (12, "kubeconv: answer 403"), f"kubectl proxy: {run.said()}")
+            run = Migration(program, address)
+            check(run.ended(12, "answer 403"), f"kubectl proxy: {run.said()}")
         with proxied(server, "--accept-hosts=^kubeconv$") as address:
-            run = Run(program, address)
+            run = Migration(program, address)
             check(run.is_settled() and run.tally["written"] == 50, f"kubectl proxy --accept-hosts='^kubeconv$': {run.said()}")
 
 
 def main():
-    """Reads the words, runs and prints."""
-    if len(sys.argv) != 2:
-        sys.exit(__doc__)
-    program = built(sys.argv[1])
+    program = built(parser_of(__doc__, "program").parse_args().program)
     for size, pause, moves in BESIDE:
         beside(program, size, pause, moves)
     backups_beside(program)
@@ -218,8 +198,8 @@ def main():
     faults(program)
     if shutil.which("go"):
         with tempfile.TemporaryDirectory() as folder:
-            server = pathlib.Path(folder) / "outside"
-            subprocess.run(["go", "build", "-o", server, HERE / "outside.go"], check=True)
+            server = pathlib.Path(folder) / "plain"
+            subprocess.run(["go", "build", "-o", server, *(TOP / "bench/plain").glob("*.go")], check=True)
             against_go(program, server, 100, [500])
             against_go(program, server, 5_000, [500, 250, 125])
             against_limits(program, server)

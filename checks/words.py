@@ -10,10 +10,10 @@ Prints what came, and ends with status 1 where it isn't so."""
 
 import resource
 import subprocess
-import sys
 
-import parts  # noqa: F401  finds the next ones
-from programs import built, parser_of
+import parts  # noqa: F401
+from harness.programs import built, parser_of
+from harness.told import check, end
 
 BAD_WORDS = (2, b"kubeconv: bad command line\n")
 NO_MEMORY = (7, b"kubeconv: out of memory\n")
@@ -51,23 +51,19 @@ def least_room(program):
 
 
 def main():
-    """Reads the words, runs and prints."""
     options = parser_of(__doc__).parse_args()
     program = built(options.program)
-    bad = 0
     for words in ([b"\xff"], [b"pipe\xc3"], [b"pipe", b"--turns", b"\xed\xa0\x80"]):
         came = ended(program, words)
-        print(f"{words}: {came}")
-        bad += came != BAD_WORDS
+        check(came == BAD_WORDS, f"{words}: {came}")
     room = least_room(program)
     came = [ended(program, LONG_WORDS, room + STEP * more) for more in range(STEPS)]
     wanted = came.index(BAD_WORDS) if BAD_WORDS in came else STEPS
-    short = [end for end in came[:wanted] if end is not None]
-    others = [end for end in short if end != NO_MEMORY]
-    print(f"{len(LONG_WORDS)} long words, from {room // KIB} KiB on: {len(short) - len(others)} runs ended with 7, {len(others)} otherwise, "
-          f"and with {STEP * wanted // KIB} KiB more the words are bad")
-    bad += bool(others) or not short or wanted == STEPS
-    sys.exit(1 if bad else 0)
+    short = [it for it in came[:wanted] if it is not None]
+    others = [it for it in short if it != NO_MEMORY]
+    said = f"{len(LONG_WORDS)} long words, from {room // KIB} KiB on: {len(short) - len(others)} runs ended with 7, {len(others)} otherwise"
+    check(short and not others and wanted < STEPS, f"{said}, and with {STEP * wanted // KIB} KiB more the words are bad")
+    end()
 
 
 if __name__ == "__main__":

@@ -1,17 +1,14 @@
 // A plain server of one custom resource at two versions, to compare `kubeconv pipe` and `kubeconv serve` with: it reads requests from
-// standard input, or with an address answers many connections by net/http, holds objects at v1 in a map, and answers creates, gets,
+// standard input, or by `serve` answers many connections by net/http, holds objects at v1 in a map, and answers creates, gets,
 // replaces and lists. It promises nothing: no schema, no history, no continue tokens, no migrations, and what v1beta1 can't hold isn't
 // kept.
 //
-//	go build -o plain bench/plain/server.go
 //	python3 bench/pipe.py --beside ./plain
-//	./plain 127.0.0.1:8080
+//	./plain serve
 package main
 
 import (
 	"bufio"
-	"bytes"
-	"encoding/json"
 	"fmt"
 	"io"
 	"net/http"
@@ -23,26 +20,18 @@ import (
 	"time"
 )
 
-type object = map[string]interface{}
-
 const group = "/apis/example.com/"
 
 type server struct {
-	objects map[string]object
+	objects map[string]document
 	names   []string
 	number  int
 	lock    sync.Mutex
 }
 
-// An answer, whose value nobody changes any more.
-type reply struct {
-	code  int
-	value interface{}
-}
-
 // The same object at the other version: `host` at v1 is `address` at v1beta1.
-func converted(o object, version, from, to string) object {
-	copied := make(object, len(o))
+func converted(o document, version, from, to string) document {
+	copied := make(document, len(o))
 	for name, value := range o {
 		copied[name] = value
 	}
@@ -54,62 +43,44 @@ func converted(o object, version, from, to string) object {
 	return copied
 }
 
-func toHub(o object, version string) object {
+func toHub(o document, version string) document {
 	if version == "v1" {
 		return o
 	}
 	return converted(o, "v1", "address", "host")
 }
 
-func shown(o object, version string) object {
+func shown(o document, version string) document {
 	if version == "v1" {
 		return o
 	}
 	return converted(o, version, "host", "address")
 }
 
-func text(value interface{}) []byte {
-	text, err := json.Marshal(value)
-	if err != nil {
-		panic(err)
-	}
-	return text
+func refuse(code int, reason string) (int, interface{}) {
+	return code, refusal(code, reason)
 }
 
-func refuse(code int, reason string) reply {
-	return reply{code, object{"apiVersion": "v1", "kind": "Status", "status": "Failure", "reason": reason, "code": code}}
-}
-
-func (s *server) list(version string, limit int) reply {
+func (s *server) list(version string, limit int) (int, interface{}) {
 	sort.Strings(s.names)
-	items := make([]object, 0, limit)
+	items := make([]document, 0, limit)
 	for _, name := range s.names {
 		if len(items) == limit {
 			break
 		}
 		items = append(items, shown(s.objects[name], version))
 	}
-	return reply{200, object{
+	return 200, document{
 		"apiVersion": "example.com/" + version, "kind": "CronTabList", "items": items,
-		"metadata": object{"resourceVersion": strconv.Itoa(s.number)},
-	}}
-}
-
-func read(body []byte) object {
-	var o object
-	decoder := json.NewDecoder(bytes.NewReader(body))
-	decoder.UseNumber()
-	if decoder.Decode(&o) != nil {
-		return nil
+		"metadata": document{"resourceVersion": strconv.Itoa(s.number)},
 	}
-	return o
 }
 
-func (s *server) write(code int, version, name string, o object) reply {
+func (s *server) write(code int, version, name string, o document) (int, interface{}) {
 	if o == nil || o["apiVersion"] != "example.com/"+version || o["kind"] != "CronTab" {
 		return refuse(400, "BadRequest")
 	}
-	metadata, has := o["metadata"].(object)
+	metadata, has := o["metadata"].(document)
 	if !has {
 		return refuse(400, "BadRequest")
 	}
@@ -127,7 +98,7 @@ func (s *server) write(code int, version, name string, o object) reply {
 	metadata["creationTimestamp"] = time.Now().UTC().Format(time.RFC3339)
 	metadata["uid"] = fmt.Sprintf("00000000-0000-4000-8000-%012x", s.number)
 	if stands {
-		before := old["metadata"].(object)
+		before := old["metadata"].(document)
 		if number := metadata["resourceVersion"]; number != nil && number != before["resourceVersion"] {
 			return refuse(409, "Conflict")
 		}
@@ -138,19 +109,16 @@ func (s *server) write(code int, version, name string, o object) reply {
 	}
 	metadata["resourceVersion"] = strconv.Itoa(s.number)
 	s.objects[name] = toHub(o, version)
-	return reply{code, shown(s.objects[name], version)}
+	return code, shown(s.objects[name], version)
 }
 
-func (s *server) serve(request *http.Request) reply {
-	body, err := io.ReadAll(request.Body)
-	if err != nil {
-		panic(err)
-	}
+func (s *server) answer(request *http.Request, body []byte) (int, interface{}) {
 	parts := strings.Split(strings.TrimPrefix(request.URL.Path, group), "/")
 	if len(parts) < 4 || parts[3] != "crontabs" {
 		return refuse(404, "NotFound")
 	}
-	version, o := parts[0], read(body)
+	version := parts[0]
+	o, _ := read(body).(document)
 	s.lock.Lock()
 	defer s.lock.Unlock()
 	switch {
@@ -163,7 +131,7 @@ func (s *server) serve(request *http.Request) reply {
 		if !stands {
 			return refuse(404, "NotFound")
 		}
-		return reply{200, shown(o, version)}
+		return 200, shown(o, version)
 	default:
 		limit, err := strconv.Atoi(request.URL.Query().Get("limit"))
 		if err != nil {
@@ -173,27 +141,24 @@ func (s *server) serve(request *http.Request) reply {
 	}
 }
 
-func (s *server) ServeHTTP(w http.ResponseWriter, request *http.Request) {
-	came := s.serve(request)
-	w.Header().Set("Content-Type", "application/json")
-	w.WriteHeader(came.code)
-	w.Write(text(came.value))
-}
+func empty() *server { return &server{objects: map[string]document{}, number: 1} }
 
-func main() {
-	s := &server{objects: map[string]object{}, number: 1}
-	if len(os.Args) > 1 {
-		panic(http.ListenAndServe(os.Args[1], s))
-	}
+func serve(_ []string) { listen(empty().answer) }
+
+// Answers requests from standard input.
+func pipe(_ []string) {
+	s := empty()
 	in, out := bufio.NewReaderSize(os.Stdin, 1<<16), bufio.NewWriterSize(os.Stdout, 1<<16)
 	for {
 		request, err := http.ReadRequest(in)
 		if err != nil {
 			return
 		}
-		came := s.serve(request)
-		text := text(came.value)
-		fmt.Fprintf(out, "HTTP/1.1 %d %s\r\nContent-Type: application/json\r\nContent-Length: %d\r\n\r\n", came.code, http.StatusText(came.code), len(text))
+		body, err := io.ReadAll(request.Body)
+		try(err)
+		code, value := s.answer(request, body)
+		text := spelled(value)
+		fmt.Fprintf(out, "HTTP/1.1 %d %s\r\nContent-Type: application/json\r\nContent-Length: %d\r\n\r\n", code, http.StatusText(code), len(text))
 		out.Write(text)
 		out.Flush()
 	}

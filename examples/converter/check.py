@@ -14,44 +14,30 @@ import json
 import pathlib
 import random
 import signal
-import socket
-import subprocess
 import sys
 import time
 
 HERE = pathlib.Path(__file__).resolve().parent
+sys.path.append(str(HERE.parent.parent))
+from harness.client import Connection  # noqa: E402
+from harness.crontabs import head_of  # noqa: E402
+from harness.documents import review_of  # noqa: E402
+from harness.server import Listening  # noqa: E402
+from harness.told import end, looked, same  # noqa: E402
+
 KEPT = "converter.example.com/v1"
-WRONG = []
 
 
-def looked(what, look):
-    try:
-        look()
-        print(f"ok     {what}", flush=True)
-    except Exception as wrong:  # whatever goes wrong is told, and the rest is looked at
-        WRONG.append(what)
-        print(f"wrong  {what}: {type(wrong).__name__}: {wrong}", file=sys.stderr, flush=True)
-
-
-def same(came, wanted):
-    if came != wanted:
-        raise AssertionError(f"{came!r} came, and {wanted!r} was wanted")
-
-
-class Converter:
+class Converter(Listening):
     """converter.py at a port that the system chose."""
 
     def __init__(self, *options):
-        command = [sys.executable, str(HERE / "converter.py"), *options, "0"]
-        self.process = subprocess.Popen(command, stdout=subprocess.PIPE, text=True)
-        self.port = int(self.process.stdout.readline().rsplit(":", 1)[1])
+        super().__init__([sys.executable, HERE / "converter.py", *options, "0"])
 
-    def __enter__(self):
-        return self
-
-    def __exit__(self, *_):
+    def __exit__(self, *_why):
         self.process.send_signal(signal.SIGTERM)
-        same(self.process.wait(10), 0)
+        same("the status", self.ended(10), 0)
+        self.stop()
 
     def request(self, method, path, body=None, **headers):
         caller = http.client.HTTPConnection("127.0.0.1", self.port, timeout=20)
@@ -63,16 +49,16 @@ class Converter:
 
     def asked(self, uid, wanted, objects):
         """The objects of a review, each looked at as an API server looks at it."""
-        status, text = self.request("POST", "/convert?timeout=30s", review(uid, wanted, objects), Connection="close")
-        same(status, 200)
+        status, text = self.request("POST", "/convert?timeout=30s", review_of(objects, wanted, uid), Connection="close")
+        same("the code", status, 200)
         told = json.loads(text)
-        same((told["apiVersion"], told["kind"]), ("apiextensions.k8s.io/v1", "ConversionReview"))
-        same((told["response"]["uid"], told["response"]["result"]["status"]), (uid, "Success"))
+        same("the kind", (told["apiVersion"], told["kind"]), ("apiextensions.k8s.io/v1", "ConversionReview"))
+        same("uid and status", (told["response"]["uid"], told["response"]["result"]["status"]), (uid, "Success"))
         came = told["response"]["convertedObjects"]
-        same(len(came), len(objects))
+        same("how many", len(came), len(objects))
         for one, other in zip(came, objects):
-            same((one["apiVersion"], one["kind"]), (f"example.com/{wanted}", other["kind"]))
-            same(fixed(one), fixed(other))
+            same("the version", (one["apiVersion"], one["kind"]), (f"example.com/{wanted}", other["kind"]))
+            same("metadata", fixed(one), fixed(other))
         return came
 
 
@@ -81,16 +67,9 @@ def fixed(item):
     return {name: field for name, field in item["metadata"].items() if name not in ("labels", "annotations")}
 
 
-def review(uid, wanted, objects):
-    request = {"uid": uid, "desiredAPIVersion": f"example.com/{wanted}", "objects": objects}
-    return json.dumps({"apiVersion": "apiextensions.k8s.io/v1", "kind": "ConversionReview", "request": request})
-
-
 def certificate(version, name="a", spec=None, annotations=None):
-    meta = {"name": name, "namespace": "default", "uid": f"uid-{name}", "resourceVersion": "7", "generation": 1}
-    item = {"apiVersion": f"example.com/{version}", "kind": "Certificate", "metadata": meta}
-    if annotations is not None:
-        meta["annotations"] = annotations
+    item = head_of("Certificate", version, name, 7)
+    item["metadata"].update(namespace="default", uid=f"uid-{name}", generation=1, **({} if annotations is None else {"annotations": annotations}))
     return item if spec is None else {**item, "spec": spec}
 
 
@@ -111,11 +90,13 @@ def ways(converter):
     """One of each way, spelled out."""
     spec = {"dnsName": "a.example.com", "keyAlgorithm": "RSA", "keySize": 2048}
     key = {"algorithm": "RSA", "size": 2048}
-    same(converter.asked("u1", "v1", [certificate("v1beta1", spec=spec)]), [certificate("v1", spec={"dnsName": "a.example.com", "privateKey": key})])
+    came = converter.asked("u1", "v1", [certificate("v1beta1", spec=spec)])
+    same("to v1", came, [certificate("v1", spec={"dnsName": "a.example.com", "privateKey": key})])
     more = certificate("v1", spec={"privateKey": {**key, "rotationPolicy": "Always"}})
     kept = {KEPT: '{"privateKey":{"rotationPolicy":"Always"}}'}
-    same(converter.asked("u2", "v1beta1", [more]), [certificate("v1beta1", spec={"keyAlgorithm": "RSA", "keySize": 2048}, annotations=kept)])
-    same(converter.asked("u3", "v1", [more]), [more])
+    came = converter.asked("u2", "v1beta1", [more])
+    same("to v1beta1", came, [certificate("v1beta1", spec={"keyAlgorithm": "RSA", "keySize": 2048}, annotations=kept)])
+    same("to its own version", converter.asked("u3", "v1", [more]), [more])
 
 
 def there_and_back(converter):
@@ -123,13 +104,13 @@ def there_and_back(converter):
     draw = random.Random(1)
     items = [drawn(draw, number) for number in range(500)]
     before = copy.deepcopy(items)
-    same(converter.asked("back", "v1", converter.asked("there", "v1beta1", items)), before)
+    same("the objects", converter.asked("back", "v1", converter.asked("there", "v1beta1", items)), before)
 
 
 def example(converter):
     """The review of the README is answered as it says."""
-    status, text = converter.request("POST", "/", (HERE / "review.json").read_bytes())
-    same((status, text), (200, (HERE / "answer.json").read_bytes()))
+    came = converter.request("POST", "/", (HERE / "review.json").read_bytes())
+    same("the answer", came, (200, (HERE / "answer.json").read_bytes()))
 
 
 def forged(converter):
@@ -137,38 +118,39 @@ def forged(converter):
     spec = {"keySize": 2048}
     for text in ("", "[]", "forged", '{"privateKey":3}', '{"privateKey":{"algorithm":"X","other":1}}', '{"annotation":1}'):
         came = converter.asked("f", "v1", [certificate("v1beta1", spec=spec, annotations={KEPT: text})])
-        same(came, [certificate("v1", spec={"privateKey": {"size": 2048}})])
+        same(text, came, [certificate("v1", spec={"privateKey": {"size": 2048}})])
 
 
 def refusals(converter):
     for wanted, item in (("v2", certificate("v1")), ("v1", certificate("v0")), ("v1", {**certificate("v1"), "kind": "Other"})):
-        status, text = converter.request("POST", "/", review("no", wanted, [item]))
+        status, text = converter.request("POST", "/", review_of([item], wanted, "no"))
         told = json.loads(text)["response"]
-        same((status, told["uid"], told["result"]["status"], "convertedObjects" in told), (200, "no", "Failure", False))
+        came = status, told["uid"], told["result"]["status"], "convertedObjects" in told
+        same("a review that fails", came, (200, "no", "Failure", False))
     for body in ("", "[]", "{}", "[" * 100_000, '{"request":3}', '{"request":{}}'):
-        same(converter.request("POST", "/", body)[0], 400)
-    same(raw(converter, b"POST / HTTP/1.1\r\nHost: a\r\n\r\n")[:12], b"HTTP/1.1 411")
-    same(raw(converter, b"POST / HTTP/1.1\r\nHost: a\r\nContent-Length: 16777217\r\n\r\n")[:12], b"HTTP/1.1 413")
-    same(converter.request("GET", "/healthz"), (200, b"ok"))
-    same(converter.request("GET", "/other")[0], 404)
+        same(f"the code of {body:.20}", converter.request("POST", "/", body)[0], 400)
+    same("without a length", raw(converter, b"POST / HTTP/1.1\r\nHost: a\r\n\r\n")[:12], b"HTTP/1.1 411")
+    same("too long", raw(converter, b"POST / HTTP/1.1\r\nHost: a\r\nContent-Length: 16777217\r\n\r\n")[:12], b"HTTP/1.1 413")
+    same("its health", converter.request("GET", "/healthz"), (200, b"ok"))
+    same("another path", converter.request("GET", "/other")[0], 404)
 
 
 def raw(converter, request):
     """The bytes of an answer, up to the end of its connection."""
-    with socket.create_connection(("127.0.0.1", converter.port), timeout=20) as peer:
-        peer.sendall(request)
-        return b"".join(iter(lambda: peer.recv(65_536), b""))
+    with Connection(converter.address, 20) as peer:
+        peer.send(request)
+        return peer.rest()
 
 
 def chunks():
     with Converter("--chunked") as converter:
         ways(converter)
         there_and_back(converter)
-        asked = review("u", "v1beta1", [certificate("v1", spec={"dnsName": "a" * 5_000})])
+        asked = review_of([certificate("v1", spec={"dnsName": "a" * 5_000})], "v1beta1").decode()
         head = f"POST / HTTP/1.1\r\nHost: a\r\nConnection: close\r\nContent-Length: {len(asked)}\r\n\r\n"
         head, _, body = raw(converter, (head + asked).encode()).partition(b"\r\n\r\n")
-        same((b"Transfer-Encoding: chunked" in head, b"Content-Length" in head), (True, False))
-        same((body.startswith(b"800\r\n"), body.endswith(b"\r\n0\r\n\r\n")), (True, True))
+        same("the fields", (b"Transfer-Encoding: chunked" in head, b"Content-Length" in head), (True, False))
+        same("the chunks", (body.startswith(b"800\r\n"), body.endswith(b"\r\n0\r\n\r\n")), (True, True))
 
 
 def slow():
@@ -177,27 +159,27 @@ def slow():
         with concurrent.futures.ThreadPoolExecutor(16) as pool:
             list(pool.map(lambda number: converter.asked(f"u{number}", "v1", [certificate("v1beta1")]), range(16)))
         past = time.monotonic() - began
-        same((0.2 <= past, past < 1.6), (True, True))
+        same(f"{past:.1f} seconds", (0.2 <= past, past < 1.6), (True, True))
 
 
 def failing():
     with Converter("--fail", "3") as converter:
-        codes = [converter.request("POST", "/", review("u", "v1", []))[0] for _ in range(9)]
-        same(codes, [200, 200, 500] * 3)
+        codes = [converter.request("POST", "/", review_of([]))[0] for _ in range(9)]
+        same("the codes", codes, [200, 200, 500] * 3)
 
 
 def main():
     with Converter() as converter:
-        looked("the review of the README", lambda: example(converter))
-        looked("one of each way", lambda: ways(converter))
-        looked("500 objects there and back", lambda: there_and_back(converter))
-        looked("annotations that aren't of their form", lambda: forged(converter))
-        looked("what is refused, and the health path", lambda: refusals(converter))
+        looked("the review of the README", example, converter)
+        looked("one of each way", ways, converter)
+        looked("500 objects there and back", there_and_back, converter)
+        looked("annotations that aren't of their form", forged, converter)
+        looked("what is refused, and the health path", refusals, converter)
     looked("the same in chunks", chunks)
     looked("16 callers at once of one that waits 200 ms", slow)
     looked("each third review fails", failing)
-    return 1 if WRONG else 0
+    end()
 
 
 if __name__ == "__main__":
-    sys.exit(main())
+    main()

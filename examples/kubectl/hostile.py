@@ -18,6 +18,9 @@ import statuses
 import tables
 from rows import AGES, MERGES, SELECTORS, STEPS
 from running import HERE, Running, certificate
+from harness.client import Connection, Gone, address_of
+from harness.server import at_once
+from harness.told import check, end
 
 LIST = "/apis/example.com/v1/namespaces/default/crontabs"
 MERGE, OPERATIONS = "application/merge-patch+json", "application/json-patch+json"
@@ -29,8 +32,7 @@ class Client:
     """One connection to a front."""
 
     def __init__(self, address):
-        host, _, port = address.rpartition(":")
-        self.address = host, int(port)
+        self.address = address_of(address)
         self.connection = http.client.HTTPConnection(*self.address, timeout=90)
 
     def ask(self, method, path, body=None, media="application/json", **headers):
@@ -47,15 +49,12 @@ class Client:
 
     def raw(self, data, wait=True):
         """What a new connection is answered to these bytes, until it ends; nothing where nobody waits for it."""
-        with socket.create_connection(self.address, 10) as peer:
-            try:
-                peer.sendall(data)
-                found = b""
-                while wait and (more := peer.recv(65536)):
-                    found += more
-                return found
-            except ConnectionError as error:
-                return str(error).encode()
+        try:
+            with Connection(self.address, 10) as peer:
+                peer.send(data)
+                return peer.rest() if wait else b""
+        except (ConnectionError, Gone) as error:
+            return str(error).encode()
 
 
 class Cases:
@@ -66,14 +65,11 @@ class Cases:
         self.server = self.running.serve()
         self.address = self.running.front()
         self.client = Client(self.address)
-        self.told = 0
-        self.failed = 0
 
-    def tell(self, heading, held, why=""):
+    @staticmethod
+    def tell(heading, held, why=""):
         """Prints the line of a case."""
-        self.told += 1
-        self.failed += not held
-        print(f"{'ok' if held else 'FAILED'}: {heading}" + ("" if held else f"\n{why}"), flush=True)
+        check(held, heading + ("" if held else f"\n{why}"))
 
     def case(self, heading, code, *request, says="", **headers):
         """A request that is to be answered by a code, with a Status document where it is refused."""
@@ -250,12 +246,8 @@ def patchers(cases):
                 codes.append(peer.ask("PATCH", at, [operation("add", f"/metadata/labels/{key}", "x")], OPERATIONS)[0])
 
     cases.client.ask("PATCH", at, {"metadata": {"labels": {"first": "x"}}}, MERGE)
-    threads = [threading.Thread(target=add, args=(client,)) for client in range(CLIENTS)]
     begun = time.monotonic()
-    for thread in threads:
-        thread.start()
-    for thread in threads:
-        thread.join()
+    at_once(add, [(client,) for client in range(CLIENTS)])
     _, seen = cases.client.ask("GET", at)
     wanted = {"first"} | {f"c{client}-{edit}" for client in range(CLIENTS) for edit in range(EDITS)}
     held = codes == [200] * CLIENTS * EDITS and set(seen["metadata"]["labels"]) == wanted
@@ -306,8 +298,7 @@ def encrypted(cases):
 
 def behind(cases):
     """`serve` that is down, comes back, and something else in its place."""
-    cases.server.kill()
-    cases.server.wait()
+    cases.server.stop()
     for path in (LIST, "/apis", "/apis/example.com/v1", "/openapi/v3", "/api/v1/namespaces"):
         cases.case(f"GET {path} while serve is down", 503, "GET", path, says="can't be reached")
     cases.case("a create while serve is down", 503, "POST", LIST, crontab("x"), says="can't be reached")
@@ -346,9 +337,8 @@ def main(words):
             part(cases)
     finally:
         cases.running.stop()
-    print(f"{cases.told} cases, {cases.failed} failed")
-    return 1 if cases.failed else 0
+    end()
 
 
 if __name__ == "__main__":
-    sys.exit(main(sys.argv[1:]))
+    main(sys.argv[1:])

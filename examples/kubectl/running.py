@@ -10,7 +10,9 @@ import tempfile
 
 HERE = pathlib.Path(__file__).resolve().parent
 EXAMPLES = HERE.parent
-LISTENING = "listening on "
+sys.path.append(str(EXAMPLES.parent))
+from harness.server import Listening  # noqa: E402
+
 COLUMNS = [
     {"name": "Host", "type": "string", "jsonPath": ".host", "description": "Where it listens."},
     {"name": "Paused", "type": "boolean", "jsonPath": ".paused"},
@@ -56,15 +58,8 @@ class Running:
 
     def started(self, words):
         """The address at which a program listens that was just started."""
-        try:
-            process = subprocess.Popen(list(map(str, words)), stdin=subprocess.DEVNULL, stdout=subprocess.PIPE, text=True)
-        except OSError as error:
-            sys.exit(f"{words[0]} can't be run: {error}")
-        self.processes.append(process)
-        line = process.stdout.readline()
-        if not line.startswith(LISTENING):
-            sys.exit(f"{words[0]} said {line!r}, and ended with status {process.wait(10)}")
-        return line[len(LISTENING) :].strip()
+        self.processes.append(Listening(words))
+        return self.processes[-1].told.rpartition(" ")[2].strip()
 
     def serve(self, listen="127.0.0.1:0"):
         """Starts `kubeconv serve`."""
@@ -80,7 +75,5 @@ class Running:
     def stop(self):
         """Ends what runs."""
         for process in reversed(self.processes):
-            process.kill()
-            process.wait()
-            process.stdout.close()
+            process.stop()
         self.folder.cleanup()

@@ -3,17 +3,19 @@
 kubeconv, `./kubeconv` where it isn't given. It starts `serve` and fronts at free ports of this machine, and prints a line for each
 command. The status is 1 where one printed something else than it should. Where there is no kubectl it says so, and nothing is run."""
 
-import argparse
 import json
 import os
 import pathlib
 import re
 import shutil
 import subprocess
-import sys
 import threading
 
 from running import HERE, Running, certificate
+from harness.crontabs import migration
+from harness.documents import object_of
+from harness.programs import parser_of
+from harness.told import check, end
 
 CRD = "crontabs.example.com"
 STORE_HUB = [
@@ -21,18 +23,12 @@ STORE_HUB = [
     {"op": "replace", "path": "/spec/versions/0/storage", "value": True},
     {"op": "replace", "path": "/spec/versions/1/storage", "value": False},
 ]
-MIGRATION = {
-    "apiVersion": "storagemigration.k8s.io/v1alpha1",
-    "kind": "StorageVersionMigration",
-    "metadata": {"name": "to-v1"},
-    "spec": {"resource": {"group": "example.com", "resource": "crontabs"}},
-}
 AGE = r"\d+[sm]"
 
 
 def crontab(name, version="v1beta1", **fields):
     """A CronTab as a client writes it."""
-    return {"apiVersion": f"example.com/{version}", "kind": "CronTab", "metadata": {"name": name}, **fields}
+    return {**object_of(version, name), **fields}
 
 
 class Walk:
@@ -42,8 +38,6 @@ class Walk:
         self.kubectl = kubectl
         self.running = running
         self.minor = self.release()
-        self.steps = 0
-        self.failed = 0
         self.use(running.front(), "http")
 
     def release(self):
@@ -91,11 +85,10 @@ class Walk:
         why = f"status {done.returncode}, not {status}, or not {wanted}:\n{output}"
         self.tell(" ".join(words), held and done.returncode == status, why)
 
-    def tell(self, heading, held, why=""):
+    @staticmethod
+    def tell(heading, held, why=""):
         """Prints the line of a step."""
-        self.steps += 1
-        self.failed += not held
-        print(f"{'ok' if held else 'FAILED'}: {heading}" + ("" if held else f"\n{why}"), flush=True)
+        check(held, heading + ("" if held else f"\n{why}"))
 
     def read(self, line):
         """What a line of kubectl prints, read as JSON."""
@@ -240,7 +233,7 @@ def upgrades(walk):
     stored = {"status": {"storedVersions": ["v1"]}}
     raw = ["replace", "-f", "-", "--raw", f"/apis/apiextensions.k8s.io/v1/customresourcedefinitions/{CRD}/status"]
     walk.step(raw, r'\(StillStored\): version "v1beta1" is still stored by', stored, status=1)
-    walk.step("create -f -", rows("storageversionmigration.storagemigration.k8s.io/to-v1 created"), MIGRATION)
+    walk.step("create -f -", rows("storageversionmigration.storagemigration.k8s.io/to-v1 created"), migration("to-v1"))
     walk.step("wait --for=condition=Succeeded storageversionmigration/to-v1 --timeout=30s", "condition met$")
     walk.step("get storageversionmigrations", rows("NAME +STATUS +RESOURCE +VERSION *", "to-v1 +Succeeded +crontabs +v1"))
     walk.step("get storageversionmigration to-v1 -o yaml", "storageVersion: v1$")
@@ -291,14 +284,13 @@ def encrypted(walk):
 
 def main():
     """Runs the walk."""
-    parser = argparse.ArgumentParser(description=__doc__, formatter_class=argparse.RawDescriptionHelpFormatter)
-    parser.add_argument("--kubectl", default="kubectl")
+    parser = parser_of(__doc__, None, kubectl="kubectl")
     parser.add_argument("program", nargs="?", default=str(HERE.parent.parent / "kubeconv"))
     given = parser.parse_args()
     kubectl = shutil.which(given.kubectl)
     if kubectl is None:
         print(f"skipped: there is no {given.kubectl}; Debian has it in the package kubernetes-client")
-        return 0
+        return
     running = Running(pathlib.Path(given.program).resolve())
     try:
         running.serve()
@@ -307,9 +299,8 @@ def main():
             part(walk)
     finally:
         running.stop()
-    print(f"{walk.steps} steps, {walk.failed} failed")
-    return 1 if walk.failed else 0
+    end()
 
 
 if __name__ == "__main__":
-    sys.exit(main())
+    main()

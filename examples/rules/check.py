@@ -29,6 +29,9 @@ TOP = HERE.parent.parent
 sys.path[:0] = [str(TOP), str(TOP / "tools")]
 sys.dont_write_bytecode = True
 from explain import explained  # noqa: E402
+from harness.client import answers_in  # noqa: E402
+from harness.documents import definition_of, files_of, object_of, object_schema, spelled  # noqa: E402
+from harness.told import Wrong, end, looked, same  # noqa: E402
 from rehearsing.tests.running import rehearsed  # noqa: E402
 
 # The check of mistakes, which pastes what is told.
@@ -44,16 +47,11 @@ ONE_VERSION = ("certificate",)
 METHODS = re.compile(rb"(GET|POST|PUT) /apis/")
 
 
-class Wrong(Exception):
-    """Something that isn't as it is to be."""
-
-
 class Rules:
-    """A definition with its rules, by the folder and the name of their files."""
+    """A definition with its rules, by the words that name their files."""
 
-    def __init__(self, program, name, folder=HERE):
-        self.program = program
-        self.files = ["--crd", str(folder / f"{name}.json"), "--rules", str(folder / f"{name}.rules.json")]
+    def __init__(self, program, files):
+        self.program, self.files = program, files
 
     def run(self, line, given, *words):
         done = subprocess.run([self.program, line, *self.files, *words], input=given, capture_output=True)
@@ -62,16 +60,15 @@ class Rules:
         return done.stdout
 
     def convert(self, value, version):
-        return json.loads(self.run("convert", json.dumps(value).encode(), "--to", version))
+        return json.loads(self.run("convert", spelled(value), "--to", version))
+
+
+def rules_at(program, name, folder=HERE):
+    return Rules(program, ["--crd", folder / f"{name}.json", "--rules", folder / f"{name}.rules.json"])
 
 
 def version_of(value):
     return value["apiVersion"].partition("/")[2]
-
-
-def same(what, came, wanted):
-    if came != wanted:
-        raise Wrong(f"{what}:\n  came   {json.dumps(came)}\n  wanted {json.dumps(wanted)}")
 
 
 def parted(value):
@@ -85,7 +82,7 @@ def parted(value):
 
 
 def try_objects(program, file):
-    rules = Rules(program, file.name.removesuffix(".objects.json"))
+    rules = rules_at(program, file.name[: -len(".objects.json")])
     cases = json.loads(file.read_text())
     for case in cases:
         name = case["object"]["metadata"]["name"]
@@ -97,39 +94,28 @@ def try_objects(program, file):
     return f"{len(cases)} objects, both ways"
 
 
-def answers(output):
-    """The codes and the documents of answers that stand one behind the other."""
-    while output:
-        head, _, rest = output.partition(b"\r\n\r\n")
-        length = int(re.search(rb"(?i)\r\ncontent-length: *([0-9]+)", head)[1])
-        yield int(head.split()[1]), json.loads(rest[:length])
-        output = rest[length:]
-
-
 def try_requests(program, file):
-    rules = Rules(program, file.stem)
+    rules = rules_at(program, file.stem)
     given = file.read_bytes()
-    came = list(answers(rules.run("pipe", given)))
-    same("codes", [code for code, _ in came], [201 if it == b"POST" else 200 for it in METHODS.findall(given)])
-    for (_, written), (_, read) in zip(came[::2], came[1::2], strict=True):
-        same("the version", version_of(read) != version_of(written), True)
+    came = answers_in(rules.run("pipe", given))
+    same("codes", [it.code for it in came], [201 if it == b"POST" else 200 for it in METHODS.findall(given)])
+    for written, read in zip(came[::2], came[1::2]):
+        written, read = written.shown(), read.shown()
+        same("whether the version is the same", version_of(read) == version_of(written), False)
         same(f"{written['metadata']['name']} converted back", rules.convert(read, version_of(written)), written)
     return f"{len(came) // 2} objects, written and read at the other version"
 
 
-def definition(case):
-    """The definition of a case: two versions or three, each with its fields."""
-    schemas = [(HUB, case["hub"]), (SPOKE, case["spoke"])] + ([(SECOND, case["second"])] if "second" in case else [])
-    versions = [
-        {"name": name, "served": True, "storage": name == HUB, "schema": {"openAPIV3Schema": {"type": "object", "properties": fields}}}
-        for name, fields in schemas
-    ]
-    spec = {"group": "example.com", "names": {"kind": "CronTab", "plural": "crontabs"}, "scope": "Namespaced", "versions": versions}
-    return {"apiVersion": "apiextensions.k8s.io/v1", "kind": "CustomResourceDefinition", "metadata": {"name": "crontabs.example.com"}, "spec": spec}
+def files_of_case(folder, case):
+    """The files of a case: two versions or three, each with its fields."""
+    fields = {HUB: case["hub"], SPOKE: case["spoke"], **({SECOND: case["second"]} if "second" in case else {})}
+    spokes = {SPOKE: case["rules"], **({SECOND: case["second_rules"]} if "second" in case else {})}
+    definition = definition_of({name: object_schema(properties) for name, properties in fields.items()}, HUB)
+    return files_of(folder, "case", definition, spokes, HUB)
 
 
 def crontab(version, fields):
-    return {"apiVersion": f"example.com/{version}", "kind": "CronTab", "metadata": {"name": "a"}, **fields}
+    return object_of(version, "a", **fields)
 
 
 def ways(case):
@@ -146,7 +132,7 @@ def try_case(rules, case):
         try:
             rules.convert(crontab(HUB, {}), SPOKE)
         except Wrong as said:
-            same(case["of"], str(said).partition(".rules.json: ")[2], case["refused"])
+            same(case["of"], str(said).partition("--rules.json: ")[2], case["refused"])
             return
         raise Wrong(f"{case['of']}: it isn't refused")
     for at, fields, to, wanted, is_kept in ways(case):
@@ -161,12 +147,8 @@ def try_case(rules, case):
 def try_cases(program, file):
     cases = json.loads(file.read_text())
     with tempfile.TemporaryDirectory() as to:
-        folder = pathlib.Path(to)
         for case in cases:
-            (folder / "case.json").write_text(json.dumps(definition(case)))
-            spokes = {SPOKE: case["rules"], **({SECOND: case["second_rules"]} if "second" in case else {})}
-            (folder / "case.rules.json").write_text(json.dumps({"hub": HUB, "spokes": spokes}))
-            try_case(Rules(program, "case", folder), case)
+            try_case(Rules(program, files_of_case(pathlib.Path(to), case)), case)
     return f"{len(cases)} cases"
 
 
@@ -213,7 +195,7 @@ def try_prepared(program, file):
     nothing, refused = prepared(file, "--name", "gadgets.example.com")
     same("what is refused of gadgets", (nothing, refused), ("", (file.parent / "gadgets.said").read_text().splitlines()))
     widget = {"apiVersion": "example.com/v1", "kind": "Widget", "metadata": {"name": "a"}, "spec": {"host": "a", "tls": {"secret": "b"}}}
-    rules = Rules(program, "widgets", file.parent)
+    rules = rules_at(program, "widgets", file.parent)
     same("a widget converted back", rules.convert(rules.convert(widget, SPOKE), HUB), widget)
     return f"{len(said)} lines of what goes, {len(refused)} of what is refused"
 
@@ -221,17 +203,12 @@ def try_prepared(program, file):
 def main(words):
     if len(words) != 1:
         sys.exit(__doc__)
-    wrong = 0
     looks = {".http": try_requests, ".objects.json": try_objects, "cases.json": try_cases, "definitions.json": try_prepared, ".told": try_project}
-    for end, look in looks.items():
-        for file in sorted(HERE.rglob(f"*{end}")):
-            try:
-                print(f"{file.name}: {look(words[0], file)}")
-            except Wrong as why:
-                print(f"{file.name}: wrong: {why}", file=sys.stderr)
-                wrong = 1
-    return wrong
+    for suffix, look in looks.items():
+        for file in sorted(HERE.rglob(f"*{suffix}")):
+            looked(file.name, look, words[0], file)
+    end()
 
 
 if __name__ == "__main__":
-    sys.exit(main(sys.argv[1:]))
+    main(sys.argv[1:])

@@ -17,6 +17,8 @@ import subprocess
 import sys
 
 HERE = pathlib.Path(__file__).resolve().parent
+sys.path.append(str(HERE.parent.parent))
+from harness.client import Answer, messages_of  # noqa: E402
 
 
 class Step:
@@ -49,14 +51,8 @@ def steps():
 
 def answers(output):
     """The answers that stand one behind the other, each as its status and its body."""
-    found = []
-    while output.startswith(b"HTTP/1.1 "):
-        head, _, rest = output.partition(b"\r\n\r\n")
-        length = int(re.search(rb"(?i)\r\nContent-Length: *(\d+)", head).group(1))
-        status = head.split(b"\r\n")[0][len(b"HTTP/1.1 ") :]
-        found.append((status.decode(), rest[:length].decode()))
-        output = rest[length:]
-    return found
+    found = [Answer(it) for it in messages_of(output) if it.startswith(b"HTTP/1.1 ")]
+    return [(it.head.partition(b"\r\n")[0].decode().partition(" ")[2], it.body.decode()) for it in found]
 
 
 def masked(text):

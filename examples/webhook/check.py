@@ -23,59 +23,35 @@ import tempfile
 import time
 
 HERE = pathlib.Path(__file__).resolve().parent
-TOP = HERE.parent.parent
+sys.path.append(str(HERE.parent.parent))
+from harness.crontabs import head_of  # noqa: E402
+from harness.documents import review_of  # noqa: E402
+from harness.programs import SHARED_FILES, TOP  # noqa: E402
+from harness.server import Listening  # noqa: E402
+from harness import told  # noqa: E402
+from harness.told import Skipped, end, looked, wants  # noqa: E402
+
 NAME = "kubeconv-webhook.default.svc"
-FILES = ["--crd", str(TOP / "examples/crontabs.json"), "--rules", str(TOP / "examples/crontabs.rules.json")]
+FILES = list(map(str, SHARED_FILES))
 REVIEW = (HERE / "review.json").read_bytes()
 ANSWER = (HERE / "answer.json").read_bytes()
 CALLERS, CALLS = 40, 5
-WRONG = []
-
-
-class Skipped(Exception):
-    """What isn't looked at here, and why."""
-
-
-def looked(what, look, *given):
-    """One thing looked at, and the line that tells it."""
-    try:
-        said = look(*given)
-        print(f"ok       {what}" + (f": {said}" if said else ""), flush=True)
-    except Skipped as why:
-        print(f"skipped  {what}: {why}", flush=True)
-    except Exception as wrong:  # whatever goes wrong is told, and the rest is looked at
-        WRONG.append(what)
-        print(f"wrong    {what}: {type(wrong).__name__}: {wrong}", file=sys.stderr, flush=True)
-
-
-def wants(tool):
-    if shutil.which(tool) is None:
-        raise Skipped(f"there is no {tool}")
 
 
 def same(came, wanted):
-    if came != wanted:
-        raise AssertionError(f"{came!r} came, and {wanted!r} was wanted")
+    told.same("it", came, wanted)
 
 
-class Serving:
+class Serving(Listening):
     """serve.py at a port that the system chose."""
 
     def __init__(self, program, tls=None):
         secure = ["--cert", tls / "tls.crt", "--key", tls / "tls.key"] if tls else []
-        command = [sys.executable, HERE / "serve.py", *secure, "0", program, "review", *FILES]
-        self.log = tempfile.TemporaryFile()
-        self.process = subprocess.Popen(list(map(str, command)), stdout=subprocess.PIPE, stderr=self.log, text=True)
-        line = self.process.stdout.readline()
-        if not line.startswith("listening on "):
-            self.log.seek(0)
-            raise AssertionError(f"serve.py didn't begin: {self.log.read().decode()}")
-        self.url = line.split()[-1]
-        self.port = int(self.url.rsplit(":", 1)[1])
+        super().__init__([sys.executable, HERE / "serve.py", *secure, "0", program, "review", *FILES], stderr=subprocess.DEVNULL)
         self.trust = ssl.create_default_context(cafile=tls / "ca.pem") if tls else None
 
     def socket(self):
-        plain = socket.create_connection(("127.0.0.1", self.port), timeout=60)
+        plain = socket.create_connection(self.address, timeout=60)
         return self.trust.wrap_socket(plain, server_hostname=NAME) if self.trust else plain
 
     def caller(self):
@@ -93,21 +69,21 @@ def post(caller, body, **headers):
 
 
 def crontab(number, version):
-    meta = {"name": f"c{number}", "namespace": "default", "uid": f"uid-{number}", "resourceVersion": str(number), "generation": 1}
+    item = head_of("CronTab", version, f"c{number}", number)
+    item["metadata"].update(namespace="default", uid=f"uid-{number}", generation=1)
     fields = {"hostPort": f"h{number}:80", "timeoutSeconds": number % 1000} if version == "v1beta1" else {"host": f"h{number}", "port": "80"}
-    return {"apiVersion": f"example.com/{version}", "kind": "CronTab", "metadata": meta, **fields}
+    return {**item, **fields}
 
 
 def review(uid, wanted, objects):
-    request = {"uid": uid, "desiredAPIVersion": f"example.com/{wanted}", "objects": objects}
-    return json.dumps({"apiVersion": "apiextensions.k8s.io/v1", "kind": "ConversionReview", "request": request})
+    return review_of(objects, wanted, uid)
 
 
 def judged(text, uid, wanted, objects):
     """What an API server looks at in a response that succeeded."""
-    told = json.loads(text)
-    same((told["apiVersion"], told["kind"]), ("apiextensions.k8s.io/v1", "ConversionReview"))
-    response = told["response"]
+    whole = json.loads(text)
+    same((whole["apiVersion"], whole["kind"]), ("apiextensions.k8s.io/v1", "ConversionReview"))
+    response = whole["response"]
     same((response["uid"], response["result"]["status"]), (uid, "Success"))
     came = response["convertedObjects"]
     same(len(came), len(objects))
@@ -137,7 +113,7 @@ def calls(serving, number):
 
 
 def many(serving):
-    silent = [socket.create_connection(("127.0.0.1", serving.port)) for _ in range(CALLERS)]
+    silent = [socket.create_connection(serving.address) for _ in range(CALLERS)]
     began = time.monotonic()
     with concurrent.futures.ThreadPoolExecutor(CALLERS) as pool:
         list(pool.map(lambda number: calls(serving, number), range(CALLERS)))
@@ -157,7 +133,7 @@ def failures(serving):
         (review("u2", "v1", [good, good, {**good, "extra": deep}]), "object 2: TooDeep"),
         (review("u2", "v9", [good]), "desiredAPIVersion: Unknown"),
         (review("u2", "v1", [good, 7]), "NotReview request.objects[1]"),
-        (review("u2", "v1", [good]).replace("k8s.io/v1", "k8s.io/v1beta1"), "NotReview apiVersion"),
+        (review("u2", "v1", [good]).replace(b"k8s.io/v1", b"k8s.io/v1beta1"), "NotReview apiVersion"),
     ]
     caller = serving.caller()
     for body, message in table:
@@ -169,7 +145,7 @@ def failures(serving):
 def refusals(serving):
     """What is no review has a code, and a connection goes on where it can."""
     caller = serving.caller()
-    for body in (b"", b"nonsense", b"[]", b'{"request":{"uid":7}}', review("", "v1", []).encode()):
+    for body in (b"", b"nonsense", b"[]", b'{"request":{"uid":7}}', review("", "v1", [])):
         same(post(caller, body)[0], 400)
     caller.request("GET", "/healthz")
     answer = caller.getresponse()
@@ -240,11 +216,12 @@ def by_curl(serving, tls):
 def plain(program):
     """Without --cert it serves HTTP, and curl posts a file."""
     wants("curl")
-    serving = Serving(program)
-    done = subprocess.run(["curl", "-sS", "--data-binary", f"@{HERE / 'review.json'}", serving.url], capture_output=True)
-    same(done.stdout, ANSWER)
-    serving.process.send_signal(signal.SIGINT)
-    same(serving.process.wait(60), 0)
+    with Serving(program) as serving:
+        url = f"http://127.0.0.1:{serving.port}/"
+        done = subprocess.run(["curl", "-sS", "--data-binary", f"@{HERE / 'review.json'}", url], capture_output=True)
+        same(done.stdout, ANSWER)
+        serving.process.send_signal(signal.SIGINT)
+        same(serving.ended(60), 0)
 
 
 def faulty(program):
@@ -268,7 +245,7 @@ def launched(program):
         for _ in range(3):
             same(post(serving.caller(), REVIEW), (200, ANSWER))
         serving.process.terminate()
-        same((serving.process.wait(60), (pathlib.Path(to) / "runs").read_text()), (0, "once\n"))
+        same((serving.ended(60), (pathlib.Path(to) / "runs").read_text()), (0, "once\n"))
 
 
 def renewed(serving, tls):
@@ -285,7 +262,7 @@ def renewed(serving, tls):
 def silent_peers(serving):
     """A peer that says nothing, and one that says a byte now and then, are let go after 30 seconds."""
     began = time.monotonic()
-    peers = [serving.socket(), serving.socket(), socket.create_connection(("127.0.0.1", serving.port))]
+    peers = [serving.socket(), serving.socket(), socket.create_connection(serving.address)]
     peers[1].sendall(b"POST / HTTP/1.1\r\nContent-Length: 90\r\n\r\n")
     ended = {}
     while len(ended) < len(peers) and time.monotonic() - began < 45:
@@ -309,7 +286,7 @@ def stopped(serving):
     """SIGTERM while a review is answered: its answer comes, and then the end."""
     caller = serving.caller()
     objects = [crontab(item, "v1beta1") for item in range(3_000)]
-    body = review("last", "v1", objects).encode()
+    body = review("last", "v1", objects)
     caller.putrequest("POST", "/convert")
     caller.putheader("Content-Length", str(len(body)))
     caller.endheaders(body[:-1])
@@ -319,7 +296,7 @@ def stopped(serving):
     caller.send(body[-1:])
     answer = caller.getresponse()
     judged(answer.read(), "last", "v1", objects)
-    same((answer.getheader("Connection"), serving.process.wait(60)), ("close", 0))
+    same((answer.getheader("Connection"), serving.ended(60)), ("close", 0))
 
 
 def certificate(to):
@@ -380,8 +357,8 @@ def secure(program, slow):
         looked("openssl: the chain, the name, no TLS 1.1", by_openssl, serving, tls)
         looked("curl --cacert, and none without it", by_curl, serving, tls)
         looked("as an API server asks", many, serving)
-        for what, look in (("failures", failures), ("refusals", refusals), ("chunked bodies", chunked), ("long reviews", long)):
-            looked(what, look, serving)
+        for look in failures, refusals, chunked, long:
+            looked(look.__name__, look, serving)
         looked("a silent peer and a slow one", silent_peers if slow else skip("--slow waits for them"), serving)
         looked("a renewed certificate", renewed, serving, tls)
         looked("SIGTERM while a review is answered", stopped, serving)
@@ -403,13 +380,11 @@ def main(words):
         secure(program, slow)
     else:
         looked("HTTPS", skip("there is no openssl to make a certificate"))
-    looked("HTTP, curl and SIGINT", plain, program)
-    looked("faulty files", faulty, program)
-    looked("the launcher's program", launched, program)
-    looked("manifests", manifests, program)
-    looked("the image", image, program)
-    return bool(WRONG)
+    looks = {"HTTP, curl and SIGINT": plain, "faulty files": faulty, "the launcher's program": launched, "manifests": manifests, "the image": image}
+    for what, look in looks.items():
+        looked(what, look, program)
+    end()
 
 
 if __name__ == "__main__":
-    sys.exit(main(sys.argv[1:]))
+    main(sys.argv[1:])

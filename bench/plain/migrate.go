@@ -1,8 +1,7 @@
 // A plain client of bench/outside.py: does what `kubeconv migrate` does where nobody else writes, by the same bytes, and tells what its
 // exchanges took alone.
 //
-//	go build -o plain-migrate bench/plain/migrate/migrate.go
-//	plain-migrate 127.0.0.1:PORT PATH
+//	./plain migrate 127.0.0.1:PORT PATH
 //
 // PATH is that of a resource, as /apis/example.com/v1/crontabs. Each exchange has a connection of its own: it is connected, the request is
 // sent, and the answer read to its end, by calls of the system that wait. What is done between two exchanges isn't counted. Prints how many
@@ -14,7 +13,6 @@ import (
 	"encoding/json"
 	"fmt"
 	"net"
-	"os"
 	"runtime"
 	"strings"
 	"syscall"
@@ -36,13 +34,6 @@ type client struct {
 	exchanges int
 	seconds   time.Duration
 	processor time.Duration
-}
-
-func try(err error) {
-	if err != nil {
-		fmt.Fprintln(os.Stderr, err)
-		os.Exit(1)
-	}
 }
 
 // The processor time of this thread.
@@ -115,13 +106,13 @@ func (c *client) putAll(path string, items []json.RawMessage) {
 	}
 }
 
-func main() {
+func migrate(words []string) {
 	runtime.LockOSThread()
-	address, err := net.ResolveTCPAddr("tcp4", os.Args[1])
+	address, err := net.ResolveTCPAddr("tcp4", words[0])
 	try(err)
 	c := &client{peer: syscall.SockaddrInet4{Port: address.Port}}
 	copy(c.peer.Addr[:], address.IP.To4())
-	path, more := os.Args[2], ""
+	path, more := words[1], ""
 	for {
 		code, body := c.ask("GET", path+"?limit=500"+more, nil)
 		if code == "410" {

@@ -1,7 +1,6 @@
 // A client of bench/many.py: so many connections, each of which asks one request after the other and waits for each answer.
 //
-//	go build -o client bench/plain/client/client.go
-//	client ADDRESS CONNECTIONS REQUESTS get|create|mix
+//	./plain client ADDRESS CONNECTIONS REQUESTS get|create|mix
 //
 // Says "ready" once each connection has made an object of its own. Then it waits for a line, asks REQUESTS requests in all, and prints the
 // seconds that they took, and of the waits for an answer in microseconds the middle one, the 99th of 100 and the longest. It waits for
@@ -22,7 +21,7 @@ import (
 	"time"
 )
 
-const path = "/apis/example.com/v1/namespaces/default/crontabs"
+const crontabs = "/apis/example.com/v1/namespaces/default/crontabs"
 
 type caller struct {
 	in     *bufio.Reader
@@ -47,26 +46,20 @@ func (c *caller) ask(wanted int, method, at, text string) string {
 	if text != "" {
 		length = "Content-Length: " + strconv.Itoa(len(text)) + "\r\n"
 	}
-	if _, err := io.WriteString(c.out, method+" "+at+" HTTP/1.1\r\nHost: x\r\n"+length+"\r\n"+text); err != nil {
-		fail(err.Error())
-	}
+	_, err := io.WriteString(c.out, method+" "+at+" HTTP/1.1\r\nHost: x\r\n"+length+"\r\n"+text)
+	try(err)
 	answer, err := http.ReadResponse(c.in, nil)
-	if err != nil {
-		fail(err.Error())
-	}
+	try(err)
 	came, err := io.ReadAll(answer.Body)
 	if err != nil || answer.StatusCode != wanted {
-		fail(fmt.Sprintf("%s %s is answered %d %s", method, at, answer.StatusCode, came))
+		try(fmt.Errorf("%s %s is answered %d %s", method, at, answer.StatusCode, came))
 	}
 	return string(came)
 }
 
-func fail(why string) {
-	fmt.Println(why)
-	os.Exit(1)
+func (c *caller) create(name string) {
+	c.number = numberOf(c.ask(201, "POST", crontabs, body(name, "")))
 }
-
-func (c *caller) create(name string) { c.number = numberOf(c.ask(201, "POST", path, body(name, ""))) }
 
 func numberOf(shown string) string {
 	_, rest, _ := strings.Cut(shown, `"resourceVersion":"`)
@@ -79,25 +72,21 @@ func (c *caller) step(kind string, turn int) {
 	switch {
 	case kind == "create" || kind == "mix" && turn%10 == 9:
 		c.made++
-		c.ask(201, "POST", path, body(c.name+"-"+strconv.Itoa(c.made), ""))
+		c.ask(201, "POST", crontabs, body(c.name+"-"+strconv.Itoa(c.made), ""))
 	case kind == "mix" && turn%5 == 3:
-		c.number = numberOf(c.ask(200, "PUT", path+"/"+c.name, body(c.name, c.number)))
+		c.number = numberOf(c.ask(200, "PUT", crontabs+"/"+c.name, body(c.name, c.number)))
 	default:
-		c.ask(200, "GET", path+"/"+c.name, "")
+		c.ask(200, "GET", crontabs+"/"+c.name, "")
 	}
 	c.waits = append(c.waits, time.Since(start))
 }
 
-func main() {
-	address, kind := os.Args[1], os.Args[4]
-	connections, _ := strconv.Atoi(os.Args[2])
-	requests, _ := strconv.Atoi(os.Args[3])
+func ask(words []string) {
+	address, connections, requests, kind := words[0], number(words[1]), number(words[2]), words[3]
 	callers := make([]*caller, connections)
 	for i := range callers {
 		out, err := net.Dial("tcp", address)
-		if err != nil {
-			fail(err.Error())
-		}
+		try(err)
 		callers[i] = &caller{in: bufio.NewReader(out), out: out, name: "c" + strconv.Itoa(i)}
 		callers[i].create(callers[i].name)
 	}

@@ -1,7 +1,6 @@
 // A server of one custom resource by Go's net/http that keeps nothing: bench/outside.py asks it about more objects than a server holds.
 //
-//	go build -o far bench/plain/far/far.go
-//	./far OBJECTS BYTES
+//	./plain far OBJECTS BYTES
 //
 // It says at which address it listens. A page has so many of its objects as are asked for, each with a text of so many bytes, which are made
 // up as it is answered. A put is answered as one that stores the object anew, and a post as one that creates it, whatever was before.
@@ -11,10 +10,7 @@ package main
 import (
 	"bytes"
 	"fmt"
-	"io"
-	"net"
 	"net/http"
-	"os"
 	"strconv"
 	"strings"
 	"sync/atomic"
@@ -22,19 +18,19 @@ import (
 
 const resource = "/apis/example.com/v1/crontabs"
 
-type server struct {
+type made struct {
 	objects                   int
 	text                      string
 	lists, puts, posts, wrong atomic.Int64
 }
 
 // The object of this number, at this resource version, by the order of names.
-func (s *server) item(number, version int) []byte {
+func (s *made) item(number, version int) []byte {
 	return []byte(fmt.Sprintf(`{"apiVersion":"example.com/v1","host":"%s","kind":"CronTab","metadata":{"creationTimestamp":"2024-01-01T00:00:00Z","generation":1,`+
 		`"name":"o%07d","namespace":"default","resourceVersion":"%d","uid":"00000000-0000-8000-8000-%012d"}}`, s.text, number, version, number))
 }
 
-func (s *server) list(limit, begin int) []byte {
+func (s *made) list(limit, begin int) []byte {
 	s.lists.Add(1)
 	end, token := begin+limit, ""
 	if end < s.objects {
@@ -55,7 +51,7 @@ func (s *server) list(limit, begin int) []byte {
 }
 
 // A put of an object as it was listed.
-func (s *server) put(name string, body []byte) []byte {
+func (s *made) put(name string, body []byte) []byte {
 	s.puts.Add(1)
 	number, err := strconv.Atoi(strings.TrimPrefix(name, "o"))
 	if err != nil || !bytes.Equal(body, s.item(number, number+1)) {
@@ -64,13 +60,13 @@ func (s *server) put(name string, body []byte) []byte {
 	return s.item(number, s.objects+number+1)
 }
 
-func (s *server) post(body []byte) []byte {
+func (s *made) post(body []byte) []byte {
 	number := s.posts.Add(1)
 	more := fmt.Sprintf(`"metadata":{"creationTimestamp":"2024-01-01T00:00:00Z","generation":1,"resourceVersion":"%d","uid":"u%d",`, number, number)
 	return bytes.Replace(body, []byte(`"metadata":{`), []byte(more), 1)
 }
 
-func (s *server) answer(request *http.Request, body []byte) (int, []byte) {
+func (s *made) answer(request *http.Request, body []byte) (int, interface{}) {
 	switch path := request.URL.Path; {
 	case path == "/told":
 		return 200, []byte(fmt.Sprintf(`{"lists":%d,"puts":%d,"posts":%d,"wrong":%d}`, s.lists.Load(), s.puts.Load(), s.posts.Load(), s.wrong.Load()))
@@ -85,24 +81,6 @@ func (s *server) answer(request *http.Request, body []byte) (int, []byte) {
 	}
 }
 
-func (s *server) ServeHTTP(w http.ResponseWriter, request *http.Request) {
-	body, err := io.ReadAll(request.Body)
-	if err != nil {
-		return
-	}
-	code, text := s.answer(request, body)
-	w.Header().Set("Content-Type", "application/json")
-	w.WriteHeader(code)
-	w.Write(text)
-}
-
-func main() {
-	objects, _ := strconv.Atoi(os.Args[1])
-	size, _ := strconv.Atoi(os.Args[2])
-	listener, err := net.Listen("tcp", "127.0.0.1:0")
-	if err != nil {
-		panic(err)
-	}
-	fmt.Println("listening on", listener.Addr())
-	panic(http.Serve(listener, &server{objects: objects, text: strings.Repeat("t", size)}))
+func far(words []string) {
+	listen((&made{objects: number(words[0]), text: strings.Repeat("t", number(words[1]))}).answer)
 }

@@ -1,8 +1,7 @@
 // A server of one custom resource by Go's net/http, as an API server answers: what is longer than 2,048 bytes comes in chunks, objects
-// have managedFields, and continue tokens are of its own form. checks/outside.py builds it and asks it:
+// have managedFields, and continue tokens are of its own form. checks/outside.py asks it:
 //
-//	go build -o outside checks/outside.go
-//	./outside MODE OBJECTS BYTES
+//	./plain keeper MODE OBJECTS BYTES
 //
 // It says at which address it listens, and holds so many objects, each with a text of so many bytes, in the namespaces `default` and
 // `kube-system`. All are stored anew by their next put, as behind a move of the storage version. By their numbers modulo 50 one is
@@ -17,18 +16,13 @@ package main
 import (
 	"encoding/json"
 	"fmt"
-	"io"
-	"net"
 	"net/http"
 	"net/url"
-	"os"
 	"reflect"
 	"strconv"
 	"strings"
 	"sync"
 )
-
-type document = map[string]interface{}
 
 type object struct {
 	namespace, name, text string
@@ -46,7 +40,7 @@ type told struct {
 	Old               []string
 }
 
-type server struct {
+type keeper struct {
 	lock    sync.Mutex
 	mode    string
 	objects []*object
@@ -58,16 +52,6 @@ type server struct {
 
 const managed = `[{"apiVersion":"example.com/v1","fieldsType":"FieldsV1","fieldsV1":{"f:spec":{".":{},"f:text":{},"k:{\"name\":\"x\"}":{}}},
 	"manager":"kubectl <&> ü","operation":"Update","time":"2024-01-01T00:00:00Z"}]`
-
-func read(text []byte) interface{} {
-	var value interface{}
-	decoder := json.NewDecoder(strings.NewReader(string(text)))
-	decoder.UseNumber()
-	if decoder.Decode(&value) != nil {
-		return nil
-	}
-	return value
-}
 
 // The object that a POST gave, as it stands.
 func shownAsGiven(o *object) document {
@@ -84,7 +68,7 @@ func shownAsGiven(o *object) document {
 }
 
 // The object as it stands.
-func (s *server) shown(o *object) document {
+func (s *keeper) shown(o *object) document {
 	if o.given != nil {
 		return shownAsGiven(o)
 	}
@@ -101,25 +85,25 @@ func (s *server) shown(o *object) document {
 }
 
 func status(code int, reason, name string) document {
-	refusal := document{"apiVersion": "v1", "kind": "Status", "status": "Failure", "reason": reason, "code": code, "metadata": document{}}
+	refusal := refusal(code, reason)
 	if name != "" {
 		refusal["details"] = document{"group": "example.com", "kind": "crontabs", "name": name}
 	}
 	return refusal
 }
 
-func (s *server) isWrong(format string, words ...interface{}) {
+func (s *keeper) isWrong(format string, words ...interface{}) {
 	if len(s.told.Wrong) < 20 {
 		s.told.Wrong = append(s.told.Wrong, fmt.Sprintf(format, words...))
 	}
 }
 
 // A token of its own: where the next page begins, in bytes that a query has to escape.
-func (s *server) tokenAt(place int) string {
+func (s *keeper) tokenAt(place int) string {
 	return fmt.Sprintf("{\"v\":\"meta.k8s.io/v1\",\"start\":\"%d\\u0000\"} &limit=1#+%%41/ü", place)
 }
 
-func (s *server) list(query url.Values) (int, document) {
+func (s *keeper) list(query url.Values) (int, document) {
 	s.told.Lists++
 	limit, _ := strconv.Atoi(query.Get("limit"))
 	if token := query.Get("continue"); token != "" && token != s.token {
@@ -150,7 +134,7 @@ func (s *server) list(query url.Values) (int, document) {
 }
 
 // What others do to an object before its put is looked at.
-func (s *server) meddle(at int, o *object) {
+func (s *keeper) meddle(at int, o *object) {
 	o.puts++
 	switch {
 	case at%50 == 13:
@@ -161,7 +145,7 @@ func (s *server) meddle(at int, o *object) {
 	}
 }
 
-func (s *server) put(at int, o *object, body []byte) (int, document) {
+func (s *keeper) put(at int, o *object, body []byte) (int, document) {
 	s.told.Puts++
 	given, _ := read(body).(document)
 	metadata, _ := given["metadata"].(document)
@@ -183,7 +167,7 @@ func (s *server) put(at int, o *object, body []byte) (int, document) {
 	return 200, s.shown(o)
 }
 
-func (s *server) post(namespace string, body []byte) (int, document) {
+func (s *keeper) post(namespace string, body []byte) (int, document) {
 	s.told.Posts++
 	given, _ := read(body).(document)
 	metadata, _ := given["metadata"].(document)
@@ -208,7 +192,9 @@ func (s *server) post(namespace string, body []byte) (int, document) {
 }
 
 // What a request is answered, by its path.
-func (s *server) answer(request *http.Request, body []byte) (int, interface{}) {
+func (s *keeper) answer(request *http.Request, body []byte) (int, interface{}) {
+	s.lock.Lock()
+	defer s.lock.Unlock()
 	path := request.URL.Path
 	if path == "/told" {
 		s.told.Old = nil
@@ -217,7 +203,7 @@ func (s *server) answer(request *http.Request, body []byte) (int, interface{}) {
 				s.told.Old = append(s.told.Old, o.name)
 			}
 		}
-		return 200, s.told
+		return 200, spelled(s.told)
 	}
 	if path == "/apis/example.com/v1/crontabs" && request.Method == "GET" {
 		return s.list(request.URL.Query())
@@ -242,27 +228,8 @@ func (s *server) answer(request *http.Request, body []byte) (int, interface{}) {
 	return 404, status(404, "NotFound", "")
 }
 
-func (s *server) ServeHTTP(w http.ResponseWriter, request *http.Request) {
-	body, err := io.ReadAll(request.Body)
-	if err != nil {
-		panic(err)
-	}
-	s.lock.Lock()
-	code, value := s.answer(request, body)
-	text, err := json.Marshal(value)
-	s.lock.Unlock()
-	if err != nil {
-		panic(err)
-	}
-	w.Header().Set("Content-Type", "application/json")
-	w.WriteHeader(code)
-	w.Write(text)
-}
-
-func main() {
-	s := &server{mode: os.Args[1], number: 1}
-	count, _ := strconv.Atoi(os.Args[2])
-	size, _ := strconv.Atoi(os.Args[3])
+func keep(words []string) {
+	s, count, size := &keeper{mode: words[0], number: 1}, number(words[1]), number(words[2])
 	namespaces := []string{"default", "kube-system"}
 	if s.mode == "etcd" {
 		namespaces = []string{"a-b", "a"}
@@ -272,10 +239,5 @@ func main() {
 		namespace := namespaces[at*2/count]
 		s.objects = append(s.objects, &object{namespace: namespace, name: fmt.Sprintf("cron-%06d", at), text: strings.Repeat("t", size), number: s.number, isOld: true})
 	}
-	listener, err := net.Listen("tcp", "127.0.0.1:0")
-	if err != nil {
-		panic(err)
-	}
-	fmt.Println("listening on", listener.Addr())
-	panic(http.Serve(listener, s))
+	listen(s.answer)
 }
