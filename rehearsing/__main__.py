@@ -8,6 +8,7 @@ import tempfile
 from concurrent.futures.process import BrokenProcessPool
 from typing import Any, Dict, Optional, Tuple
 
+import explain
 import prepare_crd
 import yaml2json
 
@@ -42,6 +43,10 @@ def read_rules(path: str) -> Dict[str, Any]:
     return found[0]
 
 
+class Refused(Faulty):
+    """Rules that kubeconv refuses, with what ./explain tells of them."""
+
+
 class Files:
     """The two files that kubeconv reads, in a room: what YAML said as JSON, and the definition as it is where kubeconv takes it so, or
     else prepared for a webhook."""
@@ -58,6 +63,14 @@ class Files:
         said = Program(self.given.program, self.crd, self.rules).fault()
         return said.replace(self.crd, self.given.crd).replace(self.rules, self.given.rules)
 
+    def refused(self, said: str) -> Faulty:
+        """What ./explain tells of the two files, or else what kubeconv said; of rules that can be read once more, by their own lines."""
+        rules = self.given.rules if os.path.isfile(self.given.rules) else self.rules
+        try:
+            return Refused(explain.explained(self.given.program, self.crd, rules, [self.given.crd, self.given.rules])[0])
+        except (explain.Failed, explain.Unusable):
+            return Faulty(said)
+
     def load(self, document: Dict[str, Any], rules: Dict[str, Any]) -> None:
         self.write(self.rules, rules)
         self.write(self.crd, document)
@@ -69,7 +82,7 @@ class Files:
             raise Faulty("\n".join(f"{self.given.crd}: {why}" for why in prepared.impossible))
         said = self.fault()
         if said:
-            raise Faulty(f"{said}\n./explain with these rules and what tools/prepare_crd.py --webhook makes of the definition tells how to mend it")
+            raise self.refused(said)
         counts = f"left out {len(prepared.left_out)}, put in {len(prepared.put_in)}"
         print(f"rehearse: the definition is prepared for kubeconv ({counts}); tools/prepare_crd.py --webhook tells each", file=sys.stderr)
 
@@ -97,16 +110,23 @@ def main() -> int:
         with tempfile.TemporaryDirectory() as room:
             definition, chosen = prepare(given, room)
             tally = rehearse(of_files(given.objects), definition, chosen, given.most, given.processes, progress)
+    except Refused as why:
+        made = f"what tools/prepare_crd.py --webhook makes of {given.crd}"
+        print(f"{why}rehearse: {given.rules} doesn't load by {made}: nothing was tried", file=sys.stderr)
+        return WRONG
     except (Faulty, Unreadable, Unreachable, BrokenProcessPool) as why:
         for line in str(why).splitlines():
             print(f"rehearse: {line}", file=sys.stderr)
         return WRONG
+    if tally.is_empty():
+        files = ", ".join("standard input" if it == "-" else it for it in given.objects)
+        print(f"rehearse: no object of {definition.name} in {files}: nothing was tried", file=sys.stderr)
     if given.json:
         print(json.dumps(report.document(definition, tally, progress.seconds()), ensure_ascii=False))
     else:
         print("\n".join(report.lines(definition, tally, progress.seconds())))
     sys.stdout.flush()
-    return FAULTY if tally.is_faulty() else 0
+    return WRONG if tally.is_empty() else FAULTY if tally.is_faulty() else 0
 
 
 if __name__ == "__main__":

@@ -63,6 +63,26 @@ def ordered(tally: Tally) -> List[Tuple[Key, Found]]:
     return sorted(tally.found.items(), key=lambda it: (kinds.index(it[0].kind), it[0]))
 
 
+def out_of_sight(tally: Tally) -> Dict[str, int]:
+    """How many fields of the objects each version never shows."""
+    found = {(key.way[1], key.path or key.rule) for key in tally.found if key.kind == "hidden"}
+    versions = sorted(version for version, _ in found)
+    return {version: versions.count(version) for version in versions}
+
+
+def verdict(tally: Tally) -> Iterator[str]:
+    """What came of it: whether something is lost, and what is kept so that a version's clients don't see it."""
+    if tally.is_empty():
+        yield "nothing was tried"
+        return
+    yield f"{'something' if tally.is_faulty() else 'nothing'} is lost or refused"
+    counts = out_of_sight(tally)
+    if counts:
+        (first, count), *others = counts.items()
+        said = f"{counted(count, 'field')} {'is' if count == 1 else 'are'} out of sight at {first}"
+        yield ", ".join([said, *(f"{it:,} at {at}" for at, it in others)])
+
+
 def lines(definition: Definition, tally: Tally, seconds: float) -> Iterator[str]:
     at = ", ".join(f"{count:,} at {version}" for version, count in sorted(tally.objects.items()))
     yield f"{definition.name}, hub {definition.hub}: {counted(sum(tally.objects.values()))}{': ' * bool(at)}{at}"
@@ -80,8 +100,7 @@ def lines(definition: Definition, tally: Tally, seconds: float) -> Iterator[str]
         yield ""
         yield from table(rows)
     yield ""
-    verdict = "something is lost or refused" if tally.is_faulty() else "nothing is lost or refused"
-    yield f"{verdict}; {seconds:.1f} seconds, the longest review {tally.slowest:.1f}"
+    yield f"{'; '.join(verdict(tally))}; {seconds:.1f} seconds, the longest review {tally.slowest:.1f}"
 
 
 def document(definition: Definition, tally: Tally, seconds: float) -> Dict[str, Any]:
@@ -108,5 +127,6 @@ def document(definition: Definition, tally: Tally, seconds: float) -> Dict[str, 
         "pairs": pairs,
         "seconds": round(seconds, 3),
         "longestReview": round(tally.slowest, 3),
+        "outOfSight": out_of_sight(tally),
         "faulty": tally.is_faulty(),
     }

@@ -107,3 +107,7 @@ class Tally:
 
     def is_faulty(self) -> bool:
         return any(KINDS[key.kind][1] for key in self.found)
+
+    def is_empty(self) -> bool:
+        """Whether no object was tried."""
+        return not any(self.objects.values()) and not self.is_faulty()

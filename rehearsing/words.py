@@ -10,7 +10,7 @@ ABOUT = """Takes each object to every other version and back, and tells what is 
 
 OBJECTS are files, or standard input where there is none: what `kubectl get -o json` or `-o yaml` prints, lists, documents, or the lines of
 `kubeconv dump`. The status is 0 where nothing is lost or refused, 1 where something is, and 2 where the words are wrong, a file can't be
-read, or there is nothing that converts."""
+read, there is nothing that converts, or no object of the kind to be tried."""
 
 MOST = 6  # processes, unless more are asked for: each takes some 25 MB
 

@@ -84,9 +84,9 @@ class Mark(NamedTuple):
     where: str
     says: str
 
-    def said(self, file: str) -> str:
-        """As it is told of a file; a place in what was YAML is none of its author's."""
-        return self.says if file.endswith((".yaml", ".yml")) or not self.where else f"{self.where}: {self.says}"
+    def said(self, is_own: bool) -> str:
+        """As it is told; a place in a text that its author didn't write so is left out."""
+        return f"{self.where}: {self.says}" if is_own and self.where else self.says
 
 
 def whole(text: str) -> int:
@@ -172,6 +172,7 @@ class Document:
     def __init__(self, file: str, value: Any) -> None:
         self.file, self.value = file, value
         self.places: Dict[int, str] = {}
+        self.added: Dict[int, int] = {}  # how many items each list got at its end
         self.kept: List[Tuple[Any, Any]] = []  # all parts, so that no other gets the identity of one that was taken out, and as they were
         self.place(value, "")
 
@@ -204,8 +205,16 @@ class Document:
         where = inside(self.of(node), name)
         return Edit(self.file, f"rename {where} to {to}", lambda: node.update({to: self.place(node.pop(name), inside(self.of(node), to))}))
 
+    def as_it_was(self, items: List[Any]) -> List[Any]:
+        return next((it for own, it in self.kept if own is items), items)
+
     def add(self, items: List[Any], new: List[Any]) -> Edit:
-        return Edit(self.file, f"add to {self.of(items)}: {', '.join(map(pasted, new))}", lambda: items.extend(new))
+        def do() -> None:
+            count = self.added.get(id(items), 0)
+            start, self.added[id(items)] = len(self.as_it_was(items)) + count, count + len(new)
+            items.extend(self.place(it, f"{self.of(items)}[{start + n}]") for n, it in enumerate(new))
+
+        return Edit(self.file, f"add to {self.of(items)}: {', '.join(map(pasted, new))}", do)
 
     def swap(self, items: List[Any], item: Any, new: List[Any]) -> Edit:
         """Items in the place of one of a list."""
@@ -219,8 +228,7 @@ class Document:
 
     def sift(self, items: List[Any]) -> List[Edit]:
         """What is no object taken out of a list."""
-        were = next((it for own, it in self.kept if own is items), items)
-        out = [f"{self.of(items)}[{i}]" for i, it in enumerate(were) if not isinstance(it, dict)]
+        out = [f"{self.of(items)}[{i}]" for i, it in enumerate(self.as_it_was(items)) if not isinstance(it, dict)]
 
         def do() -> None:
             items[:] = [it for it in items if isinstance(it, dict)]

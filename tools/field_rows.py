@@ -3,22 +3,23 @@ tools/explain.py tells the rows.
 """
 from __future__ import annotations
 
-from typing import Any, Dict, Iterator, List
+from typing import Any, Dict, Iterator, List, Tuple
 
 from fault_texts import alike, at, shown
 from program_asks import Program
 from schemas import HUB, ONLY, SIDES, SPOKE, Level, Rule, kind_of, levels, names_of, root_level
 
-PATH_WIDTH, RULE_WIDTH = 32, 12
+# How wide the columns are at least.
+WIDTHS = (1, 32, 12, 32)
+# The mark, the path at the spoke, the rule, the path at the hub, and what is kept.
+Row = Tuple[str, str, str, str, str]
 
 
-def column(text: str, width: int) -> str:
-    return text + " " * (max(width - len(text.encode("utf-8", "replace")), 0) + 1)
-
-
-def row(mark: str, spoke: str, rule: str, hub: str, kept: str) -> str:
-    """A line: the mark, the path at the spoke, the rule, the path at the hub, and what is kept."""
-    return mark + column(spoke, PATH_WIDTH) + column(rule, RULE_WIDTH) + column(hub, PATH_WIDTH) + kept
+def laid_out(found: List[Row]) -> Iterator[str]:
+    """Rows as lines, in columns that are as wide as their longest text."""
+    widths = [max([least, *(len(it[i]) for it in found)]) for i, least in enumerate(WIDTHS)]
+    for row in found:
+        yield "".join(f"{it:<{width + 1}}" for it, width in zip(row, widths)) + row[-1]
 
 
 def kept(rule: Rule, spoke: str, hub: str) -> str:
@@ -70,11 +71,11 @@ def where_absent(level: Level, rule: Rule, bodies: List[Any]) -> str:
     return says if alike(own, of_spoke) else f"{says}, and {shown(of_spoke[0])} by an object of {level.versions[SPOKE]}"
 
 
-def rule_row(level: Level, rule: Rule, bodies: List[Any]) -> str:
+def rule_row(level: Level, rule: Rule, bodies: List[Any]) -> Row:
     kind = kind_of(rule)
     spoke, hub = (", ".join(level.paths[side] + name for where, name in names_of(rule) if where == side) or "-" for side in SIDES)
     word = "-" if kind == "same" and spoke == hub else kind
-    return row("! " if kind in ONLY else "  ", spoke, word, hub, kept(rule, *level.versions) + where_absent(level, rule, bodies))
+    return "!" if kind in ONLY else "", spoke, word, hub, kept(rule, *level.versions) + where_absent(level, rule, bodies)
 
 
 def spoke_rows(program: Program, crd: Any, rules: Any, root: Level) -> Iterator[str]:
@@ -83,11 +84,9 @@ def spoke_rows(program: Program, crd: Any, rules: Any, root: Level) -> Iterator[
     there = f"What {hub} can't show stands there in the annotation spoke.kubeconv.local/{spoke}"
     yield ""
     yield f"{spoke} (spoke) and {hub} (hub). {there}, what {spoke} can't show there in hub.kubeconv.local/kept"
-    yield row("  ", spoke, "rule", hub, "kept")
     bodies = [filled(program, crd, rules, root, side) for side in SIDES]
-    for level in levels(root):
-        for rule in sorted(level.all_rules(), key=lambda it: kind_of(it) == "object"):
-            yield rule_row(level, rule, bodies)
+    ruled = [(level, rule) for level in levels(root) for rule in sorted(level.all_rules(), key=lambda it: kind_of(it) == "object")]
+    yield from laid_out([("", spoke, "rule", hub, "kept"), *(rule_row(*it, bodies) for it in ruled)])
 
 
 def rows(program: Program, crd: Any, rules: Any) -> str:

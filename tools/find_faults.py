@@ -9,10 +9,11 @@ import re
 from typing import Any, Dict, List, Optional, Tuple
 
 from document_faults import Told, definition_told, spot
+from fault_case import Case
 from fault_texts import Document, at, is_whole, list_at, nearest, shown, text_at
-from fit_faults import KEPT, UNITS, WAYS as FIT, Case, elsewhere, fit_told
+from fit_faults import KEPT, WAYS as FIT, elsewhere, fit_told
 from program_asks import Fault, Program
-from schemas import HUB, ONLY, SIDES, SPOKE, Level, Rule, draft, fits, kept, kind_of, levels, names_of, root_level
+from schemas import HUB, ONLY, SIDES, SPOKE, UNITS, Level, Rule, drafts, fits, kept, kind_of, levels, names_of, root_level
 
 MOST_ROUNDS = 500
 PLAIN = ("same", "scale")
@@ -169,9 +170,11 @@ class Search:
             near = nearest(name, lacking)
             says = f"the definition has no version `{name}`{f'; `{near}` is meant' if near else ''}; its versions are {', '.join(names)}"
             return Told(fault, says, [self.rules.rename(spokes, name, near) if near else self.rules.drop(spokes, name)])
-        items = [spokes[name]] if kind_of(spokes[name]) in TAKES else draft(self.program, root_level(self.crd.value, doc, name))
-        says = f"a spoke has a list of rules, [RULE, ..]; here stands {shown(spokes[name])}"
-        return Told(fault, says, [self.rules.put(spokes, name, items)])
+        items, others, asked = drafts(self.program, root_level(self.crd.value, doc, name))
+        if kind_of(spokes[name]) in TAKES:
+            items, others, asked = [spokes[name]], [], ""
+        says = f"a spoke has a list of rules, [RULE, ..]; here stands {shown(spokes[name])}{asked}"
+        return Told(fault, says, *([self.rules.put(spokes, name, it)] if it else [] for it in (items, others)))
 
     def forms(self) -> bool:
         """Tells the faults of both documents by themselves, and returns whether there is more to look for."""
@@ -201,8 +204,11 @@ class Search:
             if fault.word == "Shape":
                 told = [Told(fault, f"spokes.{name}: {MOST}; this is what mends would add")]
             elif name in spokes:
-                cases = [self.case(name, it) for it in self.case(name, fault).with_others()]
-                told = [fit_told(it) for it in cases if it is cases[0] or it.rule is None]
+                told, done = [], []  # type: List[Told], List[str]
+                for case in [self.case(name, it) for it in self.case(name, fault).with_others()]:
+                    if not told or case.rule is None and case.fault.path not in done:
+                        told.append(fit_told(case))
+                        done += case.done
             else:
                 told = [self.no_list(name, fault)]
             if not self.tell(*told):
@@ -211,8 +217,9 @@ class Search:
     def no_list(self, name: str, fault: Fault) -> Told:
         """What is told of a version that has no list of rules."""
         root = root_level(self.crd.value, self.rules.value, name)
-        says = f"`spokes` has no list for {name}, which differs from {root.versions[HUB]}; to begin with, a list that keeps what differs"
-        return Told(fault, says, [self.rules.put(self.rules.value["spokes"], name, draft(self.program, root))])
+        spokes, (items, others, asked) = self.rules.value["spokes"], drafts(self.program, root)
+        says = f"`spokes` has no list for {name}, which differs from {root.versions[HUB]}; to begin with, a list that keeps what differs{asked}"
+        return Told(fault, says, [self.rules.put(spokes, name, items)], [self.rules.put(spokes, name, others)] if others else [])
 
     def late(self, fault: Fault) -> Told:
         """What is told of a field of the hub's whose default comes from a spoke, too late for others."""

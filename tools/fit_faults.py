@@ -6,95 +6,22 @@ first, until the program takes one; so what is told to be pasted was taken.
 from __future__ import annotations
 
 import re
-from itertools import islice
 from typing import Any, Callable, Dict, Iterator, List, Optional, Tuple
 
 from document_faults import Told, why_not
-from fault_texts import Document, Edit, alike, nearest, shown
-from program_asks import Fault, Program
-from schemas import (HUB, OF_OBJECT, ONLY, PASSED, SIDES, SPOKE, Level, Node, Rule, Spot, differences, draft, fits, kept, kind_of, levels,
-                     names_of, wider, with_names)  # fmt: skip
+from fault_case import Case
+from fault_texts import Edit, alike, nearest, shown
+from schemas import (HUB, OF_OBJECT, ONLY, SIDES, SPOKE, UNITS, Level, Rule, drafts, fits, fits_loosely, is_other_unit, kept, kind_of, levels,
+                     names_of, same_shaped, widening, with_names)  # fmt: skip
 
-MOST_TRIED = MOST_TOLD = 6
+MOST_TRIED = 6
 INT32, INT64 = (-(2**31), 2**31 - 1), (-(2**63), 2**63 - 1)
 BLANKS = ("spokeBlank", "hubBlank")
 PLAIN = ["enum", "maxLength", "minLength"]
-UNITS = (1000, 60, 3600, 1000000, 1000000000, 1024, 24, 86400, 100)
 KEPT = "keep the fields at both sides: then neither is shown at the other version"
+WIDER = "give both the wider bounds"
+WEBHOOK = "or prepare the definition by `tools/prepare_crd.py --webhook`, which leaves {} to the API server"
 GO_OVER = "`metadata`, `apiVersion` and `kind` go over by themselves, and no rule names them; take the rule out"
-# What the rules of each kind take.
-TAKES = {
-    "": "fields without a rule, as by `same`, have equal schemas, and both are required or neither",
-    "same": "`same` takes equal schemas, and both required or neither",
-    "object": "`object` takes two objects with `properties` and nothing beside, without a default, and both required or neither",
-    "split": "`split` takes texts with no keyword beside `type`, of which none is required",
-    "table": "`table` takes values of both schemas, each once; defaults are a pair, and then, or where it is required, no blank is null",
-    "scale": "`scale` takes whole numbers, and at the hub the bounds of the spoke times `by`",
-    **{it: "what is kept at one side has no default there, and isn't required" for it in ONLY},
-}
-
-
-class Case:
-    """A fault of a spoke's rules, with the level and the rule, if any, and the names that it is about."""
-
-    def __init__(self, program: Program, crd: Document, rules: Document, root: Level, fault: Fault) -> None:
-        self.program, self.crd, self.rules, self.root, self.fault = program, crd, rules, root, fault
-        every = [(level, rule, names_of(rule)) for level in levels(root) for rule in level.rules or []]
-        found: List[Tuple[Level, Any, List[Spot]]] = [it for it in every if self.is_of(it[0], it[2])]
-        for level in [] if found else levels(root):
-            spots = [(side, fault.path[len(level.paths[side]) :]) for side in SIDES if fault.path.startswith(level.paths[side])]
-            spots = [it for it in spots if it[1] in level.free(it[0]) or level.is_required(*it) and not level.node(*it)]
-            # a rule at another level may be meant for the name
-            found += [it for it in every for spot in spots if spot in it[2] and not any(it[0].node(*name) for name in it[2])]
-            found += [(level, None, spots)] if spots else []
-        self.level, self.rule, self.spots = found[0] if found else (root, None, [])
-        self.kind = kind_of(self.rule)
-
-    def with_others(self) -> List[Fault]:
-        """The fault, and those of the other names of its level without a rule, where it is of one."""
-        others = [level.paths[side] + it for level in [self.level] for side in SIDES for it in level.unpaired(side)]
-        is_free = self.rule is None and self.fault.word == "NameMissing"
-        return [self.fault, *(Fault("rules", it, "NameMissing") for it in others if is_free and it != self.fault.path)]
-
-    def is_of(self, level: Level, names: List[Spot]) -> bool:
-        """Whether the fault is of a rule: NameTwice and NameMissing of one with the name, others of one whose first name it is."""
-        near = names if self.fault.word in ("NameTwice", "NameMissing") else names[:1]
-        found = [it for it in near if level.paths[it[0]] + it[1] == self.fault.path]
-        return any(self.fault.word != "NameMissing" or not level.node(*it) for it in found)
-
-    def takes(self, *rules: Rule, level: Optional[Level] = None) -> bool:
-        return bool(rules) and fits(self.program, level or self.level, list(rules))
-
-    def nodes(self) -> List[Node]:
-        return [self.level.node(*it) or {} for it in self.spots]
-
-    def instead(self, *new: Rule) -> List[Edit]:
-        """New rules in the place of the one, or at the end where there is none."""
-        rules = self.level.rules if self.level.rules is not None else []
-        return [self.rules.add(rules, list(new)) if self.rule is None else self.rules.swap(rules, self.rule, list(new))]
-
-    def why(self) -> str:
-        """What is wrong."""
-        level, word, two = self.level, self.fault.word, self.nodes()
-        if word == "NameTwice" or self.kind == "move":
-            return f"`{self.fault.path}` is named twice" if word == "NameTwice" else "there is no rule `move`"
-        if word == "NameMissing" and self.rule is None:
-            (side, name), = self.spots[:1]
-            return f"no rule has {level.of(side, name)}, and {level.versions[1 - side]} has no field of that name that is free"
-        if word == "NameMissing":
-            absent = [it for it in self.spots if not level.node(*it)]
-            return " and ".join(f"{level.versions[side]} has no `{level.paths[side]}{name}`" for side, name in absent)
-        found = list(islice(differences(level.versions, *two), MOST_TOLD)) if len(two) == 2 and self.kind in ("", "same") else []
-        if word == "SchemaDiffers" and found:
-            return f"the two schemas differ: {'; '.join(found)}"
-        facts = [f"{level.of(*it)} is {shown(node)}{' and required' * level.is_required(*it)}" for it, node in zip(self.spots, two)]
-        return f"{TAKES[self.kind]}: {', '.join(facts)}"
-
-    def told(self, says: str, mends: List[Edit], others: Optional[List[Edit]] = None) -> Told:
-        """The fault as it is told: the rule's place, the versions, what is wrong, and what may be done."""
-        place = self.rules.of(self.level.rules) if self.rule is None else f"{self.rules.of(self.rule)} ({self.kind})"
-        way = f"{self.level.versions[SPOKE]} to {self.level.versions[HUB]}"
-        return Told(self.fault, f"{place}, {way}: {self.why()}; {says}", mends, others or [])
 
 
 # ---- rules of other names, or at other levels
@@ -171,33 +98,50 @@ def renamed(case: Case) -> Iterator[Told]:
 
 
 def partner(case: Case) -> Iterator[Told]:
-    """A field without a rule: kept, or paired with the one of the other side that it may be."""
+    """A field without a rule: kept, or paired with the one of the other side that it may be; then that one is told with it."""
     if case.rule or not case.spots:
         return
     (side, name), level = case.spots[0], case.level
-    free = level.unpaired(1 - side)
-    near = nearest(name, free)
-    pairs = {it: {"same": [name, it][:: 1 - 2 * side]} for it in ([near] if near else free if len(free) <= MOST_TRIED else [])}
-    fitting = [it for it in pairs if case.takes(pairs[it])]
-    other = fitting[0] if len(fitting) == 1 else ""
+    likely = {SPOKE: same_shaped(level), HUB: {it: own for own, it in same_shaped(level).items()}}[side].get(name, "")
+    other = likely or likely_name(case, side, name)
+    names = [name, other][:: 1 - 2 * side]
+    both = kept(level, list(zip(SIDES, names))) if other else []
+    ways = [case.instead({"same": names}), case.instead(*both)]
+    if likely and case.takes({"same": names}):
+        case.done.append(level.paths[1 - side] + other)
+        says = f"{level.of(1 - side, other)} has the same schema: is it the same field? If not, keep both"
+        yield case.told(says, ways[0], ways[1] if case.takes(*both) else None)
+    elif other and case.takes(*both):
+        case.done.append(level.paths[1 - side] + other)
+        yield case.told(f"keep it and {level.of(1 - side, other)}, which has no rule too, or pair the two", ways[1], ways[0])
     alone = kept(level, case.spots[:1])
     if case.takes(*alone):
-        says = f"keep it, where {level.versions[1 - side]} has nothing like it{f', or pair it with `{other}`' if other else ''}"
-        yield case.told(says, case.instead(*alone), case.instead(pairs[other]) if other else None)
+        yield case.told(f"keep it, where {level.versions[1 - side]} has nothing like it", case.instead(*alone))
+
+
+def likely_name(case: Case, side: int, name: str) -> str:
+    """The one field of the other side without a rule that fits by `same`, where no other fits it: by a name that is near, or else of all."""
+    near = nearest(name, case.level.unpaired(1 - side))
+    if near and nearest(near, case.level.unpaired(side)) != name:
+        return ""
+    sides = [case.level.unpaired(it) for it in SIDES]
+    sides[side], sides[1 - side] = [name] if near else sides[side], [near] if near else sides[1 - side]
+    if max(map(len, sides)) > MOST_TRIED:
+        return ""
+    fitting = [it for it in sides[1 - side] if case.takes({"same": [name, it][:: 1 - 2 * side]})]
+    back = [it for other in fitting for it in sides[side] if len(fitting) == 1 and case.takes({"same": [it, other][:: 1 - 2 * side]})]
+    return fitting[0] if back == [name] else ""
 
 
 # ---- other rules
 
 
-def opened(case: Case) -> Iterator[Told]:
-    """An `object` rule for two objects, or a `scale` or a `table`, for two fields that differ."""
+def other_kind(case: Case) -> Iterator[Told]:
+    """A `scale` or a `table`, for two fields that differ."""
     if len(case.spots) != 2 or case.kind not in ("", "same", "scale"):
         return
-    names = [name for _, name in case.spots]
-    below, (one, two) = case.level.inner(names, None), case.nodes()
+    names, (one, two) = [name for _, name in case.spots], case.nodes()
     rules: List[Tuple[str, Rule]] = []
-    if below:
-        rules = [("make them equal, or open both by an `object` rule", {"object": {"names": names, "rules": draft(case.program, below)}})]
     if one.get("type") == two.get("type") == "integer":
         rules += [("by the bounds it is another unit", {"scale": {"names": names, "by": it}}) for it in UNITS]
     lists = [it["enum"] for it in (one, two) if "enum" in it]
@@ -208,17 +152,64 @@ def opened(case: Case) -> Iterator[Told]:
     yield from (case.told(says, case.instead(it)) for says, it in rules if it != case.rule and case.takes(it))
 
 
+def opened(case: Case) -> Iterator[Told]:
+    """An `object` rule for two objects that differ; bounds inside that differ are faults of their own."""
+    names = [name for _, name in case.spots]
+    below = case.level.inner(names, None) if len(names) == 2 and case.kind in ("", "same") else None
+    if not below:
+        return
+    first, others, asked = drafts(case.program, below)
+    rule, other = ({"object": {"names": names, "rules": it}} for it in (first, others))
+    if fits_loosely(case.program, case.level, [rule]):
+        says = f"make them equal, or open both by an `object` rule{asked}"
+        yield case.told(says, case.instead(rule), case.instead(other) if others else None)
+
+
+def needless(case: Case) -> List[Edit]:
+    """The edits by which the fields aren't required any more."""
+    edits = []
+    for side, node in enumerate(case.level.nodes):
+        rest = [it for it in node.get("required", []) if (side, it) not in case.spots]
+        if len(rest) < len(node.get("required", [])):
+            edits.append(case.crd.put(node, "required", rest) if rest else case.crd.drop(node, "required"))
+    return edits
+
+
+def unneeded(case: Case) -> str:
+    """How fields that are required are told to be mended."""
+    names = dict.fromkeys(f"`{name}`" for side, name in case.spots if case.level.is_required(side, name))
+    return f"take {' and '.join(names)} out of `required`"
+
+
+def checks(case: Case) -> Iterator[Told]:
+    """Where two fields differ by what only checks, the wider bounds of both; and required at neither side, where one requires it."""
+    if len(case.spots) != 2 or case.kind not in ("", "same", "object"):
+        return
+    one, two = case.nodes()
+    rule = case.rule or {"same": [name for _, name in case.spots]}
+    if is_other_unit(one, two) or not fits_loosely(case.program, case.level, [rule]):
+        return
+    wide = widening(case.crd, one, two) if case.kind != "object" else []
+    out = needless(case) if case.needs() else []
+    if not wide and not out:
+        return
+    says = " and ".join([unneeded(case)] * bool(out) + [WIDER] * bool(wide))
+    says = f"they differ by bounds alone: {says}" if wide else says
+    left = " and ".join(["`required`"] * bool(out) + ["bounds"] * bool(wide))
+    new = kept(case.level, case.spots) if wide and not out else []
+    others = case.instead(*new) if new and case.takes(*new) else None
+    yield case.told(f"{says}, {WEBHOOK.format(left)}{f', or {KEPT}' if others else ''}", [*out, *(wide or [])], others)
+
+
 def both_kept(case: Case) -> Iterator[Told]:
     """Both fields kept, or where bounds alone differ those that take the values of both."""
     one, two = case.nodes() if len(case.spots) == 2 and case.kind in ("", "same") else ({}, {})
-    wide = wider(one, two) if one and two else None
-    edits = [case.crd.put(node, it, v) for node in (one, two) for it, v in (wide or {}).items() if not alike(node.get(it), v)]
-    edits += [case.crd.drop(node, it) for node in (one, two) for it in sorted({*node} - {*(wide or node)} - PASSED - {"default"})]
+    edits = (widening(case.crd, one, two) if one and two else None) or []
     new = kept(case.level, case.spots)
     if case.takes(*new):
-        yield case.told(KEPT + ", or give both the wider bounds" * bool(edits), case.instead(*new), edits)
+        yield case.told(KEPT + f", or {WIDER}" * bool(edits), case.instead(*new), edits)
     elif edits:
-        yield case.told("give both the wider bounds", edits)
+        yield case.told(WIDER, edits)
     if case.rule:
         yield case.told("take out what isn't there", case.instead(*(it for it in new if case.takes(it))))
 
@@ -238,12 +229,18 @@ def stripped(case: Case) -> Iterator[Told]:
     names = {"UnpairedDefault": ["default"], "RangeLost": {"split": PLAIN, "scale": PLAIN[:1]}.get(case.kind, [])}
     out = names.get(case.fault.word, ["nullable"] * (case.kind in ("split", "table", "scale")))
     edits = [case.crd.drop(node, it) for node in case.nodes() for it in out if it in node]
-    for side, node in enumerate(case.level.nodes) if case.fault.word not in names else ():
-        rest = [it for it in node.get("required", []) if (side, it) not in case.spots]
-        if len(rest) < len(node.get("required", [])):
-            edits.append(case.crd.put(node, "required", rest) if rest else case.crd.drop(node, "required"))
+    needed = needless(case) if case.fault.word not in names else []
+    if needed and not edits:
+        yield case.told(f"{unneeded(case)}, {WEBHOOK.format('`required`')}", needed)
+    elif edits:
+        yield case.told("take it out of the schema", edits + needed)
+
+
+def undefaulted(case: Case) -> Iterator[Told]:
+    """Fields without a rule that can be kept, but for their default."""
+    edits = [case.crd.drop(node, "default") for node in case.nodes() if "default" in node and not case.rule]
     if edits:
-        yield case.told("take it out of the schema", edits)
+        yield case.told("a field that is kept has no default; take it out of the schema", edits)
 
 
 def pair_fault(case: Case, i: int) -> Optional[str]:
@@ -306,8 +303,8 @@ def bounds(case: Case) -> Iterator[Told]:
 
 # The ways to mend what a word is of, in the order in which they are tried.
 WAYS: Dict[str, List[Callable[[Case], Iterator[Told]]]] = {
-    "NameMissing": [of_object, turned, elsewhere, renamed, partner, both_kept, stripped],
-    "SchemaDiffers": [turned, elsewhere, opened, stripped, both_kept],
+    "NameMissing": [of_object, turned, elsewhere, renamed, partner, both_kept, stripped, undefaulted],
+    "SchemaDiffers": [turned, elsewhere, other_kind, checks, opened, stripped, both_kept, undefaulted],
     "UnpairedDefault": [tables, stripped],
     "RequiredLost": [tables, stripped],
     "RangeLost": [turned, other_hub, stripped, tables, bounds, both_kept],

@@ -10,6 +10,7 @@ import json
 from typing import Any, Dict, Iterator, List, Sequence
 
 from fault_texts import alike, at, compact, inside, list_at, read, shown, text_at
+from given_texts import Text
 from program_asks import Program
 
 FILLING = ("pruned, since its schema doesn't have it", "filled by a default", "changed")
@@ -88,10 +89,17 @@ def told(program: Program, crd: Any, rules: Any, doc: Any, start: str, to: str) 
         yield str(it)
 
 
-def report(program: Program, crd: Any, rules: Any, text: str, to: str, name: str) -> str:
-    """What becomes of the object that a text is at a version of a definition."""
-    doc, marks = read(text)
-    lines = [f"{it.word}: {it.said(name)}" for it in marks]
+def name_of(doc: Any) -> str:
+    """An object's name, behind its namespace."""
+    named = [text_at(doc, "metadata", it) for it in ("namespace", "name")]
+    return "/".join(filter(None, named)) or "an object without a name"
+
+
+def report(program: Program, crd: Any, rules: Any, given: Text, to: str, is_one: bool) -> str:
+    """What becomes of the object that a text is at a version of a definition. Where it isn't the one alone, its name stands first."""
+    doc, marks = read(given.text)
+    lines = [] if is_one else [f"{name_of(doc)} of {text_at(doc, 'apiVersion')}:"]
+    lines += [f"{it.word}: {it.said(given.is_own)}" for it in marks]
     names = [text_at(v, "name") for v in list_at(crd, "spec", "versions")]
     _, slash, version = text_at(doc, "apiVersion").rpartition("/")
     start = version if slash else ""

@@ -7,11 +7,11 @@
 FILE is YAML or JSON; `-` is standard input. It holds one definition, or several, as documents or as a List, of which NAME
 (`crontabs.example.com`) says which one is meant.
 
-Definitions in use have keywords that kubeconv doesn't know, as `pattern`, `oneOf` or `subresources`. Each one is left out, and told on
-standard error with its path; `status`, and what `metadata` has beside the name, go too. What is put in is told as `set`, `opened` or
-`added`: a `type` that is missing where another keyword tells it, the defaults inside of a default, a part that is opened since a version
-has more nodes than kubeconv takes. The last lines of standard error sum up: what isn't checked, filled in or served any more, what goes
-without any effect, and what is taken over but shown with the definition alone.
+Definitions in use have keywords that kubeconv doesn't know, as `pattern`, `oneOf` or `subresources`. Each one is left out; `status`, and what
+`metadata` has beside the name, go too. The first lines of standard error sum up: what isn't checked, filled in or served any more, what goes
+without any effect, and what is taken over but shown with the definition alone. Then what is put in is told as `set`, `opened` or `added`: a
+`type` that is missing where another keyword tells it, the defaults inside of a default, a part that is opened since a version has more nodes
+than kubeconv takes. Then comes what is left out, by its versions and its path, as `v1beta1 spec.replicas: minimum`.
 
 Where leaving something out would change which fields of objects are kept, or where kubeconv can't serve the definition at all, each
 reason is told, nothing is printed, and the status is 1. It is 2 where the words are wrong.
@@ -24,7 +24,7 @@ import sys
 
 import yaml2json
 from prepare_open import open_large, open_named, try_sizes
-from prepare_schema import Prepared, is_readable, join, node
+from prepare_schema import Prepared, at, is_readable, node
 
 TOP = {"apiVersion", "kind", "metadata", "spec", "status"}
 SPEC = {"group", "scope", "names", "versions", "conversion", "preserveUnknownFields"}
@@ -35,21 +35,23 @@ VERSIONS = 8
 BYTES = 4_194_304  # that kubeconv reads of a file
 
 
-def version(prepared, value, path):
+def version(prepared, value, place):
+    """A version, which is told by its name, or else by its place."""
+    path = value["name"] if isinstance(value, dict) and isinstance(value.get("name"), str) else place
+    prepared.versions.add(path)
     kept = prepared.fields(value, VERSION, path)
     if "deprecated" in kept and kept["deprecated"] is not False:
-        prepared.leave(join(path, "deprecated"))
+        prepared.leave(path, "deprecated")
         del kept["deprecated"]
     if "schema" not in kept:
-        prepared.cannot(f"{join(path, 'schema')} isn't there")
+        prepared.cannot(f"{at(path, 'schema')} isn't there")
         return kept
-    schema = prepared.fields(kept["schema"], {SCHEMA}, join(path, "schema"))
-    here = join(path, f"schema.{SCHEMA}")
+    schema = prepared.fields(kept["schema"], {SCHEMA}, at(path, "schema"))
     if SCHEMA not in schema:
-        prepared.cannot(f"{here} isn't there")
+        prepared.cannot(f"{at(path, f'schema.{SCHEMA}')} isn't there")
         return kept
     prepared.version = kept.get("name", "")
-    kept["schema"] = {SCHEMA: node(prepared, schema[SCHEMA], here)}
+    kept["schema"] = {SCHEMA: node(prepared, schema[SCHEMA], path)}
     return kept
 
 
@@ -71,7 +73,7 @@ def with_added(prepared, versions, name):
         prepared.cannot(f"--add-version {name}: there is such a version already" if named else "spec.versions has none to add to")
         return versions
     stored = next((it for it in versions if it.get("storage")), versions[0])
-    prepared.put("added", f"spec.versions[{len(versions)}]", f"{name}, equal to {stored['name']}")
+    prepared.put("added", name, f"equal to {stored['name']}")
     return [*versions, {**copy.deepcopy(stored), "name": name, "served": True, "storage": False}]
 
 
@@ -89,11 +91,11 @@ def names_of(prepared, kept):
         old = "; a cluster of today gives that: kubectl get crd NAME -o yaml" if kept.get("apiVersion") == "apiextensions.k8s.io/v1beta1" else ""
         prepared.cannot(f"the document isn't a CustomResourceDefinition of apiextensions.k8s.io/v1{old}")
     if kept.pop("status", None) is not None:
-        prepared.leave("status")
+        prepared.leave("", "status")
     metadata = prepared.expect(kept.get("metadata"), dict, "metadata")
     for name in metadata:
         if name != "name":
-            prepared.leave(join("metadata", name))
+            prepared.leave("metadata", name)
     kept["metadata"] = {"name": prepared.expect(metadata.get("name"), str, "metadata.name")}
 
 
@@ -109,10 +111,10 @@ def scope(prepared, spec):
 
 def unreadable(prepared, spec):
     """Leaves out what holds numbers that kubeconv doesn't read, beside schemas."""
-    columns = [(f"spec.versions[{i}]", item, "additionalPrinterColumns") for i, item in enumerate(spec["versions"])]
+    columns = [(str(item.get("name")), item, "additionalPrinterColumns") for item in spec["versions"]]
     for path, holder, name in [("spec", spec, "conversion"), *columns]:
         if name in holder and not is_readable(holder[name]):
-            prepared.leave(join(path, name), "holds a number that isn't whole")
+            prepared.leave(path, name, "holds a number that isn't whole")
             del holder[name]
 
 
@@ -195,7 +197,7 @@ def prepare(given):
         prepared.cannot(f"the definition has {len(text.encode())} bytes, and kubeconv takes {BYTES}")
     if prepared.impossible:
         return fail(*prepared.impossible)
-    for line in [*prepared.put_in, *(f"left out: {left}" for left in prepared.left_out), *prepared.summary()]:
+    for line in prepared.lines():
         print(line, file=sys.stderr)
     print(text, flush=True)
     return 0

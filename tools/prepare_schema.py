@@ -50,16 +50,15 @@ class Prepared:
         self.counts = {what: collections.Counter() for what in LOST}
         self.shown = collections.Counter()
         self.version = ""
+        self.versions = set()
         named = list(rule_fields.of_rules(rules or {}))
         self.scaled = {(version, path) for word, version, _, path in named if word == "scale"}
         self.named = {(version, path) for _, version, _, path in named}
 
-    def leave(self, path, why=None):
-        """Leaves out what stands at a path."""
-        self.left_out.append(path if why is None else f"{path} ({why})")
-        word = path.rsplit(".", 1)[-1]
-        if path.startswith("metadata."):
-            word = "fields of metadata"
+    def leave(self, path, name, why=None):
+        """Leaves out what has a name at a path."""
+        self.left_out.append((path, name if why is None else f"{name} ({why})"))
+        word = "fields of metadata" if path == "metadata" else name
         place = 0 if word in CHECKED and why not in ("false", "atomic") else 1 if word in FILLED else 2 if word in SERVED else 3
         self.counts[LOST[place]][word] += 1
 
@@ -78,15 +77,35 @@ class Prepared:
         return kind()
 
     def fields(self, value, allowed, path):
-        """The fields of an object that may stand there."""
+        """The fields of an object that may stand there; the path is that of a node or of a version, or else one of names."""
         kept = {}
         for name, field in self.expect(value, dict, path).items():
             if name in allowed:
                 kept[name] = field
                 self.shown[name] += name in SHOWN
             else:
-                self.leave(join(path, name))
+                self.leave(path, name)
         return kept
+
+    def lines(self):
+        """All that is to be told: the sums, what was put in, and what was left out, of each node on one line."""
+        yield from self.summary()
+        yield from self.put_in
+        if self.left_out:
+            yield "left out:"
+            yield from (f"  {it}" for it in self.left())
+
+    def left(self):
+        """What was left out, by the path; where that is the same at several versions, once."""
+        names, paths = collections.defaultdict(list), collections.defaultdict(list)
+        for path, name in self.left_out:
+            names[path].append(name)
+        for path, found in names.items():
+            version, _, rest = path.partition(" ")
+            is_of_version = version in self.versions
+            paths[rest if is_of_version else path, is_of_version, ", ".join(found)].append(version)
+        for (path, is_of_version, found), versions in paths.items():
+            yield at(" ".join([", ".join(versions), path]).strip() if is_of_version else path, found)
 
     def summary(self):
         for what, counts in [*self.counts.items(), ("is shown with the definition, and has no effect", self.shown)]:
@@ -97,6 +116,11 @@ class Prepared:
 
 def join(path, name):
     return f"{path}.{name}" if path else name
+
+
+def at(path, name):
+    """What has a name at a path, as it is told: `v1beta1 spec.replicas: minimum`."""
+    return f"{path}: {name}" if path else name
 
 
 def is_whole(number):
@@ -122,20 +146,20 @@ def whole(value):
 
 
 def keyword(prepared, name, value, path):
-    """The value of a keyword that holds no schema, or None where it is left out."""
+    """The value of a keyword that holds no schema, at a node of this path, or None where it is left out."""
     if name in WHOLE:
         bound = whole(value)
         if bound is None:
-            prepared.leave(path, "not a whole number")
+            prepared.leave(path, name, "not a whole number")
         return bound
     if name == "format" and value not in ("int32", "int64"):
-        prepared.leave(path, f"{value}")
+        prepared.leave(path, name, f"{value}")
         return None
     if name in (OPEN, MIXED) and value is not True:
-        prepared.leave(path, "false")
+        prepared.leave(path, name, "false")
         return None
     if not is_readable(value):
-        prepared.leave(path, "holds a number that isn't whole")
+        prepared.leave(path, name, "holds a number that isn't whole")
         return None
     prepared.shown[name] += name in SHOWN
     return value
@@ -158,13 +182,13 @@ def unsaid(value, kind):
 def try_node(prepared, value, kind, path):
     """Tells what a node can't be prepared for."""
     if value.get(MIXED) is True and kind is not None:
-        prepared.cannot(f"{join(path, MIXED)} stands beside a type")
+        prepared.cannot(f"{at(path, MIXED)} stands beside a type")
     if kind is None and value.get(MIXED) is not True and value.get(OPEN) is not True:
-        prepared.cannot(f"{join(path, 'type')} isn't there")
+        prepared.cannot(f"{at(path, 'type')} isn't there")
     for name, why in unsaid(value, kind):
-        prepared.cannot(f"{join(path, name)} {why}")
+        prepared.cannot(f"{at(path, name)} {why}")
     if value.get("additionalProperties") is not True and "properties" in value and value.get("additionalProperties", False) is not False:
-        prepared.cannot(f"{join(path, 'additionalProperties')} stands beside properties")
+        prepared.cannot(f"{at(path, 'additionalProperties')} stands beside properties")
 
 
 def typed(prepared, value, path):
@@ -172,7 +196,7 @@ def typed(prepared, value, path):
     kinds = {kind for name, kind in TELLING if name in value}
     if "type" not in value and value.get(MIXED) is not True and len(kinds) == 1:
         value = {**value, "type": kinds.pop()}
-        prepared.put("set", join(path, "type"), value["type"])
+        prepared.put("set", at(path, "type"), value["type"])
     why = next((f"{name} {why}" for name, why in unsaid(value, value.get("type"))), None) if prepared.for_webhook else None
     if why is None:
         return value
@@ -199,7 +223,7 @@ def is_needed(prepared, name, place):
 
 
 def node(prepared, value, path, place=()):
-    """A node of a schema, at a place: the names of the fields that lead to it."""
+    """A node of a schema, at a place, the names of the fields that lead to it, and at the path that it is told by."""
     value = typed(prepared, prepared.expect(value, dict, path), path)
     kind = value.get("type")
     try_node(prepared, value, kind, path)
@@ -208,19 +232,20 @@ def node(prepared, value, path, place=()):
         allowed = allowed - {"default"}
     kept = {}
     for name, field in value.items():
-        here = join(path, name)
         if name == "anyOf" and value.get(MIXED) is True and field == INT_OR_STRING:
             kept[name] = field
         elif name not in allowed or not is_needed(prepared, name, place):
-            prepared.leave(here, why_left(name, field))
+            prepared.leave(path, name, why_left(name, field))
         elif name == "properties":
-            kept[name] = properties(prepared, field, here, place)
-        elif name == "items" or (name == "additionalProperties" and not isinstance(field, bool)):
-            kept[name] = node(prepared, field, here, (*place, "[*]" if name == "items" else "*"))
+            kept[name] = properties(prepared, field, path, place)
+        elif name == "items":
+            kept[name] = node(prepared, field, f"{path}[*]", (*place, "[*]"))
+        elif name == "additionalProperties" and not isinstance(field, bool):
+            kept[name] = node(prepared, field, join(path, "*"), (*place, "*"))
         elif name == "additionalProperties":
-            prepared.leave(here, "false")
+            prepared.leave(path, name, "false")
         else:
-            said = keyword(prepared, name, field, here)
+            said = keyword(prepared, name, field, path)
             if said is not None or field is None:
                 kept[name] = said
     return filled_default(prepared, kept, path)
@@ -232,7 +257,7 @@ def filled_default(prepared, kept, path):
         value = copy.deepcopy(kept["default"])
         if fill(kept, value):
             kept["default"] = value
-            prepared.put("set", join(path, "default"), "with the defaults inside")
+            prepared.put("set", at(path, "default"), "with the defaults inside")
     return kept
 
 
@@ -250,8 +275,8 @@ def fill(schema, value):
 
 def properties(prepared, value, path, place):
     kept = {}
-    for name, field in prepared.expect(value, dict, path).items():
-        here = join(path, name)
+    for name, field in prepared.expect(value, dict, at(path, "properties")).items():
+        here = join(path, name) if place else f"{path} {name}"
         if not place and name in OWN_NAMES:
             kept[name] = own_name(prepared, OWN_NAMES[name], field, here)
         else:
@@ -264,11 +289,11 @@ def own_name(prepared, kind, value, path):
     value = prepared.expect(value, dict, path)
     if "type" not in value:
         value = {**value, "type": kind}
-        prepared.put("set", join(path, "type"), kind)
+        prepared.put("set", at(path, "type"), kind)
     if value["type"] != kind:
-        prepared.cannot(f"{join(path, 'type')} isn't {kind!r}")
+        prepared.cannot(f"{at(path, 'type')} isn't {kind!r}")
     kept = prepared.fields(value, {"type"} | PASSED_OVER, path)
     for name in [name for name, field in kept.items() if not is_readable(field)]:
-        prepared.leave(join(path, name), "holds a number that isn't whole")
+        prepared.leave(path, name, "holds a number that isn't whole")
         del kept[name]
     return kept

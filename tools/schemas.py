@@ -8,7 +8,8 @@ from __future__ import annotations
 
 from typing import Any, Dict, Iterator, List, Optional, Tuple
 
-from fault_texts import alike, at, inside, list_at, shown
+from fault_texts import Document, Edit, alike, at, inside, list_at, shown
+from prepare_schema import CHECKS_ALONE
 from program_asks import Program, definition
 
 SPOKE, HUB = SIDES = (0, 1)
@@ -17,6 +18,7 @@ MIXED, OPEN = "x-kubernetes-int-or-string", "x-kubernetes-preserve-unknown-field
 ONLY = ("spokeOnly", "hubOnly")
 PASSED = {"description", "title", "example", "externalDocs"}
 INSIDE = {"properties", "items", "additionalProperties"}
+UNITS = (1000, 60, 3600, 1000000, 1000000000, 1024, 24, 86400, 100)
 Node = Dict[str, Any]
 Rule = Dict[str, Any]
 Spot = Tuple[int, str]
@@ -145,15 +147,68 @@ def kept(level: Level, names: List[Spot]) -> List[Rule]:
     return [{ONLY[side]: name} for side, name in names if level.node(side, name)]
 
 
-def draft(program: Program, level: Level) -> List[Rule]:
-    """Rules for a level without rules: objects are opened, and what else differs is kept."""
+def loosened(node: Node) -> Node:
+    """A schema without what only checks, which an API server checks before a webhook is asked."""
+    kept = {name: it for name, it in node.items() if name not in CHECKS_ALONE}
+    kept.update({name: loosened(kept[name]) for name in ("items", "additionalProperties") if isinstance(kept.get(name), dict)})
+    if isinstance(kept.get("properties"), dict):
+        kept["properties"] = {name: loosened(it) if isinstance(it, dict) else it for name, it in kept["properties"].items()}
+    return kept
+
+
+def fits_loosely(program: Program, level: Level, rules: List[Rule]) -> bool:
+    """Whether rules fit at a level but for what only checks."""
+    return fits(program, level, rules, [loosened(it) for it in level.nodes])
+
+
+def says_much(node: Node) -> bool:
+    """Whether a schema says more than a type that many fields have."""
+    inner = [it for it in (node.get("items"), node.get("additionalProperties")) if isinstance(it, dict) and "type" in it]
+    return bool(node.get("properties") or inner or len(list_at(node, "enum")) > 1)
+
+
+def same_shaped(level: Level) -> Dict[str, str]:
+    """The fields that only the spoke has, each with the one that only the hub has, where these two alone have one schema that says much."""
+    names = [[it for it in level.unpaired(side) if says_much(level.node(side, it) or {})] for side in SIDES]
+
+    def equal(spoke: str, hub: str) -> bool:
+        nodes = level.node(SPOKE, spoke) or {}, level.node(HUB, hub) or {}
+        return not any(differences(level.versions, *nodes)) and level.is_required(SPOKE, spoke) == level.is_required(HUB, hub)
+
+    pairs = [(one, two) for one in names[SPOKE] for two in names[HUB] if equal(one, two)]
+    return {one: two for one, two in pairs if [it[SPOKE] for it in pairs].count(one) == [it[HUB] for it in pairs].count(two) == 1}
+
+
+def draft(program: Program, level: Level, with_pairs: bool = False) -> List[Rule]:
+    """Rules for a level without rules: objects are opened, and what else differs is kept, but for bounds; on demand two fields of one
+    schema are the same."""
     rules: List[Rule] = []
-    for name in sorted({*level.fields(SPOKE), *level.fields(HUB)}):
-        below = level.inner([name, name], None)
-        if not fits(program, level, [{"same": [name, name]}]):
-            opened = [{"object": {"names": [name, name], "rules": draft(program, below)}}] if below else []
+    pairs = same_shaped(level) if with_pairs else {}
+    for name in sorted({*level.fields(SPOKE), *level.fields(HUB)} - {*pairs.values()}):
+        below, rule = level.inner([name, name], None), {"same": [name, pairs.get(name, name)]}
+        if name in pairs:
+            rules.append(rule)
+        elif not fits(program, level, [rule]) and not fits_loosely(program, level, [rule]):
+            opened = [{"object": {"names": [name, name], "rules": draft(program, below, with_pairs)}}] if below else []
             rules += opened or kept(level, [(SPOKE, name), (HUB, name)])
     return rules
+
+
+def renames(rules: List[Rule], paths: Tuple[str, str] = ("", "")) -> Iterator[str]:
+    """The pairs of fields with two names, in words."""
+    for rule in rules:
+        names = [inside(path, name) for path, (_, name) in zip(paths, names_of(rule))]
+        if kind_of(rule) == "object":
+            yield from renames(rule["object"]["rules"], (names[0], names[1]))
+        elif kind_of(rule) == "same" and names_of(rule)[0][1] != names_of(rule)[1][1]:
+            yield f"`{names[0]}` and `{names[1]}`"
+
+
+def drafts(program: Program, level: Level) -> Tuple[List[Rule], List[Rule], str]:
+    """Rules for a level without rules; those that keep more, or none; and what is asked of the pairs in the first ones."""
+    first, other = draft(program, level, True), draft(program, level)
+    asked = [f"{it} have the same schema: are they the same field? If not, keep both" for it in renames(first)]
+    return first, (other if other != first else []), "".join(f"; {it}" for it in asked)
 
 
 # ---- what differs
@@ -176,17 +231,38 @@ def differences(versions: List[str], one: Node, two: Node, path: str = "") -> It
             yield f"`{inside(path, name)}` is there at {there} and not at {lacks}"
 
 
-def wider(one: Node, two: Node) -> Optional[Node]:
-    """The keywords by which two nodes that differ in bounds alone take the values of both; nothing where more differs."""
-    found: Node = {}
-    for name in sorted({*one, *two} - PASSED - {"default"}):
+def is_other_unit(one: Node, two: Node) -> bool:
+    """Whether the bounds of two numbers, here or inside, look like those of two units."""
+    ends = sorted(it for it in (node.get("maximum") for node in (one, two)) if isinstance(it, int) and it > 0)
+    if len(ends) == 2 and any(ends[0] * it <= ends[1] < ends[0] * it + it for it in UNITS):
+        return True
+    inner = [[*node.get("properties", {}).items(), *((it, node[it]) for it in INSIDE - {"properties"} if it in node)] for node in (one, two)]
+    return any(is_other_unit(it, other) for name, it in inner[0] for like, other in inner[1] if name == like)
+
+
+def widening(crd: Document, one: Node, two: Node) -> Optional[List[Edit]]:
+    """The edits by which two nodes that differ in bounds alone take the values of both; nothing where more differs."""
+    edits: List[Edit] = []
+    for name in sorted({*one, *two} - PASSED - INSIDE - {"default"}):
         has = [it[name] for it in (one, two) if name in it]
         if len(has) == 2 and alike(*has):
-            found[name] = has[0]
-        elif name[:3] in ("min", "max"):
-            found.update({name: (min if name[:3] == "min" else max)(has)} if len(has) == 2 else {})
-        elif name == "nullable":
-            found[name] = True
-        elif name not in ("format", "enum"):
+            continue
+        if name[:3] not in ("min", "max") and name not in ("required", "nullable", "format", "enum"):
             return None
-    return found
+        value: Any = True if name == "nullable" else None
+        if len(has) == 2 and name[:3] in ("min", "max"):
+            value = (min if name[:3] == "min" else max)(has)
+        elif len(has) == 2 and name == "required":
+            value = [it for it in has[0] if it in has[1]] or None
+        edits += [crd.drop(it, name) for it in (one, two) if value is None and name in it]
+        edits += [crd.put(it, name, value) for it in (one, two) if value is not None and not alike(it.get(name), value)]
+    inner = [{**{it: node[it] for it in INSIDE - {"properties"} if it in node}, **(node.get("properties") or {})} for node in (one, two)]
+    if sorted(inner[0]) != sorted(inner[1]):
+        return None
+    for name in sorted(inner[0]):
+        both = [it[name] for it in inner]
+        found = widening(crd, *both) if all(isinstance(it, dict) for it in both) else None
+        if found is None and not alike(*both):
+            return None
+        edits += found or []
+    return edits

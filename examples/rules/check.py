@@ -11,10 +11,12 @@ path and word they are `refused`; or fields `at_spoke` and `at_hub` that are the
 where something is `kept` unless it says false, and which come `back` as they were or with defaults. A case may have the fields of a
 `second` spoke, with `second_rules`.
 Of each definition of projects/, as a cluster has it, ./rehearse says of its objects what stands in NAME.told, but for the seconds, and that
-nothing is lost; a second version is added first where it has one alone.
+nothing is lost; a second version is added first where it has one alone. And by the rules alone that ./explain tells to paste, where docs/RULES.md
+begins, nothing is lost either.
 Of prepare/definitions.json tools/prepare_crd.py makes widgets.json, saying what stands in widgets.said, and of the other definition it
 says what stands in gadgets.said. Prints a line for each file; what differs is told on standard error, and then the status is 1.
 """
+import importlib.util
 import json
 import pathlib
 import re
@@ -24,12 +26,18 @@ import tempfile
 
 HERE = pathlib.Path(__file__).resolve().parent
 TOP = HERE.parent.parent
-sys.path.insert(0, str(TOP))
+sys.path[:0] = [str(TOP), str(TOP / "tools")]
 sys.dont_write_bytecode = True
+from explain import explained  # noqa: E402
 from harness.client import answers_in  # noqa: E402
 from harness.documents import definition_of, files_of, object_of, object_schema, spelled  # noqa: E402
 from harness.told import Wrong, end, looked, same  # noqa: E402
 from rehearsing.tests.running import rehearsed  # noqa: E402
+
+# The check of mistakes, which pastes what is told.
+of_mistakes = importlib.util.spec_from_file_location("mistakes", HERE.parent / "mistakes" / "check.py")
+mistakes = importlib.util.module_from_spec(of_mistakes)
+of_mistakes.loader.exec_module(mistakes)
 
 KEPT = re.compile(r"(hub|spoke)\.kubeconv\.local/")
 HUB, SPOKE, SECOND = "v1", "v1beta1", "v1alpha1"
@@ -144,16 +152,31 @@ def try_cases(program, file):
     return f"{len(cases)} cases"
 
 
+def begun(program, crd, objects, hub):
+    """The status of ./rehearse by rules that keep what differs, as ./explain tells to paste, and what is told."""
+    with tempfile.TemporaryDirectory() as to:
+        files = [pathlib.Path(to, name) for name in mistakes.NAMES]
+        files[1].write_text(json.dumps({"hub": hub, "spokes": {}}))
+        files[0].write_text(prepared(crd, "--webhook", "--rules", str(files[1]))[0])
+        said, status = explained(program, *map(str, files), mistakes.NAMES)
+        for it, text in zip(files, mistakes.pasted([it.read_text() for it in files], said, False)) if status else ():
+            it.write_text(text)
+        return rehearsed(program, "--crd", crd, "--rules", files[1], objects)
+
+
 def try_project(program, file):
     rules, crd = file.with_suffix(".rules.json"), file.with_suffix(".yaml")
     with tempfile.NamedTemporaryFile("w", suffix=".json") as added:
         if crd.stem in ONE_VERSION:
             text, said = prepared(crd, "--webhook", "--add-version", json.loads(rules.read_text())["hub"])
-            same("a version is added", said[0].startswith("added: "), True)
+            same("a version is added", any(line.startswith("added: ") for line in said), True)
             added.write(text)
             added.flush()
-            crd = added.name
-        status, told, why = rehearsed(program, "--crd", crd, "--rules", rules, file.with_suffix(".objects.yaml"))
+            crd = pathlib.Path(added.name)
+        objects = file.with_suffix(".objects.yaml")
+        begins = begun(program, crd, objects, json.loads(rules.read_text())["hub"])
+        status, told, why = rehearsed(program, "--crd", crd, "--rules", rules, objects)
+    same(f"the status where rules are begun, beside {begins[1:]!r}", begins[0], 0)
     same(f"what is told, beside {why!r}", told.splitlines(), file.read_text().splitlines())
     same("the status", status, 0)
     return told.partition("\n")[0]

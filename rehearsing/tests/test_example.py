@@ -36,6 +36,13 @@ class Example(unittest.TestCase):
         self.assertEqual(lost, {("lost", "spec.owner"), ("lost", "spec.targets[*]"), ("changed", "spec.timeoutMillis")})
         self.assertEqual((found["faulty"], found["objects"]), (True, {"v1": 2, "v1alpha1": 1}))
 
+    def test_where_nothing_is_tried_the_status_is_2(self):
+        with listening(sys.executable, HERE / "lossy.py", 0) as url:
+            for given in ("", '{"apiVersion":"v1","kind":"List","items":[]}', CRD.read_text()):
+                status, told, said = rehearsed("", "--crd", CRD, "--webhook", url, given=given)
+                self.assertEqual((status, told.splitlines()[-1]), (2, "nothing was tried"))
+                self.assertEqual(said, "rehearse: no object of backups.example.com in standard input: nothing was tried\n")
+
     @unittest.skipUnless(shutil.which("openssl"), "needs openssl")
     def test_over_https(self):
         with tempfile.TemporaryDirectory() as room:

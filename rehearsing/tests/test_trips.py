@@ -7,8 +7,8 @@ from unittest import mock
 from .. import trips
 from ..converters import Answer, Converter, read
 from ..definition import Definition
-from ..report import document, lines
-from ..tally import Tally
+from ..report import document, lines, verdict
+from ..tally import Example, Key, Tally
 from ..texts import Text
 from ..trips import Trips
 
@@ -133,6 +133,7 @@ class Noted(unittest.TestCase):
         self.assertFalse(tally.is_faulty(), tally.found)
         self.assertEqual(list(found(tally, "hidden")), [("hidden", "v1->v2", "spec.port", "own/kept")])
         self.assertEqual(list(found(tally, "kept")), [("kept", "v1->v2", "spec.mode", "own/kept")])
+        self.assertEqual(list(verdict(tally)), ["nothing is lost or refused", "1 field is out of sight at v2"])
 
     def test_a_slow_review(self):
         with mock.patch.object(trips, "SLOW", -1.0):
@@ -142,6 +143,13 @@ class Noted(unittest.TestCase):
     def test_others_are_passed_over(self):
         _, tally = noted(lambda it: it, {"apiVersion": "v1", "kind": "Pod"}, {**thing("a"), "apiVersion": "g/v9"})
         self.assertEqual(sorted(key.kind for key in tally.found), ["passed over", "refused"])
+
+    def test_fields_out_of_sight_are_counted_by_version(self):
+        tally = Tally(0)
+        tally.objects["v1"] = 1
+        for to, path in (("v2", "a"), ("v2", "b"), ("v1", "a"), ("v1", "a")):
+            tally.note(Key("hidden", ("v0", to), path, "own/kept"), Example(0, "a", path))
+        self.assertEqual(list(verdict(tally)), ["nothing is lost or refused", "1 field is out of sight at v1, 2 at v2"])
 
     def test_tallies_add_up(self):
         one, two = (noted(lambda it: copy.deepcopy(it), *(thing(f"{name}{i}", port=99) for i in range(3)), most=2)[1] for name in "xy")

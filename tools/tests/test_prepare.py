@@ -46,6 +46,16 @@ class Webhook(unittest.TestCase):
         self.assertEqual(fields(made), wanted)
         self.assertIn("isn't checked any more: 2 enum, 2 format, 2 maxLength, 2 maximum, 2 minimum, 2 pattern", said)
 
+    def test_the_sums_come_first_and_what_is_left_out_by_its_path(self):
+        items = {"type": "array", "items": {"type": "integer", "minimum": 1, "maximum": 9}}
+        maps = {"type": "object", "additionalProperties": {"type": "string", "minLength": 1}}
+        crd = definition([{"a": items, "m": maps}, {"a": items, "m": {**maps, "additionalProperties": {"type": "string"}}}])
+        crd["spec"]["versions"][1]["schema"]["openAPIV3Schema"]["required"] = ["spec"]
+        self.assertEqual(prepared(crd, "--webhook")[2], [
+            "isn't checked any more: 2 maximum, 1 minLength, 2 minimum, 1 required", "left out:",
+            "  v1beta1, v1 spec.a[*]: minimum, maximum", "  v1beta1 spec.m.*: minLength", "  v1: required",
+        ])  # fmt: skip
+
     def test_bounds_stay_that_a_rule_scales_by(self):
         scale = {"scale": {"names": ["port", "port"], "by": 10}}
         rules = {"hub": "v1", "spokes": {"v1beta1": [{"object": {"names": ["spec", "spec"], "rules": [scale]}}]}}
@@ -99,18 +109,18 @@ class Completed(unittest.TestCase):
         inner = {"type": "object", "default": {}, "properties": {"b": {"type": "integer", "default": 3}, "c": {"type": "string"}}}
         _, made, said = prepared(definition({"a": {"type": "object", "default": {}, "properties": {"in": inner}}}))
         self.assertEqual(fields(made)["a"]["default"], {"in": {"b": 3}})
-        self.assertTrue(said[1].endswith("properties.a.default (with the defaults inside)"), said)
+        self.assertEqual(said[:2], [f"set: v1beta1 spec.{it}: default (with the defaults inside)" for it in ("a.in", "a")])
 
     def test_a_type_that_is_told_is_set(self):
         text = {"type": "string"}
         _, made, said = prepared(definition({"a": {"properties": {}}, "b": {"items": text}, "c": {"additionalProperties": text}}))
         self.assertEqual({name: it["type"] for name, it in fields(made).items()}, {"a": "object", "b": "array", "c": "object"})
-        self.assertTrue(said[0].startswith("set: ") and said[0].endswith("properties.a.type (object)"), said)
+        self.assertEqual(said[0], "set: v1beta1 spec.a: type (object)")
 
     def test_a_version_is_added(self):
         status, made, said = prepared(definition(CHECKED, names=("v1",)), "--add-version", "v2")
         self.assertEqual([(it["name"], it["storage"]) for it in made["spec"]["versions"]], [("v1", True), ("v2", False)])
-        self.assertEqual((status, fields(made), said[0]), (0, fields(made, 1), "added: spec.versions[1] (v2, equal to v1)"))
+        self.assertEqual((status, fields(made), said[1]), (0, fields(made, 1), "added: v2 (equal to v1)"))
         self.assertEqual(prepared(definition({}), "--add-version", "v1")[0], 1)
 
 
