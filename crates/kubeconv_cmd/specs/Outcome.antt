@@ -5,10 +5,9 @@ use Rattle.place.specs.Place.{IsPlace, PlaceView}
 use Rattle.crd_meaning.specs.Definition.{Definition}
 use Rattle.serve_input.specs.Conversed.{MayRise}
 use Rattle.serve_input.specs.declared.conversing.PipeEnd.{PipeEnd}
-use Rattle.drill_steps.specs.Drilling.{Tells, drilled}
 use Rattle.command_lines.specs.Lines.{Source, built_in, by_rules, by_converter, Listening, Task, Line, pipe, task, drill, serve, migrate, dump, load, remote}
-use Rattle.kubeconv_cmd.specs.World.{World, held, written_before, written, flushed, left, FilesFail, InputFails, OutputFails, FilesStay, InputStays, OutputStays, EarsStay, LinksStay, HearsNobody, Says, OfInput, streams, hearing}
-use Rattle.kubeconv_cmd.specs.Sources.{Loaded, with_rules, meaning_in, meaning_of, faults_in, IsExample, Means, Refuses, IsAddressless}
+use Rattle.kubeconv_cmd.specs.World.{World, held, written_before, written, flushed, left, FilesFail, InputFails, OutputFails, FilesStay, InputStays, OutputStays, EarsStay, LinksStay, Says, OfInput, streams, hearing}
+use Rattle.kubeconv_cmd.specs.Sources.{Loaded, with_rules, meaning_in, faults_in, DrillsExample, Means, Refuses, IsAddressless}
 use Rattle.kubeconv_cmd.specs.Serving.{Conversation, Service}
 use Rattle.kubeconv_cmd.specs.Tasks.{AnswersDocument, RefusesDocument, KnowsTarget, LacksTarget, Wrote, Broke}
 use Rattle.kubeconv_cmd.specs.Remote.{MigrateOutcome, DumpOutcome, LoadOutcome}
@@ -23,7 +22,7 @@ pub data Stopped {F S K E A L : Type 0} (w : World F S K E A L) (source : Source
   unreadable : status ≡ READ_FAILED → FilesFail w → Stopped w source status
   refused : (name why : List ℕ) → status ≡ REFUSED → Refuses (held w) source name why → Says w (refusal_line name why) → Stopped w source status
   wanting : status ≡ NO_MEMORY → Stopped w source status
-  addressless : status ≡ BAD_WORDS → IsAddressless source → FilesStay w → EarsStay w → Stopped w source status
+  addressless : status ≡ BAD_WORDS → IsAddressless source → FilesStay w → LinksStay w → Stopped w source status
 
 -- ---- `pipe`
 
@@ -60,18 +59,16 @@ pub data TaskOutcome {F S K E A L : Type 0} (w : World F S K E A L) (source : So
 
 pub data DrillOutcome {F S K E A L : Type 0} (w : World F S K E A L) (start count status : ℕ) : Type 0 where
   -- what is told of the drill was written and handed on
-  wrote_drill : (d : Definition) → status ≡ DONE → IsExample d → Wrote (Tells (drilled (meaning_of d)) start count) (written_before w) (written w) → flushed w ≡ written w
-      → DrillOutcome w start count status
+  wrote_drill : status ≡ DONE → Wrote (DrillsExample start count) (written_before w) (written w) → flushed w ≡ written w → DrillOutcome w start count status
   -- a front of that was written, and then the output failed
-  broke_drill : (d : Definition) → status ≡ WRITE_FAILED → OutputFails w → IsExample d
-      → Broke (Tells (drilled (meaning_of d)) start count) (written_before w) (written w) → DrillOutcome w start count status
+  broke_drill : status ≡ WRITE_FAILED → OutputFails w → Broke (DrillsExample start count) (written_before w) (written w) → DrillOutcome w start count status
   wanting_drill : status ≡ NO_MEMORY → OutputStays w → DrillOutcome w start count status
 
 -- ---- `serve`
 
 pub data ServeOutcome {F S K E A L : Type 0} (w : World F S K E A L) (source : Source) (s : Listening) (status : ℕ) : Type 0 where
   served : (l : Loaded) → Means (held w) source l → Service (faults_in l) (meaning_in l) w.start s (hearing w) status → ServeOutcome w source s status
-  unloaded_service : Stopped w source status → OutputStays w → HearsNobody w → ServeOutcome w source s status
+  unloaded_service : Stopped w source status → OutputStays w → EarsStay w → ServeOutcome w source s status
 
 -- ---- any line
 

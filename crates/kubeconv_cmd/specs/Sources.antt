@@ -21,6 +21,7 @@ use Rattle.hook_versions.specs.Facts.{hooked}
 use Rattle.hook_versions.specs.Loads.{LoadsHook, HasNoHub}
 use Rattle.built_in.specs.Texts.{definition_text, rules_text}
 use Rattle.crontab_example.specs.Documents.{definition_document, rules_document}
+use Rattle.drill_steps.specs.Drilling.{Tells, drilled}
 use Rattle.http_address.specs.Address.{AddressView, IsAddress}
 use Rattle.command_lines.specs.Lines.{Source, built_in, by_rules, by_converter}
 
@@ -69,6 +70,12 @@ pub record LoadsSet (crd rules : List ℕ) (d : Definition) : Type 0 where
 -- the shared example is the definition, by whatever texts its documents are read from
 abbrev pub IsExample : Definition → Type 0
 IsExample d = (crd rules : List ℕ) → Reads crd 100 definition_document → Reads rules 100 rules_document → LoadsSet crd rules d
+
+-- the text tells of a drill of so many steps of that, drawn from the state of the first number on
+pub record DrillsExample (start count : ℕ) (text : List ℕ) : Type 0 where
+  pub definition : Definition
+  pub is : IsExample definition
+  pub tells : Tells (drilled (meaning_of definition)) start count text
 
 -- a text was taken of a file: it isn't too long, and it is what the file holds, where that is told
 pub record IsTaken (told : Option (List ℕ)) (text : List ℕ) : Type 0 where

@@ -127,13 +127,24 @@ module _ {F S K E A L : Type 0} (w : World F S K E A L) where
   streams = record {
     tell = record { left = w.tells.left; written = w.tells.written; flushed = w.tells.flushed };
     most = w.tells.most w.before.input;
-    input_before = w.before.input; input = w.after.input; output_before = w.before.output; output = w.after.output;
+    input_before = w.before.input;
+    input = w.after.input;
+    output_before = w.before.output;
+    output = w.after.output;
   }
 
   -- what is told of the ears and the output
   abbrev pub hearing : Hearing
   hearing = record {
-    handed_before = w.tells.handed w.before.ears; handed = w.tells.handed w.after.ears; returned_before = w.tells.returned w.before.ears; returned = w.tells.returned w.after.ears;
-    faults_before = w.tells.ears_faults w.before.ears; faults = w.tells.ears_faults w.after.ears; written_before = written_before; written = written; flushed = flushed;
-    output_faults_before = w.tells.output_faults w.before.output; output_faults = w.tells.output_faults w.after.output;
+    handed_before = w.tells.handed w.before.ears;
+    handed = w.tells.handed w.after.ears;
+    returned_before = w.tells.returned w.before.ears;
+    returned = w.tells.returned w.after.ears;
+    faults_before = w.tells.ears_faults w.before.ears;
+    faults = w.tells.ears_faults w.after.ears;
+    written_before = written_before;
+    written = written;
+    flushed = flushed;
+    output_faults_before = w.tells.output_faults w.before.output;
+    output_faults = w.tells.output_faults w.after.output;
   }

@@ -1,5 +1,5 @@
 use Rattle.kubeconv_cmd.proofs.Taking.{no_rules}
-use Rattle.kubeconv_cmd.proofs.converting.load_text.Goals as goal
+use Rattle.kubeconv_cmd.proofs.loading.load_text.Goals as goal
 
 pub unreachable-requires : goal.unreachable-requires
 unreachable-requires g c =
