@@ -7,12 +7,13 @@ pub record Origin : Type 0 where
   pub bytes : List ℕ
 
 -- a connection that is closed: its origin, where that is told, how often its source and its sink failed, and the
--- bytes that were written to it, where they are told
+-- bytes that were written to it and those of them that were handed on, where they are told
 pub record Ending : Type 0 where
   pub origin : Option Origin
   pub read_faults : ℕ
   pub write_faults : ℕ
   pub written : Option (List ℕ)
+  pub flushed : Option (List ℕ)
 
 -- no two have one number
 abbrev pub NumbersDiffer : List Origin → Type 0
@@ -37,3 +38,7 @@ HasNumberOf origin number = IfSome origin (λ o. number ≡ Some o.number)
 -- the numbers are equal, where they are told
 abbrev pub NumbersAgree : Option Origin → Option ℕ → Type 0
 NumbersAgree origin number = IfSome origin (λ o. IfSome number (λ n. o.number ≡ n))
+
+-- what was written to a sink was handed on, unless the sink failed
+abbrev pub IsHandedOn : ℕ → Option (List ℕ) → Option (List ℕ) → Type 0
+IsHandedOn faults written flushed = faults ≡ 0 → flushed ≡ written

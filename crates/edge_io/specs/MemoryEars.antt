@@ -11,7 +11,7 @@ pub record Parts : Type 0 where
 
 -- what a closed connection with these parts tells
 abbrev pub ending_of : Parts → Ending
-ending_of parts = record { origin = origin_of parts.source; read_faults = parts.source.calls.faults; write_faults = parts.sink.calls.faults; written = Some parts.sink.bytes }
+ending_of parts = record { origin = origin_of parts.source; read_faults = parts.source.calls.faults; write_faults = parts.sink.calls.faults; written = Some parts.sink.bytes; flushed = Some parts.sink.flushed }
 
 -- these bytes as origins, numbered from n on
 abbrev pub numbered : ℕ → List (List ℕ) → List Origin
@@ -35,7 +35,7 @@ IsUnread s = (s.taken ≡ 0) × (s.calls.faults ≡ 0)
 
 -- nothing was written
 abbrev pub IsUnwritten : SinkState → Type 0
-IsUnwritten s = (s.bytes ≡ []) × (s.calls.faults ≡ 0)
+IsUnwritten s = (s.bytes ≡ []) × (s.flushed ≡ []) × (s.calls.faults ≡ 0)
 
 -- the source, as a part of the connection of that number
 abbrev pub source_numbered : SourceState → ℕ → SourceState

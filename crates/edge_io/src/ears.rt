@@ -1,7 +1,7 @@
 //! Where connections come from.
 ghost use Rattle.std.specs.Prelude.{◌≡◌, ℕ, List, [], Some, Option, IfOk, IfSome, MatchResult};
 ghost use Rattle.edge_io.specs.Causes.{HasCause};
-ghost use Rattle.edge_io.specs.Connections.{Origin, Ending, NumbersDiffer, AddsOne, HandsOut, HasAllLeft, HasNumberOf, NumbersAgree};
+ghost use Rattle.edge_io.specs.Connections.{Origin, Ending, NumbersDiffer, AddsOne, HandsOut, HasAllLeft, HasNumberOf, NumbersAgree, IsHandedOn};
 
 use crate::{Failed, Sink, Source};
 
@@ -48,14 +48,17 @@ pub trait Ears {
         ensures whole { IfOk result (λ c. HasAllLeft (Self.In.origin c.0) (Self.In.left c.0)) }
         ensures number { IfOk result (λ c. HasNumberOf (Self.In.origin c.0) (Self.Out.number c.1)) }
         ensures empty { IfOk result (λ c. IfSome (Self.Out.written c.1) (λ bytes. bytes ≡ [])) }
+        ensures flushed { IfOk result (λ c. Self.Out.flushed c.1 ≡ Self.Out.written c.1) }
         ensures unread { IfOk result (λ c. Self.In.faults c.0 ≡ 0) }
         ensures unwritten { IfOk result (λ c. Self.Out.faults c.1 ≡ 0) }
         ensures cause { HasCause (faults self.old) (faults self.new) result };
 
-    /// Closes a connection. It takes no memory and never fails.
+    /// Closes a connection, to which nothing was written that isn't handed on, unless its sink failed. It takes no memory and never
+    /// fails.
     fn shut(input: Self::In, output: Self::Out) -> Self::Ended
-        requires { NumbersAgree (Self.In.origin input) (Self.Out.number output) }
-        ensures { ending result ≡ record { origin = Self.In.origin input; read_faults = Self.In.faults input; write_faults = Self.Out.faults output; written = Self.Out.written output } };
+        requires numbers { NumbersAgree (Self.In.origin input) (Self.Out.number output) }
+        requires handed_on { IsHandedOn (Self.Out.faults output) (Self.Out.written output) (Self.Out.flushed output) }
+        ensures { ending result ≡ record { origin = Self.In.origin input; read_faults = Self.In.faults input; write_faults = Self.Out.faults output; written = Self.Out.written output; flushed = Self.Out.flushed output } };
 
     /// Takes a closed connection back. It takes no memory and never fails.
     fn back(&mut self, ended: Self::Ended)

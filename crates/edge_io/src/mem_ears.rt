@@ -4,7 +4,7 @@ ghost use Rattle.std.specs.Io.{ReadsAtMost};
 ghost use Rattle.std.specs.Io.KnownBytes.{IsAtEnd};
 ghost use Rattle.edge_io.specs.Calls.{IsListed, answered, failed};
 ghost use Rattle.edge_io.specs.Causes.{HasCause};
-ghost use Rattle.edge_io.specs.Connections.{Origin, Ending, AddsOne, HandsOut, HasAllLeft, HasNumberOf, NumbersAgree};
+ghost use Rattle.edge_io.specs.Connections.{Origin, Ending, AddsOne, HandsOut, HasAllLeft, HasNumberOf, NumbersAgree, IsHandedOn};
 ghost use Rattle.edge_io.specs.Content.{TakesFront};
 ghost use Rattle.edge_io.specs.Memory.{left_of, origin_of, read_count, IsAfterRead};
 ghost use Rattle.edge_io.specs.MemoryEars.{ending_of, numbered, IsUnread, IsUnwritten, source_numbered, sink_numbered, HandsOutFirst, NextFails, EndsWritten};
@@ -304,6 +304,7 @@ impl Ears for MemEars {
         ensures whole { IfOk result (λ c. HasAllLeft (origin_of c.0) (Some (left_of c.0))) }
         ensures number { IfOk result (λ c. HasNumberOf (origin_of c.0) c.1.number) }
         ensures empty { IfOk result (λ c. IfSome (Some c.1.bytes) (λ bytes. bytes ≡ [])) }
+        ensures flushed { IfOk result (λ c. Some c.1.flushed ≡ Some c.1.bytes) }
         ensures unread { IfOk result (λ c. c.0.calls.faults ≡ 0) }
         ensures unwritten { IfOk result (λ c. c.1.calls.faults ≡ 0) }
         ensures cause { HasCause self.old.calls.faults self.new.calls.faults result }
@@ -334,7 +335,8 @@ impl Ears for MemEars {
     }
 
     fn shut(input: MemInput, output: MemSink) -> MemClosed
-        requires { NumbersAgree (origin_of input) output.number }
+        requires numbers { NumbersAgree (origin_of input) output.number }
+        requires handed_on { IsHandedOn output.calls.faults (Some output.bytes) (Some output.flushed) }
         ensures { result ≡ record { source = input; sink = output } }
     {
         let MemInput { source, place } = input;

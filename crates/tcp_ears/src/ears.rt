@@ -141,7 +141,7 @@ where
 
     ghost faults = { λ e. e.faults };
 
-    ghost ending = { λ c. record { origin = None; read_faults = c.read_faults; write_faults = c.write_faults; written = None } };
+    ghost ending = { λ c. record { origin = None; read_faults = c.read_faults; write_faults = c.write_faults; written = None; flushed = None } };
 
     ghost hears = { λ e place. ⊤ };
 
