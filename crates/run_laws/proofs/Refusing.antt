@@ -137,9 +137,16 @@ pub means_served : (file : List ℕ → Option (List ℕ)) (source : Source) (l 
 means_served file built_in l told means = tt
 means_served file (by_rules crd rules) (with_rules d) told means =
     let one = same_text (file crd) told.0 means.0 told.2 means.2 in
-    let two = same_text (file rules) told.1 means.1 told.3 means.3 in
-    (told.0, told.1, told.2, told.3, subst (λ (x : List ℕ). length x ≤ MOST_FILE_BYTES) one means.2.short, subst (λ (x : List ℕ). length x ≤ MOST_FILE_BYTES) two means.3.short, d,
-    subst (λ (x : List ℕ). LoadsSet x told.1 d) one (subst (λ (x : List ℕ). LoadsSet means.0 x d) two means.4))
+    let two = same_text (file rules) told.1 means.1 told.3 means.3 in (
+      told.0,
+      told.1,
+      told.2,
+      told.3,
+      subst (λ (x : List ℕ). length x ≤ MOST_FILE_BYTES) one means.2.short,
+      subst (λ (x : List ℕ). length x ≤ MOST_FILE_BYTES) two means.3.short,
+      d,
+      subst (λ (x : List ℕ). LoadsSet x told.1 d) one (subst (λ (x : List ℕ). LoadsSet means.0 x d) two means.4),
+    )
 means_served file (by_rules crd rules) (with_converter d) told means = absurd means
 means_served file (by_converter crd hub url) (with_rules d) told means = absurd means
 means_served file (by_converter crd hub url) (with_converter d) told means =
