@@ -60,7 +60,7 @@ pub stopped_so : {F S K E A L : Type 0} (w : World F S K E A L) (source : Source
     → s ≡ status_told (stop_told stop) → Says w (line_told (stop_told stop)) → Stopped w source s
 stopped_so w source stops.ReadFailed s h is says = unreadable is h
 stopped_so w source (stops.Refused file why) s h is says = refused file.now (why_text why) is h says
-stopped_so w source stops.BadAddress s h is says = addressless is h.0 h.1 h.2
+stopped_so w source stops.BadAddress s h is says = addressless is h.0 h.1.0 h.1.1
 stopped_so w source stops.NoMemory s h is says = wanting is
 
 -- ---- `pipe`
@@ -69,8 +69,8 @@ pub pipe_outcome : {F S K E A L : Type 0} (w : World F S K E A L) (source : Sour
     → IfOk came (λ end. (l : Loaded) × Means (held w) source l × Conversation (meaning_in l) (MayRise (faults_in l)) w.start turns (streams w) (InputFails w) (OutputFails w) end)
     → IfErr came (Stops (FilesFail w) (held w) source (FilesStay w × LinksStay w)) → OnErr came (InputStays w × OutputStays w)
     → s ≡ status_told (pipe_told came) → Says w (line_told (pipe_told came)) → PipeOutcome w source turns s
-pipe_outcome w source turns (Ok end) s held stops stays is says = conversed held.0 end held.1 held.2 is
-pipe_outcome w source turns (Err stop) s held stops stays is says = unserved (stopped_so w source stop s stops is says) stays.0 stays.1
+pipe_outcome w source turns (Ok end) s talk stops stays is says = conversed talk.0 end talk.1 talk.2 is
+pipe_outcome w source turns (Err stop) s talk stops stays is says = unserved (stopped_so w source stop s stops is says) stays.0 stays.1
 
 -- ---- `convert` and `review`
 
@@ -124,7 +124,7 @@ pub serve_outcome : {F S K E A L : Type 0} (w : World F S K E A L) (source : Sou
     → s ≡ status_told (serve_told came) → Says w (line_told (serve_told came)) → ServeOutcome w source l s
 serve_outcome w source l (Ok u) s h is says = served h.0 h.1 (subst (λ (x : ℕ). Service (faults_in h.0) (meaning_in h.0) w.start l (hearing w) x) (sym is) h.2)
 serve_outcome w source l (Err (unmet.Unserved why)) s h is says = served h.0 h.1 (subst (λ (x : ℕ). Service (faults_in h.0) (meaning_in h.0) w.start l (hearing w) x) (sym is) h.2)
-serve_outcome w source l (Err (unmet.Stopped stop)) s h is says = unloaded_service (stopped_so w source stop s h.0 is says) h.1 h.2
+serve_outcome w source l (Err (unmet.Stopped stop)) s h is says = unloaded_service (stopped_so w source stop s h.0 is says) h.1.0 h.1.1
 
 -- ---- servers from outside
 
@@ -136,9 +136,9 @@ pub dump_outcome : {F S K E A L : Type 0} (w : World F S K E A L) (url : List �
     → IfOk came (DumpedAt url (linked_before w) (linked w) (written_before w) (written w)) → IfOk came (OnDone (flushed w ≡ written w)) → IfOk came (OnDumpFaults ⊤ (OutputFails w))
     → IfErr came (OnBadPlace ((p : PlaceView) → IsPlace url p → ⊥)) → OnErr came ((linked w ≡ linked_before w) × OutputStays w) → InputStays w
     → s ≡ status_told (dumped_told came) → Says w (line_told (dumped_told came)) → DumpOutcome w url s
-dump_outcome w url (Ok d) s at handed cause none stays input is says = dumped d (record { status_is = is; says = says }) at cause handed
-dump_outcome w url (Err fault) s at handed cause none stays input is says =
-    undumped (record { fault = fault; is_told = record { status_is = is; says = says }; none = none; unlinked = stays.0; untouched = input; silent = stays.1 })
+dump_outcome w url (Ok d) s at handed cause none stays unread is says = dumped d (record { status_is = is; says = says }) at cause handed
+dump_outcome w url (Err fault) s at handed cause none stays unread is says =
+    undumped (record { fault = fault; is_told = record { status_is = is; says = says }; none = none; unlinked = stays.0; untouched = unread; silent = stays.1 })
 
 pub load_outcome : {F S K E A L : Type 0} (w : World F S K E A L) (url : List ℕ) (came : Result LoadEnd PlaceFault) (s : ℕ)
     → IfOk came (λ e. LoadedAt url (linked_before w) (linked w) (input w) (left w) (restored_to e)) → IfOk came (WroteOf (written_before w) (written w) (flushed w))
@@ -175,8 +175,8 @@ never_done w d t s (wanting_task is silent) e = omega (arith, is, e)
 
 never_tasked : {F S K E A L : Type 0} (w : World F S K E A L) (crd rules : List ℕ) (t : Task) (s : ℕ) → TaskOutcome w (by_rules crd rules) t s → s ≡ BAD_WORDS → ⊥
 never_tasked w crd rules t s (did_task d means known ends) e = never_done w d t s ends e
-never_tasked w crd rules t s (targetless d why means lacks is says input output) e = omega (arith, is, e)
-never_tasked w crd rules t s (unloaded_task stopped input output) e = (only_stopped w (by_rules crd rules) s stopped e).0
+never_tasked w crd rules t s (targetless d why means lacks is says unread output) e = omega (arith, is, e)
+never_tasked w crd rules t s (unloaded_task stopped unread output) e = (only_stopped w (by_rules crd rules) s stopped e).0
 
 never_drilled : {F S K E A L : Type 0} (w : World F S K E A L) (start count s : ℕ) → DrillOutcome w start count s → s ≡ BAD_WORDS → ⊥
 never_drilled w start count s (wrote_drill is wrote handed) e = omega (arith, is, e)
@@ -262,7 +262,7 @@ pub bad_pipe : (came : Result PipeEnd Stop) (fails : Type 0) (file : List ℕ �
 bad_pipe (Ok end) fails file source files links s h is e = absurd (never_conversed end s is e)
 bad_pipe (Err stops.ReadFailed) fails file source files links s h is e = absurd (omega (arith, is, e))
 bad_pipe (Err (stops.Refused name why)) fails file source files links s h is e = absurd (omega (arith, is, e))
-bad_pipe (Err stops.BadAddress) fails file source files links s h is e = h.2
+bad_pipe (Err stops.BadAddress) fails file source files links s h is e = h.1.1
 bad_pipe (Err stops.NoMemory) fails file source files links s h is e = absurd (omega (arith, is, e))
 
 never_met : (came : Result Unit Unmet) (s : ℕ) → s ≡ status_told (serve_told came) → s ≡ BAD_WORDS → came ≡ Err (unmet.Stopped stops.BadAddress)
@@ -278,21 +278,21 @@ never_met (Err (unmet.Stopped stops.NoMemory)) s is e = absurd (omega (arith, is
 pub bad_serve : (came : Result Unit Unmet) (file : List ℕ → Option (List ℕ)) (source : Source) (start : Start) (l : Listening) (h : Hearing) (fails files links silent : Type 0) (s : ℕ)
     → Serves file source start l h fails (files × links) silent came → s ≡ status_told (serve_told came) → s ≡ BAD_WORDS → links
 bad_serve came file source start l h fails files links silent s serves is e =
-    (subst (λ (c : Result Unit Unmet). Serves file source start l h fails (files × links) silent c) (never_met came s is e) serves).0.2
+    (subst (λ (c : Result Unit Unmet). Serves file source start l h fails (files × links) silent c) (never_met came s is e) serves).0.1.1
 
 -- a line whose words are told to be bad has a place or a converter's address that is none, and touches nothing
 pub bad_words : {F S K E A L : Type 0} (w : World F S K E A L) (line : Line) (s : ℕ) → Outcome w line s → s ≡ BAD_WORDS → IsPlaceless line × FilesStay w × InputStays w × OutputStays w × EarsStay w
-bad_words w (pipe source turns) s (conversed l end means talk is, rest) e = absurd (never_conversed end s is e)
-bad_words w (pipe source turns) s (unserved stopped input output, rest) e = let found = only_stopped w source s stopped e in (found.0, found.1, input, output, rest.0)
+bad_words w (pipe source turns) s (conversed l end means talk is, ears, ruled) e = absurd (never_conversed end s is e)
+bad_words w (pipe source turns) s (unserved stopped unread output, ears, ruled) e = let found = only_stopped w source s stopped e in (found.0, found.1, unread, output, ears)
 bad_words w (task crd rules t) s out e = absurd (never_tasked w crd rules t s out.0 e)
 bad_words w (drill start count) s out e = absurd (never_drilled w start count s out.0 e)
-bad_words w (serve source l) s (served m means ends, rest) e = absurd (never_served w m l s ends e)
-bad_words w (serve source l) s (unloaded_service stopped output ears, rest) e = let found = only_stopped w source s stopped e in (found.0, found.1, rest.0, output, ears)
+bad_words w (serve source l) s (served m means ends, unread, ruled) e = absurd (never_served w m l s ends e)
+bad_words w (serve source l) s (unloaded_service stopped output ears, unread, ruled) e = let found = only_stopped w source s stopped e in (found.0, found.1, unread, output, ears)
 bad_words w (remote migrate url) s out e = let found = only_unmigrated w url s out.0 e in (found.0, out.1, out.2, found.1, out.3)
-bad_words w (remote dump url) s (dumped d told at cause handed, rest) e = absurd (never_dumped d s told.status_is e)
-bad_words w (remote dump url) s (undumped u, rest) e = let found = only_unplaced w url s u e in (found.0, rest.0, rest.1, found.2, rest.2)
-bad_words w (remote load url) s (restored d told at cause end unwritten wrote silent, rest) e = absurd (never_restored d s told.status_is e)
-bad_words w (remote load url) s (unloaded u, rest) e = let found = only_unplaced w url s u e in (found.0, rest.0, found.1, found.2, rest.1)
+bad_words w (remote dump url) s (dumped d told at cause handed, files, unread, ears) e = absurd (never_dumped d s told.status_is e)
+bad_words w (remote dump url) s (undumped u, files, unread, ears) e = let found = only_unplaced w url s u e in (found.0, files, unread, found.2, ears)
+bad_words w (remote load url) s (restored d told at cause end unwritten wrote silent, files, ears) e = absurd (never_restored d s told.status_is e)
+bad_words w (remote load url) s (unloaded u, files, ears) e = let found = only_unplaced w url s u e in (found.0, files, found.1, found.2, ears)
 
 -- ---- what holds of each line
 
@@ -304,16 +304,16 @@ if_ruled (by_converter crd hub url) is = tt
 -- memory was wanted before anything was touched
 pub wanted : {F S K E A L : Type 0} (w : World F S K E A L) (line : Line) (s : ℕ) → s ≡ NO_MEMORY → Says w (error_line NO_MEMORY) → FilesStay w → InputStays w → OutputStays w → EarsStay w → LinksStay w
     → Outcome w line s
-wanted w (pipe source turns) s is says files input output ears links = (unserved (wanting is) input output, ears, if_ruled source links)
-wanted w (task crd rules t) s is says files input output ears links = (unloaded_task (wanting is) input output, ears, links)
-wanted w (drill start count) s is says files input output ears links = (wanting_drill is output, files, input, ears, links)
-wanted w (serve source l) s is says files input output ears links = (unloaded_service (wanting is) output ears, input, if_ruled source links)
-wanted w (remote migrate url) s is says files input output ears links =
-    (record { end = migrated.NoMemory; is_told = record { status_is = is; says = says }; came = unread_place refl (ap w.tells.linked links); cause = tt; silent = output }, files, input, ears)
-wanted w (remote dump url) s is says files input output ears links =
-    (undumped (record { fault = places.NoMemory; is_told = record { status_is = is; says = says }; none = tt; unlinked = ap w.tells.linked links; untouched = input; silent = output }), files, input, ears)
-wanted w (remote load url) s is says files input output ears links =
-    (unloaded (record { fault = places.NoMemory; is_told = record { status_is = is; says = says }; none = tt; unlinked = ap w.tells.linked links; untouched = input; silent = output }), files, ears)
+wanted w (pipe source turns) s is says files unread output ears links = (unserved (wanting is) unread output, ears, if_ruled source links)
+wanted w (task crd rules t) s is says files unread output ears links = (unloaded_task (wanting is) unread output, ears, links)
+wanted w (drill start count) s is says files unread output ears links = (wanting_drill is output, files, unread, ears, links)
+wanted w (serve source l) s is says files unread output ears links = (unloaded_service (wanting is) output ears, unread, if_ruled source links)
+wanted w (remote migrate url) s is says files unread output ears links =
+    (record { end = migrated.NoMemory; is_told = record { status_is = is; says = says }; came = unread_place refl (ap w.tells.linked links); cause = tt; silent = output }, files, unread, ears)
+wanted w (remote dump url) s is says files unread output ears links =
+    (undumped (record { fault = places.NoMemory; is_told = record { status_is = is; says = says }; none = tt; unlinked = ap w.tells.linked links; untouched = unread; silent = output }), files, unread, ears)
+wanted w (remote load url) s is says files unread output ears links =
+    (unloaded (record { fault = places.NoMemory; is_told = record { status_is = is; says = says }; none = tt; unlinked = ap w.tells.linked links; untouched = unread; silent = output }), files, ears)
 
 -- nothing was written that names a place
 pub placed_stays : (line : Line) (may : List ℕ → List ℕ → Type 0) (before written : Option (List ℕ)) → written ≡ before → IfServes line (λ place. NamesPlace (may place) before written)

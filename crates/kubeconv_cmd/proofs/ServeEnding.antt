@@ -75,6 +75,16 @@ answered_all {V} faults meaning base versions start v0 v asked idle count h0 hea
     (subst (λ (g : Option (List Ending)). ServedAll (IsAnswered faults (front_of meaning base start.told)) asked idle (opening_view base) v count heard handed g given) same_taken
     (subst (λ (w : View (CoreBase V)). ServedAll (IsAnswered faults (front_of meaning base start.told)) asked idle w v count heard handed taken given) new all))))
 
+-- as many workers were asked for
+pub hired_as : {A : Type 0} (faults : A → ℕ) (m : Meaning) (start : Start) (a b count : ℕ) (h0 handed : Option (List Origin)) (g0 given : Option (List Ending)) → a ≡ b
+    → AnsweredAll faults m start a count h0 handed g0 given → AnsweredAll faults m start b count h0 handed g0 given
+hired_as faults m start a b count h0 handed g0 given same all = subst (λ (n : ℕ). AnsweredAll faults m start n count h0 handed g0 given) same all
+
+-- a server of the base is one of the versions that it has
+pub service_as : {A V : Type 0} (faults : A → ℕ) (meaning : V → Meaning) (b c : CoreBase V) (told : Option (List ℕ)) (l : Listening) (h : Hearing) (s : ℕ) → b ≡ c
+    → Service faults (meaning b.versions) (record { boot = b.boot; told = told }) l h s → Service faults (meaning c.versions) (record { boot = c.boot; told = told }) l h s
+service_as {A} {V} faults meaning b c told l h s same is = subst (λ (x : CoreBase V). Service faults (meaning x.versions) (record { boot = x.boot; told = told }) l h s) same is
+
 -- ---- how serving ended
 
 -- as many as were asked for, or fewer since a fault rose

@@ -99,7 +99,8 @@ pub(crate) fn pipe<'a, R: Wait, F: Files, S: Source, K: Sink, L: Links, C: Clock
         },
         Definition::Converter { crd, hub, url } => {
             match load_converted(alloc, files, crd, hub, url) {
-                Ok(Converted { versions, address }) => {
+                Ok(found) => {
+                    let Converted { versions, address } = found;
                     let mut tools = ConverterLinks::new(links, address);
                     pipe_by(
                         rt, alloc, versions, &mut tools, input, output, clock, boot, turns,

@@ -215,7 +215,8 @@ where
             Err(stop) => Err(Unmet::Stopped(stop)),
         },
         Source::Converter { crd, hub, url } => match load_converted(alloc, files, crd, hub, url) {
-            Ok(Converted { versions, address }) => {
+            Ok(found) => {
+                let Converted { versions, address } = found;
                 let mut tools = ConverterLinks::new(links, address);
                 met(serve_by(
                     rt, alloc, versions, &mut tools, listening, output, ears, clock, boot,

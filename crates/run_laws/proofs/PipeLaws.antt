@@ -61,7 +61,7 @@ Unloaded w source s = ((s ≡ REFUSED) × Blames w source) ⊎ ((s ≡ NO_MEMORY
 pub pipe_talk : {F S K E A L : Type 0} (w : World F S K E A L) (source : Source) (turns s : ℕ) (b : List ℕ) → PipeOutcome w source turns s → input w ≡ Some b → ¬ FilesFail w → ¬ InputFails w → ¬ OutputFails w
     → Talks w source turns b s ⊎ Unloaded w source s
 pipe_talk w source turns s b (conversed l end means talk is) told nf nr nw = inl (l, means, whole w l turns s b end (talk.conversed b told) talk.blames is nr nw)
-pipe_talk w source turns s b (unserved stopped input output) told nf nr nw = inr (stopped_talk w source s stopped nf)
+pipe_talk w source turns s b (unserved stopped unread unwritten) told nf nr nw = inr (stopped_talk w source s stopped nf)
 
 pub pipe_exact : {F S K E A L : Type 0} (w : World F S K E A L) (source : Source) (turns s : ℕ) (b : List ℕ) (requests : List Request) (end : End)
     → ((budget : ℕ) (b : List ℕ) (rs qs : List Request) (d e : End) → Asks budget b rs d → Asks budget b qs e → (rs ≡ qs) × SameEnd b rs d e)
@@ -86,7 +86,7 @@ complete_end WriteFault s reads writes is blames nr nw = absurd (nw blames)
 pub pipe_complete : {F S K E A L : Type 0} (w : World F S K E A L) (source : Source) (turns s : ℕ) → PipeOutcome w source turns s → IsServed (held w) source → ¬ FilesFail w → ¬ InputFails w → ¬ OutputFails w
     → (s ≡ DONE) ⊎ ((s ≡ NO_MEMORY) ⊎ ((s ≡ CUT) ⊎ (s ≡ TOO_MANY)))
 pipe_complete w source turns s (conversed l end means talk is) served nf nr nw = complete_end end s (InputFails w) (OutputFails w) is talk.blames nr nw
-pipe_complete w source turns s (unserved stopped input output) served nf nr nw =
+pipe_complete w source turns s (unserved stopped unread unwritten) served nf nr nw =
     inr (inl (stopped_wanting w source s stopped (λ name why bad. not_both (held w) source name why served bad) (λ none. has_address (held w) source served none) nf))
 
 -- ---- whatever fails
@@ -98,13 +98,13 @@ unloaded_status w source s (inr other) = inr other
 pub pipe_refuses : {F S K E A L : Type 0} (w : World F S K E A L) (source : Source) (turns s : ℕ) (name why : List ℕ) → PipeOutcome w source turns s → IsToldBy (held w) source → ¬ FilesFail w → Refuses (held w) source name why
     → (s ≡ REFUSED) ⊎ ((s ≡ NO_MEMORY) ⊎ ((s ≡ BAD_WORDS) × IsAddressless source))
 pipe_refuses w source turns s name why (conversed l end means talk is) told nf bad = absurd (not_both (held w) source name why (means_served (held w) source l told means) bad)
-pipe_refuses w source turns s name why (unserved stopped input output) told nf bad = unloaded_status w source s (stopped_talk w source s stopped nf)
+pipe_refuses w source turns s name why (unserved stopped unread unwritten) told nf bad = unloaded_status w source s (stopped_talk w source s stopped nf)
 
 pub pipe_held : {F S K E A L : Type 0} (w : World F S K E A L) (source : Source) (turns s : ℕ) → PipeOutcome w source turns s
     → ((l : Loaded) × (end : PipeEnd) × Means (held w) source l × Conversation (meaning_in l) (MayRise (faults_in l)) w.start turns (streams w) (InputFails w) (OutputFails w) end × (s ≡ pipe_status end))
     ⊎ (IsUnheld (FilesFail w) (IsAddressless source) s × InputStays w × OutputStays w)
 pipe_held w source turns s (conversed l end means talk is) = inl (l, end, means, talk, is)
-pipe_held w source turns s (unserved stopped input output) = inr (stopped_unheld w source s stopped, input, output)
+pipe_held w source turns s (unserved stopped unread unwritten) = inr (stopped_unheld w source s stopped, unread, unwritten)
 
 pub handed_end : (end : PipeEnd) (s : ℕ) (handed_on : Type 0) → s ≡ pipe_status end → UnlessUnwritten (link_end end) handed_on → s ≢ WRITE_FAILED → handed_on
 handed_end Closed s handed_on is h other = h
@@ -116,13 +116,13 @@ handed_end WriteFault s handed_on is h other = absurd (other is)
 
 pub pipe_handed_on : {F S K E A L : Type 0} (w : World F S K E A L) (source : Source) (turns s : ℕ) → PipeOutcome w source turns s → s ≢ WRITE_FAILED → HasHandedOn w
 pipe_handed_on w source turns s (conversed l end means talk is) other = handed_end end s (HasHandedOn w) is talk.hands_on other
-pipe_handed_on w source turns s (unserved stopped input output) other = λ first. ap w.tells.flushed output ∙ (first ∙ sym (ap w.tells.written output))
+pipe_handed_on w source turns s (unserved stopped unread unwritten) other = λ first. ap w.tells.flushed unwritten ∙ (first ∙ sym (ap w.tells.written unwritten))
 
 -- ---- by its status
 
 pub pipe_blames : {F S K E A L : Type 0} (w : World F S K E A L) (source : Source) (turns s : ℕ) → PipeOutcome w source turns s → s ≡ REFUSED → Blames w source
 pipe_blames w source turns s (conversed l end means talk is) e = absurd (ended_never REFUSED (λ e. omega (arith, e)) (λ e. omega (arith, e)) (λ e. omega (arith, e)) (λ e. omega (arith, e)) (λ e. omega (arith, e)) end s is e)
-pipe_blames w source turns s (unserved stopped input output) e = stopped_blames w source s stopped e
+pipe_blames w source turns s (unserved stopped unread unwritten) e = stopped_blames w source s stopped e
 
 pub unread_end : (end : PipeEnd) (s : ℕ) (reads writes : Type 0) → s ≡ pipe_status end → BlamesEnd end reads writes → s ≡ READ_FAILED → (end ≡ ReadFault) × reads
 unread_end Closed s reads writes is blames e = absurd (omega (arith, is, e))
@@ -145,35 +145,35 @@ pub pipe_unread : {F S K E A L : Type 0} (w : World F S K E A L) (source : Sourc
 pipe_unread w source turns s (conversed l end means talk is) e =
     let ends = unread_end end s (InputFails w) (OutputFails w) is talk.blames e in
     inr (ends.1, l, means, subst (λ (x : PipeEnd). Conversation (meaning_in l) (MayRise (faults_in l)) w.start turns (streams w) (InputFails w) (OutputFails w) x) ends.0 talk)
-pipe_unread w source turns s (unserved stopped input output) e = inl (stopped_reading w source s stopped e, input, output)
+pipe_unread w source turns s (unserved stopped unread unwritten) e = inl (stopped_reading w source s stopped e, unread, unwritten)
 
 pub pipe_unwritten : {F S K E A L : Type 0} (w : World F S K E A L) (source : Source) (turns s : ℕ) → PipeOutcome w source turns s → s ≡ WRITE_FAILED
     → (l : Loaded) × Means (held w) source l × Conversation (meaning_in l) (MayRise (faults_in l)) w.start turns (streams w) (InputFails w) (OutputFails w) WriteFault
 pipe_unwritten w source turns s (conversed l end means talk is) e =
     let ends = unwritten_end end s (InputFails w) (OutputFails w) is talk.blames e in
     (l, means, subst (λ (x : PipeEnd). Conversation (meaning_in l) (MayRise (faults_in l)) w.start turns (streams w) (InputFails w) (OutputFails w) x) ends.0 talk)
-pipe_unwritten w source turns s (unserved stopped input output) e = absurd (stopped_never WRITE_FAILED (λ e. omega (arith, e)) (λ e. omega (arith, e)) (λ e. omega (arith, e)) (λ e. omega (arith, e)) w source s stopped e)
+pipe_unwritten w source turns s (unserved stopped unread unwritten) e = absurd (stopped_never WRITE_FAILED (λ e. omega (arith, e)) (λ e. omega (arith, e)) (λ e. omega (arith, e)) (λ e. omega (arith, e)) w source s stopped e)
 
 pub pipe_reading : {F S K E A L : Type 0} (w : World F S K E A L) (source : Source) (turns s : ℕ) → PipeOutcome w source turns s → s ≡ READ_FAILED → FilesFail w ⊎ InputFails w
 pipe_reading w source turns s (conversed l end means talk is) e = inr (unread_end end s (InputFails w) (OutputFails w) is talk.blames e).1
-pipe_reading w source turns s (unserved stopped input output) e = inl (stopped_reading w source s stopped e)
+pipe_reading w source turns s (unserved stopped unread unwritten) e = inl (stopped_reading w source s stopped e)
 
 pub pipe_writing : {F S K E A L : Type 0} (w : World F S K E A L) (source : Source) (turns s : ℕ) → PipeOutcome w source turns s → s ≡ WRITE_FAILED → OutputFails w
 pipe_writing w source turns s (conversed l end means talk is) e = (unwritten_end end s (InputFails w) (OutputFails w) is talk.blames e).1
-pipe_writing w source turns s (unserved stopped input output) e = absurd (stopped_never WRITE_FAILED (λ e. omega (arith, e)) (λ e. omega (arith, e)) (λ e. omega (arith, e)) (λ e. omega (arith, e)) w source s stopped e)
+pipe_writing w source turns s (unserved stopped unread unwritten) e = absurd (stopped_never WRITE_FAILED (λ e. omega (arith, e)) (λ e. omega (arith, e)) (λ e. omega (arith, e)) (λ e. omega (arith, e)) w source s stopped e)
 
 pub pipe_words : {F S K E A L : Type 0} (w : World F S K E A L) (source : Source) (turns s : ℕ) → PipeOutcome w source turns s → s ≡ BAD_WORDS → IsAddressless source
 pipe_words w source turns s (conversed l end means talk is) e = absurd (ended_never BAD_WORDS (λ e. omega (arith, e)) (λ e. omega (arith, e)) (λ e. omega (arith, e)) (λ e. omega (arith, e)) (λ e. omega (arith, e)) end s is e)
-pipe_words w source turns s (unserved stopped input output) e = stopped_words w source s stopped e
+pipe_words w source turns s (unserved stopped unread unwritten) e = stopped_words w source s stopped e
 
 -- it ends so only before it serves
 pub pipe_unserved : {F S K E A L : Type 0} (w : World F S K E A L) (source : Source) (turns s : ℕ) → PipeOutcome w source turns s → (s ≡ REFUSED) ⊎ (s ≡ NO_MEMORY) → InputStays w × OutputStays w
 pipe_unserved w source turns s (conversed l end means talk is) (inl e) = absurd (ended_never REFUSED (λ e. omega (arith, e)) (λ e. omega (arith, e)) (λ e. omega (arith, e)) (λ e. omega (arith, e)) (λ e. omega (arith, e)) end s is e)
 pipe_unserved w source turns s (conversed l end means talk is) (inr e) = absurd (ended_never NO_MEMORY (λ e. omega (arith, e)) (λ e. omega (arith, e)) (λ e. omega (arith, e)) (λ e. omega (arith, e)) (λ e. omega (arith, e)) end s is e)
-pipe_unserved w source turns s (unserved stopped input output) e = (input, output)
+pipe_unserved w source turns s (unserved stopped unread unwritten) e = (unread, unwritten)
 
 -- it ends with no other status
 pub pipe_never : (n : ℕ) → n ≢ DONE → n ≢ CUT → n ≢ TOO_MANY → n ≢ READ_FAILED → n ≢ WRITE_FAILED → n ≢ REFUSED → n ≢ NO_MEMORY → n ≢ BAD_WORDS
     → {F S K E A L : Type 0} (w : World F S K E A L) (source : Source) (turns s : ℕ) → PipeOutcome w source turns s → s ≡ n → ⊥
 pipe_never n d c t r f u m b w source turns s (conversed l end means talk is) e = ended_never n d c t r f end s is e
-pipe_never n d c t r f u m b w source turns s (unserved stopped input output) e = stopped_never n r u m b w source s stopped e
+pipe_never n d c t r f u m b w source turns s (unserved stopped unread unwritten) e = stopped_never n r u m b w source s stopped e

@@ -30,7 +30,7 @@ returns-in-Ok-load_files-clause-stops g c =
 
 pub returns-in-Ok-load_converted-clause-held : goal.returns-in-Ok-load_converted-clause-held
 returns-in-Ok-load_converted-clause-held g c =
-    rw c.in-Converter.is (held_by (g.F.Files.file c.args.files.now) (by_converter c.in-Converter.crd.now c.in-Converter.hub.now c.in-Converter.url.now) (with_converter c.in-Ok-load_converted.versions.set) (record { boot = c.args.boot; told = g.C.Clock.told c.args.clock.now }) c.args.turns
+    rw c.in-Converter.is (held_by (g.F.Files.file c.args.files.now) (by_converter c.in-Converter.crd.now c.in-Converter.hub.now c.in-Converter.url.now) (with_converter c.in-Ok-load_converted.found.versions.set) (record { boot = c.args.boot; told = g.C.Clock.told c.args.clock.now }) c.args.turns
     (record { tell = record { left = g.S.Source.left; written = g.K.Sink.written; flushed = g.K.Sink.flushed }; most = g.S.Source.most c.args.input.now; input_before = c.args.input.now; input = c.pipe_by-in-Ok-load_converted.new.input; output_before = c.args.output.now; output = c.pipe_by-in-Ok-load_converted.new.output })
     (Rose (g.S.Source.faults c.args.input.now) (g.S.Source.faults c.pipe_by-in-Ok-load_converted.new.input)) (Rose (g.K.Sink.faults c.args.output.now) (g.K.Sink.faults c.pipe_by-in-Ok-load_converted.new.output))
     c.pipe_by-in-Ok-load_converted.result c.in-Ok-load_converted.ensures.loaded c.pipe_by-in-Ok-load_converted.ensures.held)

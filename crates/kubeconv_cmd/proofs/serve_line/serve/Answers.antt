@@ -14,17 +14,17 @@ serve_by-requires-send-V g c κs within = search (set_send, sendable)
 pub serve_by-requires-sync-V : goal.serve_by-requires-sync-V
 serve_by-requires-sync-V g c κs within = search (set_sync, sendable)
 
-pub serve_by-in-Ok-load_files-requires-send-V : goal.serve_by-in-Ok-load_files-requires-send-V
-serve_by-in-Ok-load_files-requires-send-V g c κs within = search (set_send, sendable)
+pub serve_by-requires-in-Ok-load_files-send-V : goal.serve_by-requires-in-Ok-load_files-send-V
+serve_by-requires-in-Ok-load_files-send-V g c κs within = search (set_send, sendable)
 
-pub serve_by-in-Ok-load_files-requires-sync-V : goal.serve_by-in-Ok-load_files-requires-sync-V
-serve_by-in-Ok-load_files-requires-sync-V g c κs within = search (set_sync, sendable)
+pub serve_by-requires-in-Ok-load_files-sync-V : goal.serve_by-requires-in-Ok-load_files-sync-V
+serve_by-requires-in-Ok-load_files-sync-V g c κs within = search (set_sync, sendable)
 
-pub serve_by-in-Ok-load_converted-requires-send-V : goal.serve_by-in-Ok-load_converted-requires-send-V
-serve_by-in-Ok-load_converted-requires-send-V g c κs within = search (definition_send, txt.the_send, sendable, crosses) depth 60 fits 200000
+pub serve_by-requires-in-Ok-load_converted-send-V : goal.serve_by-requires-in-Ok-load_converted-send-V
+serve_by-requires-in-Ok-load_converted-send-V g c κs within = search (definition_send, txt.the_send, sendable, crosses) depth 60 fits 200000
 
-pub serve_by-in-Ok-load_converted-requires-sync-V : goal.serve_by-in-Ok-load_converted-requires-sync-V
-serve_by-in-Ok-load_converted-requires-sync-V g c κs within = search (definition_sync, txt.the_sync, sendable, crosses) depth 60 fits 200000
+pub serve_by-requires-in-Ok-load_converted-sync-V : goal.serve_by-requires-in-Ok-load_converted-sync-V
+serve_by-requires-in-Ok-load_converted-sync-V g c κs within = search (definition_sync, txt.the_sync, sendable, crosses) depth 60 fits 200000
 
 pub returns-in-Ok-clause-came : goal.returns-in-Ok-clause-came
 returns-in-Ok-clause-came g c =
@@ -36,4 +36,4 @@ returns-in-Ok-load_files-clause-came g c =
 
 pub returns-in-Ok-load_converted-clause-came : goal.returns-in-Ok-load_converted-clause-came
 returns-in-Ok-load_converted-clause-came g c =
-    rw c.in-Converter.is (met_so (g.F.Files.file c.args.files.now) (by_converter c.in-Converter.crd.now c.in-Converter.hub.now c.in-Converter.url.now) _ _ _ _ _ _ (with_converter c.in-Ok-load_converted.versions.set) c.serve_by-in-Ok-load_converted.result c.met-in-Ok-load_converted.result c.met-in-Ok-load_converted.ensures c.in-Ok-load_converted.ensures.loaded c.serve_by-in-Ok-load_converted.ensures.came)
+    rw c.in-Converter.is (met_so (g.F.Files.file c.args.files.now) (by_converter c.in-Converter.crd.now c.in-Converter.hub.now c.in-Converter.url.now) _ _ _ _ _ _ (with_converter c.in-Ok-load_converted.found.versions.set) c.serve_by-in-Ok-load_converted.result c.met-in-Ok-load_converted.result c.met-in-Ok-load_converted.ensures c.in-Ok-load_converted.ensures.loaded c.serve_by-in-Ok-load_converted.ensures.came)
