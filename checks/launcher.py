@@ -1,82 +1,278 @@
 #!/usr/bin/env python3
-"""Looks whether `./kubeconv` and the program agree on which words are a line. Lines are drawn, each from a good one by some changes, and
-given to both: to the program as its words, with no input, and to the launcher in a folder in which it can build nothing. The launcher
-is to refuse only what the program refuses, with the program's status 2 and its line, and may leave the program to decide only where a
-number has 19 digits.
+"""Looks at what `./kubeconv` does around the program: which words it answers itself, what it builds, what it passes on.
 
-Prints how many lines were drawn, how many of them are lines, and each that was told otherwise; ends with status 1 where one was.
-Takes a minute for 1,000 lines."""
+    python3 checks/launcher.py
 
+It launches in a folder of its own, with a program, a compiler and a prover that only say what they are asked. A line tells each thing that
+was looked at; what is wrong is told on standard error, and then the status is 1. It takes some seconds.
+"""
+
+import contextlib
+import os
 import pathlib
-import random
+import pty
+import re
 import shutil
+import signal
 import subprocess
 import sys
 import tempfile
+import time
+from typing import Any, Callable, Dict, Iterator, List, NamedTuple, Tuple
 
-import parts  # noqa: F401  finds the next ones
-from programs import TOP, built, parser_of
-
-GOOD = (
-    ["pipe"],
-    ["pipe", "--crd", "c", "--rules=r", "--turns", "1000"],
-    ["convert", "--crd", "c", "--rules", "r", "--to=v1"],
-    ["review", "--rules", "r", "--crd=c"],
-    ["drill", "9223372036854775807", "0"],
-    ["drill", "7", "100000"],
-    ["serve", "--crd", "c", "--rules", "r", "--listen", "x", "--workers=15", "--connections", "1000000"],
-    ["serve", "--connections=1", "--listen=x", "--crd", "c", "--rules=r"],
-)
-WORDS = "--crd --rules --hub --converter --to --turns --listen --workers --connections pipe serve drill -- - --x --help --crd= --to=v --turns=1 --turnsx --turns==1 =".split()
-VALUES = ["", " ", "0", "1", "01", "15", "16", "1000", "1001", "100000", "100001", "1000000", "1000001", "-1", "+1", "1 ", "9223372036854775808", "99999999999999999999", "*", "a b", ",x", "c=d", "ü"]
-REFUSED = (2, b"kubeconv: bad command line")
-
-
-def changed(draw, words):
-    """A line by some changes of another."""
-    words = list(words)
-    for _ in range(draw.choice((0, 1, 1, 2, 3))):
-        at = draw.randrange(len(words) + 1)
-        how = draw.randrange(4)
-        if how == 0:
-            words.insert(at, draw.choice(WORDS + VALUES))
-        elif how == 1 and at < len(words):
-            del words[at]
-        elif how == 2 and at < len(words):
-            words[at] = draw.choice(VALUES)
-        elif how == 3 and at < len(words) and "=" in words[at]:
-            words[at] = f"{words[at].partition('=')[0]}={draw.choice(VALUES)}"
-    return words
+TOP = pathlib.Path(__file__).resolve().parent.parent
+# So many seconds something is waited for.
+PATIENCE = 20
+REFUSED = "kubeconv: bad command line\n"
+UNPROVED = "kubeconv: compiled, not proved here: .ci/run proves it\n"
+HINT = "./explain with the same files tells where and how to mend it\n"
+# The program in the place of kubeconv: by its second word it ends, waits or tells.
+PROGRAM = """#!/bin/sh
+case $2 in
+bad) echo 'kubeconv: bad command line' >&2 && exit 2 ;;
+status) exit "$3" ;;
+wait) echo "$$" && exec sleep 60 ;;
+cat) cat ;;
+*) echo "$*" ;;
+esac
+"""
+# The compiler and the prover: each notes its words, and may keep the program.
+BUILDER = """import pathlib, subprocess, sys
+top = pathlib.Path(__file__).resolve().parent.parent
+with open(top / "asked", "a") as it:
+    it.write(f"{pathlib.Path(__file__).name} {' '.join(sys.argv[1:])}\\n")
+status = int((top / "status").read_text())
+if "--behind" not in sys.argv and (not status or pathlib.Path(__file__).name == "build.py"):
+    kind = "proved" if status else "first"
+    subprocess.run(["sh", "-c", f'top=$0 && . "$top/tools/kept.sh" && begin "$top/begun" && keep {kind} "$top/fake" "$top/begun"', str(top)], check=True)
+    status = 0
+sys.exit(status)
+"""
 
 
-def ended(line):
-    """The status of a run and its first error line."""
-    ran = subprocess.run(line, stdin=subprocess.DEVNULL, capture_output=True, env={"PATH": "/usr/bin:/bin"}, timeout=60)
-    return ran.returncode, ran.stderr.partition(b"\n")[0]
+class Came(NamedTuple):
+    """What came of a run."""
+
+    status: int
+    output: str
+    errors: str
 
 
-def main():
-    """Reads the words, runs and prints."""
-    parser = parser_of(__doc__)
-    parser.add_argument("--lines", type=int, default=1000, help="so many lines are drawn (default: 1000)")
-    options = parser.parse_args()
-    program, draw, lines, wrong = built(options.program), random.Random("launcher"), 0, 0
-    with tempfile.TemporaryDirectory() as place:
-        room = pathlib.Path(place)
+class Wrong(Exception):
+    """Something that isn't as it is to be."""
+
+
+def same(what: str, came: Any, wanted: Any) -> None:
+    if came != wanted:
+        raise Wrong(f"{what}:\n  came   {came!r}\n  wanted {wanted!r}")
+
+
+def lines_of(word: str = "") -> str:
+    """The table of docs/COMMANDS.md as the launcher prints it, or the lines of one word."""
+    rows = re.findall(r"^\| `(([a-z-]+)[^`]*)` \| (.*) \|$", (TOP / "docs/COMMANDS.md").read_text().partition("| line | does |")[2].partition("\n\n")[0], re.M)
+    return "".join(f"  kubeconv {line}\n      {does}\n" for line, first, does in rows if first == word or not word)
+
+
+class Folder:
+    """A checkout with a launcher, and nothing in it that takes time."""
+
+    def __init__(self, room: pathlib.Path, kind: str = "", fails: int = 0) -> None:
+        self.top = room
         for it in ("kubeconv", "tools/kept.sh", "docs/COMMANDS.md"):
             (room / it).parent.mkdir(exist_ok=True)
             shutil.copy2(TOP / it, room / it)
-        for _ in range(options.lines):
-            words = changed(draw, draw.choice(GOOD))
-            is_line = ended([program, *words]) != REFUSED
-            is_launched = ended([room / "kubeconv", *words]) != REFUSED
-            lines += is_line
-            if is_line != is_launched and not (is_launched and any(len(it) == 19 for it in words)):
-                wrong += 1
-                print(f"{words}: the program says {is_line}, the launcher {is_launched}")
-    print(f"{options.lines} drawn, {lines} of them lines, {wrong} told otherwise")
-    sys.exit(1 if wrong else 0)
+        for it in ("src/lib.rt", "specs/Lib.antt", "proofs/Lib.antt"):
+            (room / "crates/one" / it).parent.mkdir(parents=True, exist_ok=True)
+            (room / "crates/one" / it).write_text("")
+        self.script("fake", PROGRAM)
+        for name, text in (("crates.txt", "one:\n"), ("HANDLES", ""), ("status", str(fails)), ("asked", "")):
+            (room / name).write_text(text)
+        for it in ("compile.py", "build.py"):
+            (room / "tools" / it).write_text(BUILDER)
+        self.script("bin/rt", "#!/bin/sh\n")
+        self.env = {"PATH": f"{room}/bin:{os.environ['PATH']}", "PYTHONDONTWRITEBYTECODE": "1"}
+        if kind:
+            words = f'top=$0 && . "$top/tools/kept.sh" && begin "$top/begun" && keep {kind} "$top/fake" "$top/begun"'
+            subprocess.run(["sh", "-c", words, room], check=True)
+
+    def script(self, name: str, text: str) -> None:
+        (self.top / name).parent.mkdir(exist_ok=True)
+        (self.top / name).write_text(text)
+        (self.top / name).chmod(0o755)
+
+    def run(self, *words: str, **how: Any) -> Came:
+        how = {"stdin": subprocess.DEVNULL, "env": self.env, **how} if "input" not in how else {"env": self.env, **how}
+        ran = subprocess.run([self.top / "kubeconv", *words], stdout=subprocess.PIPE, stderr=subprocess.PIPE, text=True, timeout=PATIENCE, **how)
+        return Came(ran.returncode, ran.stdout, ran.stderr)
+
+    def started(self, *words: str) -> "subprocess.Popen[str]":
+        return subprocess.Popen([self.top / "kubeconv", *words], env=self.env, stdin=subprocess.DEVNULL, stdout=subprocess.PIPE, stderr=subprocess.PIPE, text=True)
+
+    def asked(self) -> List[str]:
+        """What was asked of the builders so far."""
+        return (self.top / "asked").read_text().splitlines()
+
+
+@contextlib.contextmanager
+def folder(kind: str = "", fails: int = 0) -> Iterator[Folder]:
+    with tempfile.TemporaryDirectory(prefix="kubeconv-launcher-") as to:
+        yield Folder(pathlib.Path(to).resolve(), kind, fails)
+
+
+def until(holds: Callable[[], bool], what: str) -> None:
+    """Waits until something holds."""
+    began = time.monotonic()
+    while not holds():
+        if time.monotonic() - began > PATIENCE:
+            raise Wrong(f"{what} didn't come within {PATIENCE} seconds")
+        time.sleep(0.02)
+
+
+def is_gone(pid: int) -> bool:
+    """Whether a process has ended, also where nobody asked for its status."""
+    try:
+        return pathlib.Path(f"/proc/{pid}/stat").read_text().rpartition(")")[2].split()[0] == "Z"
+    except OSError:
+        return True
+
+
+def no_line() -> None:
+    """No words, and a first word that begins no line, are refused, and nothing is built or summed."""
+    with folder() as it:
+        for words in ([], [""], ["x"], ["pip"], ["pipes"], ["-h"], ["--x"], ["pipe "], ["Pipe"], ["p.pe"], ["[a-z]*"], ["--help", "x"], ["--help,"], ["x", "--help"], ["--version", ""]):
+            same(f"words {words}", it.run(*words), Came(2, "", REFUSED + lines_of()))
+        same("builders", (it.asked(), (it.top / "out").exists()), ([], False))
+
+
+def helps() -> None:
+    """--help, and that of a command, is answered from the table, and nothing is built."""
+    with folder() as it:
+        same("--help", it.run("--help"), Came(0, lines_of(), ""))
+        for word in ("pipe", "serve", "drill", "load"):
+            same(f"{word} --help", it.run(word, "--help"), Came(0, lines_of(word), ""))
+        same("builders", (it.asked(), (it.top / "out").exists()), ([], False))
+
+
+def versions() -> None:
+    """--version tells the commit and the kind of program, and nothing is built."""
+    for kind, told in (("", "not built"), ("first", "compiled"), ("compiled", "compiled"), ("proved", "proved")):
+        with folder(kind) as it:
+            same(f"--version, {kind}", it.run("--version"), Came(0, f"kubeconv of no commit, {told}\n", ""))
+            subprocess.run("git init -q && git add . && git -c user.name=n -c user.email=e commit -qm m && git tag v1", shell=True, check=True, cwd=it.top)
+            commit = subprocess.run(["git", "rev-parse", "--short=12", "HEAD"], cwd=it.top, stdout=subprocess.PIPE, text=True, check=True).stdout.strip()
+            same(f"--version, {kind}", it.run("--version"), Came(0, f"kubeconv {commit}, {told}\n", ""))
+            same("builders", it.asked(), [])
+
+
+def passes_on() -> None:
+    """Words, input, output and status are the program's, also by a symbolic link, from elsewhere, and without an input."""
+    with folder("proved") as it:
+        words = ["drill", "a b", "", "*", "--x=1"]
+        same("words", it.run(*words), Came(0, "drill a b  * --x=1\n", ""))
+        same("input", it.run("pipe", "cat", input="one\ntwo"), Came(0, "one\ntwo", ""))
+        for status in (0, 1, 3, 13):
+            same("status", it.run("pipe", "status", str(status), "--rules"), Came(status, "", ""))
+        same("its refusal", it.run("pipe", "bad"), Came(2, "", REFUSED + lines_of()))
+        link = it.top / "elsewhere/linked"
+        link.parent.mkdir()
+        link.symlink_to("../kubeconv")
+        ran = subprocess.run(["./linked", "drill", "1"], cwd=link.parent, env=it.env, stdout=subprocess.PIPE, text=True, timeout=PATIENCE)
+        same("by a link", (ran.returncode, ran.stdout), (0, "drill 1\n"))
+        closed = subprocess.run(["sh", "-c", 'exec "$0" pipe cat <&-', it.top / "kubeconv"], env=it.env, stdout=subprocess.PIPE, text=True, timeout=PATIENCE)
+        same("no input", (closed.returncode, closed.stdout), (0, ""))
+
+
+def tells_kinds() -> None:
+    """A program that isn't proved says so on each run; the first one has the other made behind it."""
+    for kind in ("first", "compiled"):
+        with folder(kind) as it:
+            same(kind, it.run("drill", "1"), Came(0, "drill 1\n", UNPROVED))
+            if kind == "first":
+                until(lambda: it.asked() == ["compile.py --behind"], "the other program")
+            same("asked", it.asked(), ["compile.py --behind"] if kind == "first" else [])
+
+
+def builds() -> None:
+    """Where no program stands one is compiled, and proved where that fails, but not where it was interrupted; without rt nothing is tried."""
+    compiled, proved = "compile.py --first", "build.py --log {}/out/build.log"
+    with folder() as it:
+        same("compiled", it.run("drill", "1"), Came(0, "drill 1\n", UNPROVED))
+        same("asked", it.asked()[0], compiled)
+    with folder(fails=1) as it:
+        came = it.run("drill", "1")
+        same("proved", (came.status, came.output), (0, "drill 1\n"))
+        same("asked", it.asked(), [compiled, proved.format(it.top)])
+    with folder(fails=143) as it:
+        same("interrupted", it.run("drill", "1"), Came(143, "", ""))
+        same("asked", it.asked(), [compiled])
+    with folder() as it:
+        for name in ("dirname", "readlink", "sed", "find", "sort", "sha256sum", "grep", "cut", "touch", "mv", "rm", "mkdir", "cat", "git", "setpriv", "echo", "python3"):
+            found = shutil.which(name)
+            if found:
+                (it.top / "bin" / name).symlink_to(found)
+        (it.top / "bin/rt").unlink()
+        it.env["PATH"] = f"{it.top}/bin"
+        came = it.run("drill", "1")
+        same("without rt", (came.status, came.output, came.errors.count("\n"), it.asked()), (1, "", 1, []))
+
+
+def ends() -> None:
+    """What ends the launcher ends the program, and the status tells the signal."""
+    for number in (signal.SIGTERM, signal.SIGHUP, signal.SIGINT, signal.SIGKILL):
+        if number == signal.SIGKILL and not shutil.which("setpriv"):
+            continue
+        with folder("proved") as it, it.started("serve", "wait") as launched:
+            assert launched.stdout is not None
+            pid = int(launched.stdout.readline())
+            launched.send_signal(number)
+            status = launched.wait(PATIENCE)
+            same(f"the status by {number!r}", status, -number if number == signal.SIGKILL else 128 + signal.SIGTERM)
+            until(lambda: is_gone(pid), f"the program's end by {number!r}")
+
+
+def on_terminal(words: List[str], env: Dict[str, str]) -> Tuple[int, str]:
+    """The status of a run whose standard error is a terminal, and what it told there."""
+    at, terminal = pty.openpty()
+    try:
+        ran = subprocess.run(words, env=env, stdin=subprocess.DEVNULL, stdout=subprocess.DEVNULL, stderr=terminal, timeout=PATIENCE)
+        os.write(terminal, b"\0")
+        told = b""
+        while not told.endswith(b"\0"):
+            told += os.read(at, 4096)
+        return ran.returncode, told[:-1].decode().replace("\r\n", "\n")
+    finally:
+        os.close(at)
+        os.close(terminal)
+
+
+def hints() -> None:
+    """On a terminal a refusal of a definition or rules is followed by what explains it, and nothing else is."""
+    with folder("proved") as it:
+        launcher = str(it.top / "kubeconv")
+        same("a refusal", on_terminal([launcher, "pipe", "status", "3", "--crd=a", "--rules", "b"], it.env), (3, HINT))
+        same("one without rules", on_terminal([launcher, "pipe", "status", "3", "--crd=a"], it.env), (3, ""))
+        same("another status", on_terminal([launcher, "pipe", "status", "4", "--rules", "b"], it.env), (4, ""))
+
+
+def short() -> None:
+    """The launcher is a page."""
+    count = len((TOP / "kubeconv").read_text().splitlines())
+    if count > 60:
+        raise Wrong(f"the launcher has {count} lines, at most 60")
+
+
+def main() -> int:
+    """Looks at each thing."""
+    wrong = 0
+    for look in (short, no_line, helps, versions, passes_on, tells_kinds, builds, ends, hints):
+        try:
+            look()
+            print(f"ok     {look.__name__}: {(look.__doc__ or '').splitlines()[0]}", flush=True)
+        except (Wrong, OSError, ValueError, subprocess.SubprocessError) as it:
+            wrong += 1
+            print(f"wrong  {look.__name__}: {it}", file=sys.stderr, flush=True)
+    return int(bool(wrong))
 
 
 if __name__ == "__main__":
-    main()
+    sys.exit(main())

@@ -30,17 +30,21 @@ import sys
 import tempfile
 import threading
 import time
+from types import FrameType
+from typing import IO, Dict, Iterator, List, Optional, Tuple
 
 import kept
 
 TOP = os.path.dirname(os.path.dirname(os.path.realpath(__file__)))
 PROGRAM = "kubeconv"
 PARTS = ("src", "specs", "proofs")
+# The file that what rt says goes to, where it isn't standard output.
+Log = Optional[IO[bytes]]
 # The memory that one build may take, so that fewer are begun where less is free.
 BUILD_BYTES = 2_500_000_000
 
 
-def listed():
+def listed() -> Dict[str, List[str]]:
     """Returns the libraries of this repository that each crate of crates.txt names."""
     named = {}
     with open(f"{TOP}/crates.txt") as it:
@@ -51,11 +55,11 @@ def listed():
     return {crate: [it for it in names if it in named] for crate, names in named.items()}
 
 
-def lowest_first(crates, named):
+def lowest_first(crates: List[str], named: Dict[str, List[str]]) -> List[str]:
     """Returns the crates and all below them, each behind those below it."""
-    found = []
+    found: List[str] = []
 
-    def visit(crate):
+    def visit(crate: str) -> None:
         for it in named[crate]:
             visit(it)
         if crate not in found:
@@ -66,7 +70,7 @@ def lowest_first(crates, named):
     return found
 
 
-def work_of(crate):
+def work_of(crate: str) -> int:
     """Returns a guess of the work: each crate reads the libraries below it, and then proves its own lines."""
     lines = 0
     for part in PARTS:
@@ -77,16 +81,16 @@ def work_of(crate):
     return 1_000 + lines
 
 
-def chains(order, named):
+def chains(order: List[str], named: Dict[str, List[str]]) -> Dict[str, int]:
     """Returns how much work each crate and the longest chain above it have."""
-    behind = {}
+    behind: Dict[str, int] = {}
     for crate in reversed(order):
         above = [behind[it] for it in order if crate in named[it] and it in behind]
         behind[crate] = work_of(crate) + max(above, default=0)
     return behind
 
 
-def places():
+def places() -> int:
     """Returns how many builds may go on at once."""
     found = len(os.sched_getaffinity(0))
     try:
@@ -98,7 +102,7 @@ def places():
     return found
 
 
-def sweep():
+def sweep() -> None:
     """Removes the copies, and the libraries put somewhere in part, that a run left which was killed."""
     for it in glob.glob(f"{tempfile.gettempdir()}/kubeconv-build-*") + glob.glob(f"{TOP}/crates/*/out/rlib.*"):
         of = re.search(r"(?:/kubeconv-build-(\d+)-[^/]*|/rlib\.(\d+))$", it)
@@ -107,7 +111,7 @@ def sweep():
 
 
 @contextlib.contextmanager
-def alone_in(crates):
+def alone_in(crates: List[str]) -> Iterator[None]:
     """Waits until no other rt works in these crates' folders here, as rt itself does, and keeps others out."""
     with contextlib.ExitStack() as held:
         for folder in sorted(f"{TOP}/crates/{it}" for it in crates):
@@ -123,7 +127,7 @@ def alone_in(crates):
         yield
 
 
-def copy_to(to, crates):
+def copy_to(to: str, crates: List[str]) -> None:
     """Copies what these crates are made of, and their lines: rt wants a folder for each crate that crates.txt names."""
     os.mkdir(to)
     shutil.copy2(f"{TOP}/HANDLES", f"{to}/HANDLES")
@@ -137,7 +141,7 @@ def copy_to(to, crates):
                 shutil.copytree(f"{TOP}/crates/{crate}/{part}", f"{to}/crates/{crate}/{part}")
 
 
-def stamp_of(at, crate):
+def stamp_of(at: str, crate: str) -> Optional[str]:
     """Returns what rt wrote beside a library that it built: a sum of the text that it was built of. None where there is no library."""
     try:
         with open(f"{at}/crates/{crate}/out/rlib/stamp") as it:
@@ -146,7 +150,7 @@ def stamp_of(at, crate):
         return None
 
 
-def link_or_copy(of, to):
+def link_or_copy(of: str, to: str) -> None:
     """Gives a file of a library a second name, as rt does, which writes into no library that stands; or copies it to another disk."""
     try:
         os.link(of, to)
@@ -154,7 +158,7 @@ def link_or_copy(of, to):
         shutil.copy2(of, to)
 
 
-def give(crate, of, to):
+def give(crate: str, of: str, to: str) -> None:
     """Gives a library that stands in one copy to another, where it isn't there yet. It stands there whole or not at all."""
     stamp, out = stamp_of(of, crate), f"{to}/crates/{crate}/out"
     if stamp is None or stamp == stamp_of(to, crate):
@@ -170,19 +174,21 @@ def give(crate, of, to):
 class Builds:
     """The builds that go on, and in which copy each library stands that does."""
 
-    def __init__(self, order, named, log):
+    def __init__(self, order: List[str], named: Dict[str, List[str]], log: Log) -> None:
         self.order, self.named, self.log = order, named, log
         self.behind = chains(order, named)
         self.changed = threading.Condition()
-        self.left, self.running, self.stand, self.has_failed = list(order), {}, {}, False
+        self.left, self.has_failed = list(order), False
+        self.running: Dict[str, Optional["subprocess.Popen[bytes]"]] = {}
+        self.stand: Dict[str, str] = {}
         self.began = time.monotonic()
 
-    def ready(self):
+    def ready(self) -> List[str]:
         """Returns the crates that could be begun now, those with the longest chain above them first."""
         found = [it for it in self.left if all(below in self.stand for below in self.named[it])]
         return sorted(found, key=lambda it: -self.behind[it])
 
-    def take(self):
+    def take(self) -> Optional[Tuple[str, bool]]:
         """Returns the next crate to build and whether no other could be built beside it, or None where nothing is left to begin."""
         with self.changed:
             while self.left and not self.has_failed:
@@ -196,7 +202,7 @@ class Builds:
                 self.changed.wait()
             return None
 
-    def build(self, crate, is_alone, at):
+    def build(self, crate: str, is_alone: bool, at: str) -> int:
         """Builds one library in a copy, where it doesn't stand here already. Only the library is left of it."""
         for it in lowest_first([crate], self.named)[:-1]:
             give(it, self.stand[it], at)
@@ -214,7 +220,7 @@ class Builds:
             give(crate, at, TOP)
         return status
 
-    def work(self, at):
+    def work(self, at: str) -> None:
         while (found := self.take()) is not None:
             crate, is_alone = found
             began = time.monotonic()
@@ -231,12 +237,12 @@ class Builds:
                         self.tell(crate, began)
                     self.changed.notify_all()
 
-    def tell(self, crate, began):
+    def tell(self, crate: str, began: float) -> None:
         left, now = len(self.order) - len(self.stand), time.monotonic()
         after = f"after {(now - self.began) / 60:.1f} minutes" if now - began >= 5 else "taken as it stands"
         print(f"kubeconv: {crate} stands, {after}; {left} left", file=sys.stderr, flush=True)
 
-    def stop(self):
+    def stop(self) -> None:
         """Ends the builds that go on."""
         with self.changed:
             self.has_failed = True
@@ -249,7 +255,7 @@ class Builds:
             self.changed.notify_all()
 
 
-def side_by_side(order, named, log, room):
+def side_by_side(order: List[str], named: Dict[str, List[str]], log: Log, room: str) -> bool:
     """Builds the libraries, and returns whether all stand."""
     builds = Builds(order, named, log)
     copies = [f"{room}/{it}" for it in range(min(places(), len(order)))]
@@ -270,7 +276,7 @@ def side_by_side(order, named, log, room):
     return len(builds.stand) == len(order)
 
 
-def last(words, at, log):
+def last(words: List[str], at: str, log: Log) -> int:
     """Runs the last command in this copy, over what was built."""
     started = subprocess.Popen(words, cwd=at, stdin=subprocess.DEVNULL, stdout=log, stderr=subprocess.STDOUT, start_new_session=True)
     try:
@@ -284,11 +290,11 @@ def last(words, at, log):
         raise
 
 
-def interrupted(number, frame):
+def interrupted(number: int, _frame: Optional[FrameType]) -> None:
     raise KeyboardInterrupt(number)
 
 
-def build(crates, program, log):
+def build(crates: List[str], program: str, log: Log) -> int:
     named = listed()
     order = [it for it in lowest_first(crates or [program], named) if it != program or crates]
     sweep()
@@ -316,10 +322,11 @@ def build(crates, program, log):
         shutil.rmtree(room, ignore_errors=True)
 
 
-def main(words):
+def main(words: List[str]) -> int:
     for it in (signal.SIGINT, signal.SIGTERM, signal.SIGHUP):
         signal.signal(it, interrupted)
-    log, only = None, []
+    log: Log = None
+    only: List[str] = []
     if words[:1] == ["--log"] and len(words) > 1:
         log, words = open(words[1], "ab"), words[2:]
     if words[:1] == ["--only"] and len(words) > 1:

@@ -1,13 +1,14 @@
 #!/usr/bin/env python3
 """Holds the documents to their bounds, their links to what is there, and their marked commands to what the program prints.
 
-    python3 tools/check_documents.py                      bounds, links, and the lines of the launcher
-    python3 tools/check_documents.py --program PROGRAM    also the marked commands and the examples, by this program
+    python3 tools/check_documents.py                      bounds, links, and the functions of docs/POST.md
+    python3 tools/check_documents.py --program PROGRAM    also marked commands, the lines of docs/COMMANDS.md and the examples
 
 It prints a line for each thing that is wrong, and then ends with status 1.
 
 Bounds: a line of text has at most 110 columns, a line of a code block at most 160, and a row of a table, which can't be broken, at most
-300; in README.md each line has 110. LINES says how many lines a document has at most, and WORDS how many words a row of its tables.
+300; in README.md each line has 110. PAGES says how many lines and words a document has at most, WORDS how many words a row of its
+tables, ROWS how many rows a part of it. The words of OWN, which docs/GLOSSARY.md explains, stand in none of PLAIN.
 
 Links: each relative link leads to a file or folder that is there, and its `#anchor` to a heading there. Text in code isn't looked at.
 
@@ -34,8 +35,28 @@ import drill_model  # noqa: E402
 import walk  # noqa: E402
 
 TEXT, CODE, ROW = 110, 160, 300
-LINES = {"README.md": 130, "docs/GATE.md": 60, "docs/PERFORMANCE.md": 90, "docs/PROOF_COST.md": 50, "docs/PROMISES.md": 400, "bench/README.md": 30, "checks/README.md": 30}
-WORDS = {"docs/PROMISES.md": 40}
+PAGES = {
+    "README.md": (110, 740),
+    "CONTRIBUTING.md": (115, 1400),
+    "docs/API.md": (160, 2300),
+    "docs/ARCHITECTURE.md": (200, 2570),
+    "docs/COMMANDS.md": (280, 3050),
+    "docs/DECISIONS.md": (285, 4040),
+    "docs/GLOSSARY.md": (95, 1540),
+    "docs/OPERATORS.md": (140, 960),
+    "docs/PERFORMANCE.md": (65, 750),
+    "docs/POST.md": (45, 500),
+    "docs/PROMISES.md": (250, 6000),
+    "docs/RULES.md": (210, 2620),
+    "bench/README.md": (22, 275),
+    "checks/README.md": (20, 310),
+}
+WORDS = {"docs/PROMISES.md": 45}
+# The part of a document, by its heading, and how many rows its table has at most.
+ROWS = {"docs/GLOSSARY.md": ("## Words of ours", 40)}
+# Words of ours that these documents, for who doesn't read contracts, do without.
+OWN = re.compile(r"\b(?:birth|cells?|claims?|floor|honest|hub value|kept text|loose|pass|sealed|settle[sd]?|spans?|superseded|trim|tuples?)\b")
+PLAIN = ("README.md", "docs/COMMANDS.md", "docs/RULES.md", "docs/OPERATORS.md")
 # So many marked commands stand in these documents at least.
 MARKED = {"README.md": 1, "docs/COMMANDS.md": 3}
 MARK = re.compile(r"<!-- run(?:: (.*))? -->")
@@ -45,7 +66,7 @@ SHARED = ["--crd", "examples/crontabs.json", "--rules", "examples/crontabs.rules
 
 def documents():
     """The path of each document in the repository, and its lines with what each is."""
-    found = [TOP / "README.md", *TOP.glob("docs/*.md"), *TOP.glob("bench/*.md"), *TOP.glob("checks/*.md"), *TOP.glob("examples/**/*.md"), *TOP.glob("crates/*/*.md")]
+    found = [*TOP.glob("*.md"), *TOP.glob("docs/*.md"), *TOP.glob("bench/*.md"), *TOP.glob("checks/*.md"), *TOP.glob("examples/**/*.md"), *TOP.glob("crates/*/*.md")]
     return {str(it.relative_to(TOP)): kinds_of(it.read_text().split("\n")[:-1]) for it in sorted(found)}
 
 
@@ -75,8 +96,28 @@ def bounds(name, lines):
         words = len(line.replace("|", " ").split())
         if kind == "row" and words > WORDS.get(name, words):
             yield f"{name}:{number}: a row of {words} words, at most {WORDS[name]}"
-    if len(lines) > LINES.get(name, len(lines)):
-        yield f"{name}: {len(lines)} lines, at most {LINES[name]}"
+    for number, (line, kind) in enumerate(lines, 1):
+        own = OWN.search(line) if name in PLAIN and kind in ("text", "row") else None
+        if own:
+            yield f"{name}:{number}: {own[0]} is a word of ours"
+    most_lines, most_words = PAGES.get(name, (len(lines), None))
+    if len(lines) > most_lines:
+        yield f"{name}: {len(lines)} lines, at most {most_lines}"
+    words = sum(len(line.split()) for line, _ in lines)
+    if most_words and words > most_words:
+        yield f"{name}: {words} words, at most {most_words}"
+    heading, most_rows = ROWS.get(name, (None, 0))
+    if heading:
+        rows = rows_below(heading, lines)
+        if rows > most_rows:
+            yield f"{name}: {rows} rows below {heading}, at most {most_rows}"
+
+
+def rows_below(heading, lines):
+    """How many rows the first table behind a heading has, without its head."""
+    kinds = [kind for _, kind in lines[[line for line, _ in lines].index(heading) :]]
+    first = kinds.index("row")
+    return next((at for at, kind in enumerate(kinds[first:]) if kind != "row"), len(kinds) - first) - 2
 
 
 # ---- links
@@ -113,33 +154,48 @@ def links(name, lines, all_lines):
                 yield f"{name}: a link leads to {target}, and {of} has no such heading"
 
 
+# ---- the functions of docs/POST.md
+
+
+def functions(lines):
+    """The functions, written as `crate::function`, that their crates don't have."""
+    named = re.findall(r"\b([a-z_]+)::([a-z_]+)\b", "\n".join(line for line, _ in lines))
+    for crate, function in sorted(set(named)):
+        sources = "".join(it.read_text() for it in TOP.glob(f"crates/{crate}/src/**/*.rt"))
+        if not re.search(rf"\bfn {function}\b", sources):
+            yield f"docs/POST.md names {crate}::{function}, which isn't there"
+
+
 # ---- the lines of the program
 
-
-def launcher_lines():
-    """The lines of the program that the launcher knows, each as the names of its options, or its numbers."""
-    found = re.findall(r"^    (\w+)\) line='(.*)' ;;$", (TOP / "kubeconv").read_text(), re.M)
-    return {name: sorted(re.sub(r"[!+=].*", "", it) if it.startswith("--") else "N" for it in line.split()) for name, line in found}
-
-
-def document_lines(lines):
-    """The same of the first table of docs/COMMANDS.md."""
-    found = {}
-    for line, kind in lines:
-        told = re.match(r"\| `(\w+)([^`]*)` \|", line) if kind == "row" else None
-        if told and told[1] not in found:
-            words = told[2].replace("[", " ").replace("]", " ").split()
-            options = [it for it in words if it.startswith("--")]
-            found[told[1]] = sorted(options or ["N"] * len(words))
-    return found
+VALUES = {
+    "FILE": "/nowhere/file",
+    "VERSION": "v1",
+    "URL": "http://127.0.0.1:1/apis/example.com/v1/crontabs",
+    "ADDRESS": "127.0.0.1:0",
+    "N": "1",
+    "START": "1",
+    "COUNT": "1",
+}
 
 
-def differing_lines(all_lines):
-    """Where the launcher and docs/COMMANDS.md tell other lines."""
-    launched = launcher_lines()
-    told = {name: it for name, it in document_lines(all_lines["docs/COMMANDS.md"]).items() if name in launched or it}
-    if launched != told:
-        yield f"kubeconv and docs/COMMANDS.md tell other lines: {launched} and {told}"
+def lines_of_program(lines):
+    """The lines of the first table of docs/COMMANDS.md, with values, each with and without what may be left out."""
+    start = next(at for at, (line, _) in enumerate(lines) if line == "| line | does |")
+    for line, kind in lines[start + 2 :]:
+        if kind != "row":
+            return
+        words = re.match(r"\| `([^`]*)` \|", line)[1]
+        for shown in {re.sub(r"\[.*?\]", "", words), re.sub(r"[\[\]]", "", words)}:
+            yield [VALUES.get(word, word) for word in shown.split()]
+
+
+def refused_lines(lines, program):
+    """The lines of docs/COMMANDS.md that the program doesn't take for a line."""
+    for words in lines_of_program(lines):
+        ran = subprocess.run([program, *words], stdin=subprocess.DEVNULL, stdout=subprocess.DEVNULL, stderr=subprocess.DEVNULL, timeout=PATIENCE)
+        if ran.returncode == 2:
+            yield f"docs/COMMANDS.md tells a line that the program refuses: {' '.join(words)}"
 
 
 # ---- marked commands
@@ -280,8 +336,9 @@ def main():
     all_lines, wrong = documents(), []
     for name, lines in all_lines.items():
         wrong += [*bounds(name, lines), *links(name, lines, all_lines)]
-    wrong += differing_lines(all_lines)
+    wrong += functions(all_lines["docs/POST.md"])
     if program:
+        wrong += refused_lines(all_lines["docs/COMMANDS.md"], program)
         for name, lines in all_lines.items():
             wrong += marked(name, lines, program)
         wrong += [*of_rules(program), *of_examples(program)]

@@ -3,13 +3,13 @@
 
     python3 tools/check_promises.py
 
-Each row has a promise, its calls and clauses, its edits and a test. Told is, on standard error, with status 1:
+Each row has a promise; the crates that keep it with their calls and clauses, as `crate`: `call` (`clause`); its edits; and a test.
+Told is, on standard error, with status 1:
 
-- a call or a clause whose name the crates in bold above its row, and those that it names, don't have (where no crate is in bold,
-  any crate),
+- a row that names no crate, and a call or a clause whose name the crates of its row don't have,
 - an edit that no crate has in must-fail/, and one in must-fail/ that no row names,
 - a test that is no function, no case behind `# ` on the `stdin` of a program of cases, no crate, no file of proofs/, and no
-  function of a script that `.ci/run` runs over the proved program.
+  function of a script that `.ci/run` or tools/own_checks.py names.
 
 It says nothing of what a row promises: that is held against the clause by who writes it.
 """
@@ -38,9 +38,9 @@ class Tree:
             text = read(path)
             self.words[path.split("/")[1]].update(re.findall(r"\w+", text))
             self.functions.update(re.findall(r"\bfn (\w+)", text))
-        for script in re.findall(r"by_program (\S+\.py)", read(".ci/run")):
+        runs = "".join(read(path) for path in (".ci/run", "tools/own_checks.py") if os.path.exists(path))
+        for script in filter(os.path.exists, re.findall(r"[\w/]+\.py", runs)):
             self.functions.update(re.findall(r"^def (\w+)", read(script), re.MULTILINE))
-        self.every = set().union(*self.words.values())
         self.edits = {os.path.basename(path)[: -len(".edit")] for path in glob("crates/*/must-fail/*.edit")}
         cases = "\n".join(map(read, glob("crates/*/stdin")))
         self.heads = "\n".join(line for line in cases.split("\n") if line.startswith("#"))
@@ -51,7 +51,7 @@ class Tree:
         first, _, rest = name.partition("::")
         if first in self.words:
             return not rest or all(word in self.words[first] for word in rest.split("::"))
-        known = set().union(*(self.words[crate] for crate in crates)) if crates else self.every
+        known = set().union(*(self.words[crate] for crate in crates))
         return all(word in known for word in name.split("::"))
 
     def has_test(self, name):
@@ -61,23 +61,21 @@ class Tree:
         return re.search(rf"(?<!\w){re.escape(name)}(?!\w)", self.heads) is not None
 
 
-def rows(tree, document):
-    """Each row with the line that it stands in and the crates in bold above it."""
-    crates = []
+def rows(document):
+    """Each row with the line that it stands in; rows in bold are heads of what follows."""
     for number, line in enumerate(document.split("\n"), 1):
         cells = [cell.strip() for cell in line[1:-1].split("|")] if line.startswith("|") else []
-        if line.startswith("| **"):
-            names = [name.split("::")[0] for name in re.findall(r"`([\w:]+)`", line)]
-            crates = [name for name in names if name in tree.words]
-        elif len(cells) == 4 and cells[0] not in ("promise", "---"):
-            yield number, crates, cells
+        if len(cells) == 4 and cells[0] not in ("promise", "---") and not line.startswith("| **"):
+            yield number, cells
 
 
 def faults(tree, document):
     named = set()
-    for number, crates, (_, calls, edits, tests) in rows(tree, document):
+    for number, (_, calls, edits, tests) in rows(document):
         its = re.findall(r"`([\w:]+)`", calls)
-        within = crates and crates + [name.split("::")[0] for name in its if name.split("::")[0] in tree.words]
+        within = [name for name in its if name in tree.words]
+        if not within:
+            yield f"{number}: no crate is named"
         for name in its:
             if not tree.has_call(within, name):
                 yield f"{number}: {name} is no call or clause of {', '.join(within) or 'any crate'}"

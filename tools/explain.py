@@ -4,43 +4,26 @@ or what becomes of an object.
 
     python3 tools/explain.py KUBECONV CRD RULES CRD_NAME RULES_NAME [OBJECT VERSION]
 
-KUBECONV is a built kubeconv. CRD, RULES and OBJECT are files of JSON, and the names are those that faults are told by. ./explain hands them
-over. What is so is asked of kubeconv, and laid out here: `pipe` reads the two files, and ends with 0 over no input where they load, and else
-with 3 and a line that names the file, the path and the word of what is refused first. A fault is told only then, and that one first. The
-others are found by tools/find_faults.py.
+KUBECONV is a built kubeconv, which is asked what is so. CRD, RULES and OBJECT are files of JSON, and the names are those that faults are
+told by. ./explain hands them over.
 
 The status is 0 where there is no fault, 3 at a fault, 5 where a file can't be read, has more than 4194304 bytes or is no text, 6 where the
 output fails, and else kubeconv's.
 """
-import json
-import os
-import subprocess
+from __future__ import annotations
+
+import pathlib
 import sys
+from typing import List, Sequence, Tuple
 
-import find_faults
+from document_faults import Told
+from fault_texts import at, read
 from field_rows import rows
+from find_faults import UNREAD, Search
 from object_report import report
+from program_asks import FAULTY, UNREADABLE, Failed, Fault, Program
 
-FAULTY, REFUSED, UNREADABLE, WRITE_FAILED = 3, 4, 5, 6
-TOO_LONG = "TooLong"
-# What is said of a file that is no text of at most that length.
-UNREAD = (TOO_LONG, "NotText")
-# What is said of a fault by its word alone.
-WORDS = {
-    "NotJson": "the file isn't JSON, or has more than 127 levels; YAML is turned into JSON by tools/yaml2json.py",
-    "TooDeep": "the file has more than 100 levels of lists and objects",
-    "NotWhole": "a number has a fraction or an exponent, or is beyond 64 bits; numbers are whole here",
-    "Shape": "something isn't there, or isn't of its form",
-    "Unknown": "this name isn't taken here; leave it out",
-    "Limit": "a schema has at most 1024 nodes, of which none stands more than 32 deep",
-    "NameTwice": "two rules of a level name this field; keep one of them",
-    "NameMissing": "no schema has this name, or no rule has this field",
-    "SchemaDiffers": "the two schemas don't go together",
-    "UnpairedDefault": "a default has none at the other version that matches it, or a version can't take it over",
-    "RequiredLost": "the field is required, and the other version may not give it",
-    "RangeLost": "what goes over isn't taken by the other version's schema",
-}
-KEYWORD = "this keyword isn't taken, or isn't of its form; leave it out"
+WRITE_FAILED = 6
 # What is said of a status of the program.
 ENDS = {
     UNREADABLE: "a file can't be read, has more than 4194304 bytes, or is no text",
@@ -49,108 +32,54 @@ ENDS = {
 }
 
 
-class Failed(Exception):
-    """The program ended with a status of its own."""
-
-    def __init__(self, status):
-        super().__init__(f"status {status}")
-        self.status = status
-
-
-def named_apart(crd, rules):
-    """Names of the two files of which neither begins with a dash, and by which a line tells which of them it names."""
-    crd, rules = (os.path.abspath(it) for it in (crd, rules))
-    return {"crd": crd, "rules": os.path.join(os.path.dirname(rules), ".", os.path.basename(rules))}
-
-
-def first_fault(kubeconv, crd, rules):
-    """What kubeconv refuses first of two files, as its file, path and word, or nothing where they load."""
-    names = named_apart(crd, rules)
-    words = [kubeconv, "pipe", "--crd", names["crd"], "--rules", names["rules"]]
-    done = subprocess.run(words, stdin=subprocess.DEVNULL, capture_output=True)
-    if done.returncode == 0:
-        return None
-    line = done.stderr.decode("utf-8", "replace").removesuffix("\n").removeprefix("kubeconv: ")
-    for file, name in names.items():
-        if done.returncode == FAULTY and line.startswith(f"{name}: "):
-            path, _, word = line.removeprefix(f"{name}: ").rpartition(": ")
-            if word in UNREAD:
-                raise Failed(UNREADABLE)
-            return {"file": file, "path": path, "word": word}
-    raise Failed(done.returncode)
+def all_faults(program: Program, texts: List[str], names: Sequence[str]) -> List[Told]:
+    """All faults of two texts: what of them is no JSON, or is passed over, and what is refused of the documents; the first one first."""
+    first = program.first(*(it.encode() for it in texts))
+    documents, marks = zip(*map(read, texts))
+    if first and at(documents[0], "spokes") is not None and at(documents[1], "spec") is not None:
+        swapped = f"the two files are swapped: this one has the rules, and {names[1]} the definition"
+        return [Told(first, f"{swapped}; give --crd {names[1]} --rules {names[0]}")]
+    of_texts = [(file, name, it) for file, name, found in zip(("crd", "rules"), names, marks) for it in found]
+    told = [Told(Fault(file, it.path if it.word == "Duplicate" else "", it.word), it.said(name)) for file, name, it in of_texts]
+    told += Search(program, *documents).all() if first and None not in documents else []
+    found = [it for it in told if it.fault == first] or ([Told(first, UNREAD.get(first.word, "this isn't taken"))] if first else [])
+    return found[:1] + [it for it in told if it is not found[0]] if found else told
 
 
-class Conversions:
-    """What `kubeconv convert` says of objects by two files."""
-
-    def __init__(self, kubeconv, crd, rules):
-        self.words = [kubeconv, "convert", "--crd", crd, "--rules", rules, "--to"]
-
-    def ask(self, path, version):
-        with open(path, "rb") as file:
-            done = subprocess.run([*self.words, version], stdin=file, capture_output=True)
-        if done.returncode == REFUSED:
-            # its line is the last one: the launcher may have said before that the program isn't proved here
-            why = done.stderr.decode("utf-8", "replace").rstrip("\n").rpartition("\n")[2].removeprefix("kubeconv: ")
-            if why == TOO_LONG:
-                raise Failed(UNREADABLE)
-            return {"refused": why}
-        if done.returncode:
-            raise Failed(done.returncode)
-        return {"value": json.loads(done.stdout)}
+def lines(told: Told, names: Sequence[str]) -> str:
+    """A fault as it is told: what is refused, how it is mended, and what to paste."""
+    name = {"crd": names[0], "rules": names[1]}
+    edits = [(" and" * (i > 0), it) for i, it in enumerate(told.mends)] + [(" and" if i else " or", it) for i, it in enumerate(told.others)]
+    pastes = "".join(f"   {word} {name[it.file]}: {it.text}\n" for word, it in edits)
+    return f"{name[told.fault.file]}: {told.fault.path}: {told.fault.word}\n    {told.says}\n{pastes}"
 
 
-def split_first(first, found):
-    """What is said of the first fault, and the other faults: it is found by its path and word, or else as one of a part of what stands
-    at its path."""
-    alike = [it for it in found if (it["file"], it["word"]) == (first["file"], first["word"])]
-    same = [it for it in alike if it["path"] == first["path"]]
-    near = [it for it in alike if it["path"] and first["path"].startswith(it["path"])]
-    for it in (same + near)[:1]:
-        return it["says"], [other for other in found if other is not it]
-    return WORDS.get(first["word"], KEYWORD), found
-
-
-def faults(names, first, found):
-    """The faults as they are told, the first one first. Where the rules are refused the definition has none."""
-    says, others = split_first(first, found)
-    others = [it for it in others if it["file"] == "rules" or first["file"] == "crd"]
-    told = [{**first, "says": says}, *others]
-    lines = [f"{names[it['file'] == 'rules']}: {it['path']}: {it['word']}\n    {it['says']}\n" for it in told]
-    return "".join(lines) + f"{len(told)} fault{'s' * (len(told) != 1)}\n"
-
-
-def explained(kubeconv, crd, rules, names, *of_object):
+def explained(kubeconv: str, crd: str, rules: str, names: Sequence[str], *of_object: str) -> Tuple[str, int]:
     """What is told of two files, which have these names, or where an object's file and a version are given of that object; and the
     status."""
-    first = first_fault(kubeconv, crd, rules)
-    if first:
-        return faults(names, first, find_faults.find_in_files(crd, rules)), FAULTY
-    texts = [find_faults.text_of(it) for it in (crd, rules)]
-    documents = [find_faults.document(find_faults.Faults(), it) for it in texts]
-    if not of_object:
-        return rows(*documents), 0
-    return report(Conversions(kubeconv, crd, rules).ask, documents[0], *of_object), 0
-
-
-def is_put(text):
-    """Writes a text on standard output, and returns whether that was done."""
+    program = Program(kubeconv)
     try:
-        sys.stdout.buffer.write(text.encode("utf-8", "replace"))
-        sys.stdout.flush()
-    except OSError:
-        return False
-    return True
+        texts = [pathlib.Path(it).read_bytes().decode("utf-8") for it in (crd, rules, *of_object[:1])]
+    except (OSError, UnicodeDecodeError):
+        raise Failed(UNREADABLE) from None
+    told = all_faults(program, texts[:2], names)
+    if told:
+        return "".join(lines(it, names) for it in told) + f"{len(told)} fault{'s' * (len(told) != 1)}\n", FAULTY
+    documents = [read(it)[0] for it in texts[:2]]
+    return (report(program, *documents, texts[2], of_object[1], of_object[0]) if of_object else rows(program, *documents)), 0
 
 
-def main(kubeconv, crd, rules, crd_name, rules_name, *of_object):
+def main(kubeconv: str, crd: str, rules: str, crd_name: str, rules_name: str, *of_object: str) -> int:
+    text, status = "", 0
     try:
         text, status = explained(kubeconv, crd, rules, [crd_name, rules_name], *of_object)
+        sys.stdout.buffer.write(text.encode("utf-8", "replace"))
+        sys.stdout.flush()
     except Failed as it:
-        text, status = "", it.status
-    if not is_put(text):
-        status = WRITE_FAILED
-    if status and (status != FAULTY or not text):
+        status = it.status
+    except OSError:
+        status, text = WRITE_FAILED, ""
+    if status and not text:
         print(f"explain: {ENDS.get(status, f'the program ended with status {status}')}", file=sys.stderr)
     return status
 

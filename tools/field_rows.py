@@ -1,86 +1,97 @@
 """What the rules of a definition that loads do with each field: for each version but the hub a row a field. It is no command:
 tools/explain.py tells the rows.
 """
-from default_faults import Spokes, hub_default, own_default
-from fault_texts import Faults, alike, shown
-from fit_faults import HUB, SPOKE, levels_inside
+from __future__ import annotations
+
+from typing import Any, Dict, Iterator, List
+
+from fault_texts import alike, at, shown
+from program_asks import Program
+from schemas import HUB, ONLY, SIDES, SPOKE, Level, Rule, kind_of, levels, names_of, root_level
 
 PATH_WIDTH, RULE_WIDTH = 32, 12
-ONLY = "never shown at {}; kept there"
 
 
-def column(text, width):
+def column(text: str, width: int) -> str:
     return text + " " * (max(width - len(text.encode("utf-8", "replace")), 0) + 1)
 
 
-def row(mark, spoke, rule, hub, kept):
+def row(mark: str, spoke: str, rule: str, hub: str, kept: str) -> str:
     """A line: the mark, the path at the spoke, the rule, the path at the hub, and what is kept."""
     return mark + column(spoke, PATH_WIDTH) + column(rule, RULE_WIDTH) + column(hub, PATH_WIDTH) + kept
 
 
-def paths(level, rule, side):
-    """The names of a rule at a side, each behind the path."""
-    return ", ".join(level.paths[side] + it.name for it in rule.spots if it.side == side) or "-"
-
-
-def blank(value):
-    return "no field" if value is None else shown(value)
-
-
-def kept(rule, spoke, hub):
+def kept(rule: Rule, spoke: str, hub: str) -> str:
     """What is kept of the fields of a rule, by the names of the two versions."""
-    if rule.kind == "same":
+    kind = kind_of(rule)
+    v = rule[kind]
+    if kind == "same":
         return "nothing is kept"
-    if rule.kind in ("spokeOnly", "hubOnly"):
-        return ONLY.format(hub if rule.kind == "spokeOnly" else spoke)
-    if rule.kind == "split":
+    if kind == "object":
+        return "as its fields, below"
+    if kind in ONLY:
+        return "never shown at {}; kept there".format(hub if kind == "spokeOnly" else spoke)
+    if kind == "split":
         one = f"cut at the last colon; a text without one is not shown at {hub} and kept there"
         return f"{one}; one part alone, or a colon in the second, is not shown at {spoke} and kept there"
-    if rule.kind == "scale":
-        by = rule.value["by"]
-        return f"times {by}; what is no multiple at {hub} is shown at {spoke} rounded down, and kept there"
-    pairs, ours, theirs = len(rule.value["pairs"]), blank(rule.value["spokeBlank"]), blank(rule.value["hubBlank"])
-    one = f"{pairs} pairs; another value of {spoke} is shown at {hub} as {theirs} and kept there"
+    if kind == "scale":
+        return f"times {v['by']}; what is no multiple at {hub} is shown at {spoke} rounded down, and kept there"
+    ours, theirs = ("no field" if v[it] is None else shown(v[it]) for it in ("spokeBlank", "hubBlank"))
+    one = f"{len(v['pairs'])} pairs; another value of {spoke} is shown at {hub} as {theirs} and kept there"
     return f"{one}, one of {hub} at {spoke} as {ours} and kept there"
 
 
-def where_absent(spokes, level, rule):
-    """What the field at the hub is set to in an object that lacks it, where the two versions don't say it by defaults that are a pair."""
-    own, hub, filled = own_default(level, rule), hub_default(level, rule), spokes.filled(level, rule)
-    if alike(own, hub) and (own or not filled):
+def unrequired(value: Any) -> Any:
+    """A definition in which no field of an object is required."""
+    if isinstance(value, list):
+        return [unrequired(it) for it in value]
+    if not isinstance(value, dict):
+        return value
+    return {name: unrequired(it) for name, it in value.items() if name != "required" or not isinstance(it, list)}
+
+
+def filled(program: Program, crd: Any, rules: Any, root: Level, side: int) -> Any:
+    """What the program makes at the hub of an object of a side that has no field but the objects around fields."""
+    spec = crd["spec"]
+    body: Dict[str, Any] = {"apiVersion": f"{spec['group']}/{root.versions[side]}", "kind": spec["names"]["kind"], "metadata": {}}
+    for level in levels(root):
+        node = body
+        for step in level.steps[side]:
+            node = node.setdefault(step, {})
+    return program.convert(unrequired(crd), rules, body, root.versions[HUB])[0]
+
+
+def where_absent(level: Level, rule: Rule, bodies: List[Any]) -> str:
+    """What the hub's field is set to in an object that lacks it."""
+    own, of_spoke = ([at(bodies[side], *level.steps[HUB], name) for where, name in names_of(rule) if where == HUB] for side in (HUB, SPOKE))
+    if kind_of(rule) == "object" or own == of_spoke == [None] * len(own):
         return ""
-    says = f"; where it isn't there, {level.versions[HUB]} gets {shown(filled[0])}"
-    if not own or alike(own, filled):
-        return says
-    return f"{says}, and {shown(own[0])} by an object of {level.versions[SPOKE]}"
+    says = f"; where it isn't there, {level.versions[HUB]} gets {shown(own[0])}"
+    return says if alike(own, of_spoke) else f"{says}, and {shown(of_spoke[0])} by an object of {level.versions[SPOKE]}"
 
 
-def cell_row(spokes, level, rule):
-    spoke, hub = paths(level, rule, SPOKE), paths(level, rule, HUB)
-    mark = "! " if rule.kind in ("spokeOnly", "hubOnly") else "  "
-    word = "-" if rule.kind == "same" and spoke == hub else rule.kind
-    return row(mark, spoke, word, hub, kept(rule, *level.versions) + where_absent(spokes, level, rule))
+def rule_row(level: Level, rule: Rule, bodies: List[Any]) -> str:
+    kind = kind_of(rule)
+    spoke, hub = (", ".join(level.paths[side] + name for where, name in names_of(rule) if where == side) or "-" for side in SIDES)
+    word = "-" if kind == "same" and spoke == hub else kind
+    return row("! " if kind in ONLY else "  ", spoke, word, hub, kept(rule, *level.versions) + where_absent(level, rule, bodies))
 
 
-def spoke_rows(spokes, level):
-    """The rows of a spoke, whose first level this is: the fields of a level, and then those inside its objects."""
-    spoke, hub = level.versions
+def spoke_rows(program: Program, crd: Any, rules: Any, root: Level) -> Iterator[str]:
+    """The rows of a spoke: the fields of a level, and then those inside its objects."""
+    spoke, hub = root.versions
     there = f"What {hub} can't show stands there in the annotation spoke.kubeconv.local/{spoke}"
     yield ""
     yield f"{spoke} (spoke) and {hub} (hub). {there}, what {spoke} can't show there in hub.kubeconv.local/kept"
     yield row("  ", spoke, "rule", hub, "kept")
-    levels = [level]
-    while levels:
-        level = levels.pop()
-        for rule in level.cells():
-            yield cell_row(spokes, level, rule)
-        for rule in level.rules:
-            if rule.kind == "object":
-                yield row("  ", paths(level, rule, SPOKE), "object", paths(level, rule, HUB), "as its fields, below")
-        levels += reversed(list(levels_inside(level)))
+    bodies = [filled(program, crd, rules, root, side) for side in SIDES]
+    for level in levels(root):
+        for rule in sorted(level.all_rules(), key=lambda it: kind_of(it) == "object"):
+            yield rule_row(level, rule, bodies)
 
 
-def rows(crd, rules):
+def rows(program: Program, crd: Any, rules: Any) -> str:
     """What is told of the rules of a definition, two documents that load."""
-    spokes = Spokes(Faults(), crd["spec"]["versions"], rules)
-    return "".join(f"{line}\n" for level in spokes.roots for line in spoke_rows(spokes, level))
+    names = [v["name"] for v in crd["spec"]["versions"] if v["name"] != rules["hub"]]
+    roots = [root_level(crd, rules, name) for name in names]
+    return "".join(f"{line}\n" for root in roots for line in spoke_rows(program, crd, rules, root))

@@ -1,392 +1,325 @@
-"""All faults of one spoke's rules, held against the schemas of its version and of the hub. It is no command: tools/find_faults.py finds
-faults by it, and tools/default_faults.py those of all spokes together.
+"""What is said of rules that don't fit their schemas, and how they are mended. It is no command: tools/find_faults.py tells faults by it.
 
-It goes over the levels as loading does: a level whole before those inside it, and at a level the reasons in one order; but it goes on
-behind the first fault. A rule that names what isn't there is told of that alone.
+The program says what doesn't fit, by its path and its word. Here the rule is found that stands there. Then mends are tried, the likely ones
+first, until the program takes one; so what is told to be pasted was taken.
 """
-from fault_texts import alike, is_whole, meant, shown
-from schemas import are_alike, differences, fault
+from __future__ import annotations
 
-SPOKE, HUB = 0, 1
-MOST_PAIRS = 2_000
-INT64 = (-(2**63), 2**63 - 1)
+import re
+from itertools import islice
+from typing import Any, Callable, Dict, Iterator, List, Optional, Tuple
+
+from document_faults import Told, why_not
+from fault_texts import Document, Edit, alike, nearest, shown
+from program_asks import Fault, Program
+from schemas import (HUB, OF_OBJECT, ONLY, PASSED, SIDES, SPOKE, Level, Node, Rule, Spot, differences, draft, fits, kept, kind_of, levels,
+                     names_of, wider, with_names)  # fmt: skip
+
+MOST_TRIED = MOST_TOLD = 6
+INT32, INT64 = (-(2**31), 2**31 - 1), (-(2**63), 2**63 - 1)
 BLANKS = ("spokeBlank", "hubBlank")
+PLAIN = ["enum", "maxLength", "minLength"]
+UNITS = (1000, 60, 3600, 1000000, 1000000000, 1024, 24, 86400, 100)
+KEPT = "keep the fields at both sides: then neither is shown at the other version"
+GO_OVER = "`metadata`, `apiVersion` and `kind` go over by themselves, and no rule names them; take the rule out"
+# What the rules of each kind take.
+TAKES = {
+    "": "fields without a rule, as by `same`, have equal schemas, and both are required or neither",
+    "same": "`same` takes equal schemas, and both required or neither",
+    "object": "`object` takes two objects with `properties` and nothing beside, without a default, and both required or neither",
+    "split": "`split` takes texts with no keyword beside `type`, of which none is required",
+    "table": "`table` takes values of both schemas, each once; defaults are a pair, and then, or where it is required, no blank is null",
+    "scale": "`scale` takes whole numbers, and at the hub the bounds of the spoke times `by`",
+    **{it: "what is kept at one side has no default there, and isn't required" for it in ONLY},
+}
 
 
-class Spot:
-    """A name at a side."""
+class Case:
+    """A fault of a spoke's rules, with the level and the rule, if any, and the names that it is about."""
 
-    def __init__(self, side, name):
-        self.side, self.name = side, name
+    def __init__(self, program: Program, crd: Document, rules: Document, root: Level, fault: Fault) -> None:
+        self.program, self.crd, self.rules, self.root, self.fault = program, crd, rules, root, fault
+        every = [(level, rule, names_of(rule)) for level in levels(root) for rule in level.rules or []]
+        found: List[Tuple[Level, Any, List[Spot]]] = [it for it in every if self.is_of(it[0], it[2])]
+        for level in [] if found else levels(root):
+            spots = [(side, fault.path[len(level.paths[side]) :]) for side in SIDES if fault.path.startswith(level.paths[side])]
+            spots = [it for it in spots if it[1] in level.free(it[0]) or level.is_required(*it) and not level.node(*it)]
+            # a rule at another level may be meant for the name
+            found += [it for it in every for spot in spots if spot in it[2] and not any(it[0].node(*name) for name in it[2])]
+            found += [(level, None, spots)] if spots else []
+        self.level, self.rule, self.spots = found[0] if found else (root, None, [])
+        self.kind = kind_of(self.rule)
 
+    def with_others(self) -> List[Fault]:
+        """The fault, and those of the other names of its level without a rule, where it is of one."""
+        others = [level.paths[side] + it for level in [self.level] for side in SIDES for it in level.unpaired(side)]
+        is_free = self.rule is None and self.fault.word == "NameMissing"
+        return [self.fault, *(Fault("rules", it, "NameMissing") for it in others if is_free and it != self.fault.path)]
 
-class Rule:
-    """A rule with its place in its list, and its names: at the spoke and at the hub, and of a split the second at the hub."""
+    def is_of(self, level: Level, names: List[Spot]) -> bool:
+        """Whether the fault is of a rule: NameTwice and NameMissing of one with the name, others of one whose first name it is."""
+        near = names if self.fault.word in ("NameTwice", "NameMissing") else names[:1]
+        found = [it for it in near if level.paths[it[0]] + it[1] == self.fault.path]
+        return any(self.fault.word != "NameMissing" or not level.node(*it) for it in found)
 
-    def __init__(self, place, rule):
-        ((self.kind, self.value),) = rule.items()
-        self.place = place
-        self.spots = [Spot(side, name) for side, name in self.named()]
-        self.is_two = self.kind in ("same", "object", "split", "table", "scale")
+    def takes(self, *rules: Rule, level: Optional[Level] = None) -> bool:
+        return bool(rules) and fits(self.program, level or self.level, list(rules))
 
-    def named(self):
-        v = self.value
-        if self.kind == "split":
-            return [(SPOKE, v["spoke"]), (HUB, v["hub"][0]), (HUB, v["hub"][1])]
-        if self.kind in ("spokeOnly", "hubOnly"):
-            return [(SPOKE if self.kind == "spokeOnly" else HUB, v)]
-        names = v if self.kind == "same" else v["names"]
-        return [(SPOKE, names[0]), (HUB, names[1])]
+    def nodes(self) -> List[Node]:
+        return [self.level.node(*it) or {} for it in self.spots]
 
-    def has(self, side, name):
-        return any(it.side == side and it.name == name for it in self.spots)
+    def instead(self, *new: Rule) -> List[Edit]:
+        """New rules in the place of the one, or at the end where there is none."""
+        rules = self.level.rules if self.level.rules is not None else []
+        return [self.rules.add(rules, list(new)) if self.rule is None else self.rules.swap(rules, self.rule, list(new))]
 
+    def why(self) -> str:
+        """What is wrong."""
+        level, word, two = self.level, self.fault.word, self.nodes()
+        if word == "NameTwice" or self.kind == "move":
+            return f"`{self.fault.path}` is named twice" if word == "NameTwice" else "there is no rule `move`"
+        if word == "NameMissing" and self.rule is None:
+            (side, name), = self.spots[:1]
+            return f"no rule has {level.of(side, name)}, and {level.versions[1 - side]} has no field of that name that is free"
+        if word == "NameMissing":
+            absent = [it for it in self.spots if not level.node(*it)]
+            return " and ".join(f"{level.versions[side]} has no `{level.paths[side]}{name}`" for side, name in absent)
+        found = list(islice(differences(level.versions, *two), MOST_TOLD)) if len(two) == 2 and self.kind in ("", "same") else []
+        if word == "SchemaDiffers" and found:
+            return f"the two schemas differ: {'; '.join(found)}"
+        facts = [f"{level.of(*it)} is {shown(node)}{' and required' * level.is_required(*it)}" for it, node in zip(self.spots, two)]
+        return f"{TAKES[self.kind]}: {', '.join(facts)}"
 
-class Level:
-    """A level of rules at both sides: the versions, the paths that lead to it, the schemas, and the place of its rules and these."""
-
-    def __init__(self, faults, versions, paths, schemas, place, lines):
-        self.faults, self.versions, self.paths, self.schemas, self.place = faults, versions, paths, schemas, place
-        self.rules = [Rule(i, it) for i, it in enumerate(lines)]
-
-    def is_ruled(self, side, name):
-        return any(rule.has(side, name) for rule in self.rules)
-
-    def cells(self):
-        """The rules of fields that aren't opened, and one for each name that no rule has and that goes over as it is."""
-        there = self.schemas[HUB]
-        names = [it for it in self.schemas[SPOKE].properties if not self.is_ruled(SPOKE, it) and not self.is_ruled(HUB, it)]
-        free = [Rule(None, {"same": [name, name]}) for name in names if there.field(name)]
-        return [rule for rule in self.rules if rule.kind != "object"] + free
-
-    def node(self, spot):
-        return self.schemas[spot.side].field(spot.name)
-
-    def is_required(self, spot):
-        return spot.name in self.schemas[spot.side].required
-
-    def of(self, spot):
-        """The name with its path and its version."""
-        return f"`{self.paths[spot.side]}{spot.name}` of {self.versions[spot.side]}"
-
-    def tell(self, word, says, spot, rule=None):
-        """Tells a fault at a name of a side: of a rule, or of none."""
-        where = f"{self.place}[{rule.place}] ({rule.kind})" if rule else f"{self.versions[SPOKE]} and {self.versions[HUB]}"
-        self.faults.tell(self.paths[spot.side] + spot.name, word, f"{where}: {says}")
-
-    def tell_rule(self, word, says, rule):
-        """Tells a fault of a whole rule, which stands at its first name."""
-        self.tell(word, says, rule.spots[0], rule)
+    def told(self, says: str, mends: List[Edit], others: Optional[List[Edit]] = None) -> Told:
+        """The fault as it is told: the rule's place, the versions, what is wrong, and what may be done."""
+        place = self.rules.of(self.level.rules) if self.rule is None else f"{self.rules.of(self.rule)} ({self.kind})"
+        way = f"{self.level.versions[SPOKE]} to {self.level.versions[HUB]}"
+        return Told(self.fault, f"{place}, {way}: {self.why()}; {says}", mends, others or [])
 
 
-# ---- names
-
-def twice(level, rule):
-    """Names of the rule that a later one of the level has too."""
-    for spot in rule.spots:
-        later = [it for it in level.rules[rule.place + 1 :] if it.has(spot.side, spot.name)]
-        if later:
-            there = f"{level.place}[{later[0].place}]"
-            says = f"`{spot.name}` of {level.versions[spot.side]} is also named by {there}; keep one of the two rules"
-            level.tell("NameTwice", says, spot, rule)
-        if spot.side == SPOKE and rule.kind == "split" and rule.spots[1].name == rule.spots[2].name:
-            level.tell("NameTwice", "the two names under `hub` are one; name two fields", rule.spots[1], rule)
+# ---- rules of other names, or at other levels
 
 
-def absent(level, rule):
-    """Names of the rule that its schemas don't have."""
-    for spot in rule.spots:
-        if not level.node(spot):
-            path = level.paths[spot.side] + spot.name
-            near = meant(spot.name, level.schemas[spot.side].properties)
-            says = f"the schema of {level.versions[spot.side]} has no `{path}`{near}"
-            level.tell("NameMissing", says, spot, rule)
+def reversed_names(rule: Any) -> List[Rule]:
+    """A rule with its names the other way round, as a list of none or one."""
+    kind = kind_of(rule)
+    if kind in ONLY:
+        return [{ONLY[1 - ONLY.index(kind)]: rule[kind]}]
+    return [with_names(rule, [name for _, name in names_of(rule)][::-1])] if kind not in ("", "split") else []
 
 
-def unpaired(level, side):
-    """Names of a side that no rule has, and that aren't free at the other: it has them, and no rule there."""
-    there = level.schemas[1 - side]
-    version, other = level.versions[side], level.versions[1 - side]
-    for name in level.schemas[side].properties:
-        is_free = there.field(name) and not level.is_ruled(1 - side, name)
-        if is_free or level.is_ruled(side, name):
-            continue
-        if there.field(name):
-            why = f"the `{name}` of {other} belongs to another rule"
-        else:
-            why = f"{other} has no field of that name{meant(name, there.properties)}"
-        pair = f'"{name}", FIELD' if side == SPOKE else f'FIELD, "{name}"'
-        alone = "spokeOnly" if side == SPOKE else "hubOnly"
-        cure = f'{{"same": [{pair}]}} where {other} calls it FIELD, or {{"{alone}": "{name}"}}'
-        says = f"no rule has `{name}` of {version}, and {why}; write a rule into {level.place}, as {cure}"
-        level.tell("NameMissing", says, Spot(side, name))
+def turned(case: Case) -> Iterator[Told]:
+    """The names, the pairs or both the other way round."""
+    tries = reversed_names(case.rule)
+    for rule in [case.rule, *tries] if case.kind == "table" else []:
+        tries = [{"table": {**rule["table"], "pairs": [it[::-1] for it in rule["table"]["pairs"]]}}, *tries]
+    yield from (case.told("the other way round it fits", case.instead(it)) for it in tries if case.takes(it))
 
 
-# ---- schemas
+def of_object(case: Case) -> Iterator[Told]:
+    if case.rule and any(name.split(".")[0] in OF_OBJECT for _, name in case.spots if not case.level.node(HUB, name)):
+        yield case.told(GO_OVER, case.instead())
 
-def try_alone(level, spots, word, rule):
-    """Tells where one side alone requires its name."""
-    if level.is_required(spots[0]) == level.is_required(spots[1]):
+
+def could_be(level: Level, side: int, name: str) -> bool:
+    """Whether a name, perhaps a dotted one, may mean the field of the level that its last part names."""
+    steps = [it for it in re.split(r"[./$]+", name) if it]
+    around = level.steps[side][len(level.steps[side]) - len(steps) + 1 :]
+    return bool(steps) and level.node(side, steps[-1]) is not None and around == steps[:-1]
+
+
+def moved_to(case: Case, adds: List[Tuple[Level, List[Rule]]]) -> List[Edit]:
+    """The edits by which rules stand at their levels, within `object` rules where no rule opens one, and the one rule not any more."""
+    lists: Dict[int, Tuple[List[Any], List[Rule]]] = {}
+    for level, rules in adds:
+        while level.rules is None and level.around:
+            rules, level = [{"object": {"names": list(level.names), "rules": rules}}], level.around
+        lists.setdefault(id(level.rules), (level.rules or [], []))[1].extend(rules)
+    own = sorted(lists.pop(id(case.level.rules), ([], []))[1], key=lambda it: kind_of(it) != "object")
+    return case.instead(*own) + [case.rules.add(items, rules) for items, rules in lists.values()]
+
+
+def elsewhere(case: Case) -> Iterator[Told]:
+    """The rule at a level where it fits, or, where its names stand at two levels, both fields kept."""
+    rule = {"same": [name for _, name in case.spots]} if case.kind == "move" else case.rule
+    if not rule:
         return
-    own, beside = spots if level.is_required(spots[0]) else spots[::-1]
-    first = f"`required` of {level.versions[own.side]} has `{own.name}`"
-    second = f"that of {level.versions[beside.side]} doesn't have `{beside.name}`"
-    level.tell(word, f"{first}, and {second}; both have to, or neither", spots[0], rule)
+    last = with_names(rule, [re.split(r"[./$]", name)[-1] for _, name in case.spots])
+    dotted = "a name is one level; " * (last != rule)
+    every = list(levels(case.root, with_closed=True))
+    for level in every:
+        is_other = (level.paths != case.level.paths or last != case.rule) and all(name in level.free(side) for side, name in names_of(last))
+        if is_other and all(could_be(level, *it) for it in case.spots) and case.takes(last, level=level):
+            fields = " and ".join(dict.fromkeys(level.of(*it) for it in names_of(last)))
+            where = f"the `object` rule of `{level.paths[SPOKE][:-1]}`" if level.around else "the list of the spoke"
+            yield case.told(f"{dotted}put the rule into {where}, for {fields}", moved_to(case, [(level, [last])]))
+    there = [(level, it) for spot, it in zip(case.spots, names_of(last)) for level in [it for it in every if could_be(it, *spot)][:1]]
+    adds = [(level, kept(level, [it])) for level, it in there]
+    if len({level.paths[side] for level, (side, _) in there}) > 1 and all(case.takes(*rules, level=level) for level, rules in adds):
+        moves = " is ".join(level.of(*it) for level, it in there)
+        yield case.told(f"{moves}, and no rule moves a field to another level: {KEPT}", moved_to(case, adds))
 
 
-def cure_of(one, two):
-    """Which rule takes two fields that differ."""
-    only = "`spokeOnly` and `hubOnly` rules: then neither is shown at the other version"
-    if not one.unclosed() and not two.unclosed():
-        return "write an `object` rule with rules for what is inside"
-    if one.kind == two.kind == "integer":
-        return "write a `scale` or `table` rule"
-    if {one.kind, two.kind} & {"object", "array"}:
-        return f"write {only}"
-    return f"write a `table` rule of the values that are one, or {only}"
+def renamed(case: Case) -> Iterator[Told]:
+    """The nearest names in the place of those that aren't there."""
+    level = case.level
+    near = [nearest(name, level.free(side)) or nearest(name, level.fields(side)) for side, name in case.spots]
+    near = [name if level.node(side, name) else it for it, (side, name) in zip(near, case.spots)]
+    if case.rule and all(near) and case.takes(with_names(case.rule, near)):
+        names = [it for it, (_, name) in zip(near, case.spots) if it != name]
+        yield case.told(f"{' and '.join(f'`{it}`' for it in names)} is meant", case.instead(with_names(case.rule, near)))
 
 
-def try_same(level, spots, rule=None):
-    """Tells where two fields differ in more than their own defaults, or one side alone requires its own."""
-    one, two = map(level.node, spots)
-    if not are_alike(one, two):
-        found = f"the two schemas differ: {differences(level.versions, one, two)}"
-        level.tell("SchemaDiffers", f"{found}; make them equal, or {cure_of(one, two)}", spots[0], rule)
-    try_alone(level, spots, "SchemaDiffers", rule)
+def partner(case: Case) -> Iterator[Told]:
+    """A field without a rule: kept, or paired with the one of the other side that it may be."""
+    if case.rule or not case.spots:
+        return
+    (side, name), level = case.spots[0], case.level
+    free = level.unpaired(1 - side)
+    near = nearest(name, free)
+    pairs = {it: {"same": [name, it][:: 1 - 2 * side]} for it in ([near] if near else free if len(free) <= MOST_TRIED else [])}
+    fitting = [it for it in pairs if case.takes(pairs[it])]
+    other = fitting[0] if len(fitting) == 1 else ""
+    alone = kept(level, case.spots[:1])
+    if case.takes(*alone):
+        says = f"keep it, where {level.versions[1 - side]} has nothing like it{f', or pair it with `{other}`' if other else ''}"
+        yield case.told(says, case.instead(*alone), case.instead(pairs[other]) if other else None)
 
 
-def unfit(rule, node):
-    """What of a node the rule doesn't take."""
-    if rule.kind == "object":
-        why = node.unclosed()
-        return why and f"{why}; an `object` rule takes two objects with `properties` and without these"
-    wanted = {"split": "string", "table": node.kind, "scale": "integer"}.get(rule.kind)
-    if wanted and node.kind != wanted:
-        return f"is of type {node.kind}, and this rule takes {wanted}"
-    if wanted and node.nullable:
-        return "has `nullable`; take it out: this rule has no pair for null"
+# ---- other rules
+
+
+def opened(case: Case) -> Iterator[Told]:
+    """An `object` rule for two objects, or a `scale` or a `table`, for two fields that differ."""
+    if len(case.spots) != 2 or case.kind not in ("", "same", "scale"):
+        return
+    names = [name for _, name in case.spots]
+    below, (one, two) = case.level.inner(names, None), case.nodes()
+    rules: List[Tuple[str, Rule]] = []
+    if below:
+        rules = [("make them equal, or open both by an `object` rule", {"object": {"names": names, "rules": draft(case.program, below)}})]
+    if one.get("type") == two.get("type") == "integer":
+        rules += [("by the bounds it is another unit", {"scale": {"names": names, "by": it}}) for it in UNITS]
+    lists = [it["enum"] for it in (one, two) if "enum" in it]
+    shared = [it for it in lists[0] if all(any(alike(it, other) for other in list_) for list_ in lists)] if lists else []
+    for blank in (None, *shared[:1]):
+        table = {"names": names, "pairs": [[it, it] for it in shared], "spokeBlank": blank, "hubBlank": blank}
+        rules += [("pair the values that both have; any other is kept", {"table": table})] if shared else []
+    yield from (case.told(says, case.instead(it)) for says, it in rules if it != case.rule and case.takes(it))
+
+
+def both_kept(case: Case) -> Iterator[Told]:
+    """Both fields kept, or where bounds alone differ those that take the values of both."""
+    one, two = case.nodes() if len(case.spots) == 2 and case.kind in ("", "same") else ({}, {})
+    wide = wider(one, two) if one and two else None
+    edits = [case.crd.put(node, it, v) for node in (one, two) for it, v in (wide or {}).items() if not alike(node.get(it), v)]
+    edits += [case.crd.drop(node, it) for node in (one, two) for it in sorted({*node} - {*(wide or node)} - PASSED - {"default"})]
+    new = kept(case.level, case.spots)
+    if case.takes(*new):
+        yield case.told(KEPT + ", or give both the wider bounds" * bool(edits), case.instead(*new), edits)
+    elif edits:
+        yield case.told("give both the wider bounds", edits)
+    if case.rule:
+        yield case.told("take out what isn't there", case.instead(*(it for it in new if case.takes(it))))
+
+
+def other_hub(case: Case) -> Iterator[Told]:
+    """A number with the finer unit at the spoke."""
+    level = case.level
+    for other in reversed_names(case.rule) if case.kind == "scale" else []:
+        if case.takes(other, level=Level(level.versions[::-1], level.nodes[::-1], None)):
+            spoke, hub = level.versions
+            says = f"the finer unit has to stand at the hub: make {spoke} the hub, with {shown(other)} for {hub}, or {KEPT}"
+            yield case.told(says, case.instead(*kept(level, case.spots)))
+
+
+def stripped(case: Case) -> Iterator[Told]:
+    """The definition without what the rule doesn't take."""
+    names = {"UnpairedDefault": ["default"], "RangeLost": {"split": PLAIN, "scale": PLAIN[:1]}.get(case.kind, [])}
+    out = names.get(case.fault.word, ["nullable"] * (case.kind in ("split", "table", "scale")))
+    edits = [case.crd.drop(node, it) for node in case.nodes() for it in out if it in node]
+    for side, node in enumerate(case.level.nodes) if case.fault.word not in names else ():
+        rest = [it for it in node.get("required", []) if (side, it) not in case.spots]
+        if len(rest) < len(node.get("required", [])):
+            edits.append(case.crd.put(node, "required", rest) if rest else case.crd.drop(node, "required"))
+    if edits:
+        yield case.told("take it out of the schema", edits)
+
+
+def pair_fault(case: Case, i: int) -> Optional[str]:
+    """What is wrong with a pair of a table."""
+    pairs = case.rule["table"]["pairs"] if case.rule else []
+    for side, node in zip(SIDES, case.nodes()):
+        v = pairs[i][side]
+        first = next(j for j, it in enumerate(pairs) if alike(it[side], v))
+        why = f"it stands in `pairs`[{first}] already" if first < i else why_not(case.program, node, v)
+        if why:
+            return f"`pairs`[{i}]: {case.level.versions[side]} doesn't take {shown(v)}: {why}"
     return None
 
 
-def rule_schemas(level, rule):
-    for spot in rule.spots:
-        why = unfit(rule, level.node(spot))
-        if why:
-            level.tell_rule("SchemaDiffers", f"{level.of(spot)} {why}", rule)
-    if rule.kind == "same":
-        try_same(level, rule.spots, rule)
-    if rule.kind == "object":
-        try_alone(level, rule.spots, "SchemaDiffers", rule)
+def is_text(value: Any) -> bool:
+    return isinstance(value, str)
 
 
-def free_schemas(level):
-    """Names without a rule whose schemas aren't equal."""
-    for name in level.schemas[SPOKE].properties:
-        if not level.is_ruled(SPOKE, name) and not level.is_ruled(HUB, name) and level.schemas[HUB].field(name):
-            try_same(level, [Spot(SPOKE, name), Spot(HUB, name)])
+def tables(case: Case) -> Iterator[Told]:
+    """A table with pairs and blanks that the schemas take, and with defaults that are a pair."""
+    if case.kind != "table":
+        return
+    table, two = case.rule["table"], case.nodes()
+    found = [pair_fault(case, i) for i in range(len(table["pairs"]))]
+    pairs = [it for it, why in zip(table["pairs"], found) if not why]
+    for pair in [it for it, why in zip(table["pairs"], found) if why]:
+        near = [nearest(v, filter(is_text, node.get("enum", []))) or v if is_text(v) else v for v, node in zip(pair, two)]
+        pairs += [near] if near != pair and not any(alike(near[side], it[side]) for it in pairs for side in SIDES) else []
+    own = [(side, node["default"]) for side, node in enumerate(two) if "default" in node][:1]
+    filled = next((it for it in pairs if all(alike(it[side], v) for side, v in own)), [])
+    defaults = [case.crd.put(node, "default", v) for node, v in zip(two, filled) if own and not alike(node.get("default"), v)]
+    blanks: Dict[str, Any] = {it: None for it, node in zip(BLANKS, two) if table[it] is not None and why_not(case.program, node, table[it])}
+    says = "; ".join([it for it in found if it] + [f"`{it}`: {shown(table[it])} isn't taken" for it in blanks]) or "so it fits"
+    tries = [blanks, {name: v for name, v in zip(BLANKS, filled) if table[name] is None}]
+    for blank in tries[::-1] if own else tries:
+        rule = {"table": {**table, "pairs": pairs, **blank}}
+        if defaults or rule != case.rule and case.takes(rule):
+            yield case.told(says, defaults + (case.instead(rule) if rule != case.rule else []))
 
 
-# ---- defaults
-
-def wanted_default(rule, side, v):
-    """What the default of the table's other side has to be: in words, and as a list of the one value where there is one."""
-    for pair in rule.value["pairs"]:
-        if alike(pair[side], v):
-            return f"the default {shown(pair[1 - side])}", [pair[1 - side]]
-    return "a pair in the table and its value there", []
-
-
-def try_pair(level, rule):
-    """Where the defaults of two names aren't one by the table."""
-    one, two = map(level.node, rule.spots)
-    versions = level.versions
-    for own, side, beside in ((one, SPOKE, two), (two, HUB, one)):
-        if own.has_default and not beside.has_default:
-            words, _ = wanted_default(rule, side, own.default)
-            has = f"{level.of(rule.spots[side])} has the default {shown(own.default)}"
-            lacks = f"{level.of(rule.spots[1 - side])} has none"
-            says = f"{has} and {lacks}; give it {words}, or take the one out"
-            level.tell_rule("UnpairedDefault", says, rule)
-    if one.has_default and two.has_default:
-        words, values = wanted_default(rule, SPOKE, one.default)
-        if not any(alike(it, two.default) for it in values):
-            both = f"{shown(one.default)} of {versions[SPOKE]} and {shown(two.default)} of {versions[HUB]}"
-            says = f"the defaults {both} aren't one by this rule; for the first, the second has to be {words}"
-            level.tell_rule("UnpairedDefault", says, rule)
+def bounds(case: Case) -> Iterator[Told]:
+    """The bounds that fit, at the hub or else at the spoke."""
+    if case.kind != "scale":
+        return
+    by, two, level = case.rule["scale"]["by"], case.nodes(), case.level
+    wide = [INT32 if it.get("format") == "int32" else INT64 for it in two]
+    ends = [(node.get("minimum", low), node.get("maximum", high)) for node, (low, high) in zip(two, wide)]
+    fit = [(-(-ends[HUB][0] // by), ends[HUB][1] // by), (ends[SPOKE][0] * by, min(ends[SPOKE][1] * by + by - 1, INT64[1]))]
+    for side in (HUB, SPOKE):
+        low, high = fit[side]
+        node = {**{it: v for it, v in two[side].items() if it not in ("format", "default")}, "minimum": low, "maximum": high}
+        nodes = list(level.nodes)
+        nodes[side] = {**nodes[side], "properties": {**nodes[side]["properties"], case.spots[side][1]: node}}
+        if INT64[0] <= low and fits(case.program, level, [case.rule], nodes):
+            edits = [case.crd.put(two[side], it, node[it]) for it in ("minimum", "maximum") if two[side].get(it) != node[it]]
+            yield case.told(f"{low} to {high} would fit at {level.versions[side]}", edits)
 
 
-def rule_defaults(level, rule):
-    """Where defaults of a rule's names don't go together. At `same` and `scale` any do."""
-    if rule.kind == "table":
-        try_pair(level, rule)
-        for blank in BLANKS if level.node(rule.spots[0]).has_default else ():
-            if rule.value[blank] is None:
-                why = f"`{blank}` is null and the fields have defaults, by which an absent field is filled"
-                says = f"{why}; give `{blank}` a value, or take the defaults out"
-                level.tell_rule("UnpairedDefault", says, rule)
-    elif rule.kind not in ("same", "scale"):
-        for spot in rule.spots:
-            node = level.node(spot)
-            if node.has_default:
-                why = f"which this rule can't give at {level.versions[1 - spot.side]}; take the default out"
-                says = f"{level.of(spot)} has the default {shown(node.default)}, {why}"
-                level.tell_rule("UnpairedDefault", says, rule)
+# ---- what is told
+
+# The ways to mend what a word is of, in the order in which they are tried.
+WAYS: Dict[str, List[Callable[[Case], Iterator[Told]]]] = {
+    "NameMissing": [of_object, turned, elsewhere, renamed, partner, both_kept, stripped],
+    "SchemaDiffers": [turned, elsewhere, opened, stripped, both_kept],
+    "UnpairedDefault": [tables, stripped],
+    "RequiredLost": [tables, stripped],
+    "RangeLost": [turned, other_hub, stripped, tables, bounds, both_kept],
+    "NameTwice": [],
+}
 
 
-# ---- required names
-
-def rule_required(level, rule):
-    """Where names of a rule are required and the rule can't give them."""
-    if rule.kind in ("table", "scale"):
-        try_alone(level, rule.spots, "RequiredLost", rule)
-    for spot in filter(level.is_required, rule.spots):
-        there = f"`{level.paths[spot.side]}{spot.name}` is required at {level.versions[spot.side]}"
-        if rule.kind == "table" and rule.value[BLANKS[spot.side]] is None:
-            blank = BLANKS[spot.side]
-            none = f"`{blank}` is null, so that a value that the table doesn't list shows none"
-            says = f"{there}, and {none}; give `{blank}` a value that the schema takes"
-            level.tell_rule("RequiredLost", says, rule)
-        elif rule.kind in ("spokeOnly", "hubOnly", "split"):
-            other = level.versions[1 - spot.side]
-            says = f"{there}, and an object of {other} may not give it; take it out of `required`"
-            level.tell_rule("RequiredLost", says, rule)
-
-
-def lost(level, side):
-    """Required names that the schema of a side doesn't have."""
-    schema = level.schemas[side]
-    for name in schema.required:
-        if not schema.field(name):
-            near = meant(name, schema.properties)
-            path = level.paths[side] + name
-            says = f"`required` of {level.versions[side]} has `{path}`, and its `properties` don't{near}"
-            level.tell("RequiredLost", says, Spot(side, name))
-
-
-# ---- ranges
-
-def try_plain(level, rule, spot):
-    node = level.node(spot)
-    has = [f"`{name}`: {node.doc[name]}" for name in ("minLength", "maxLength") if name in node.doc]
-    has += [f"`enum`: {dict(node.keywords())['enum']}"] if node.choices is not None else []
-    if has:
-        only = "a split takes texts with no keyword beside `type`, so take it out"
-        level.tell_rule("RangeLost", f"{level.of(spot)} has {', '.join(has)}; {only}", rule)
-
-
-def try_value(level, rule, side, v, where, cure):
-    """Tells a value of a table that its side doesn't take."""
-    found = fault(level.node(rule.spots[side]), v)
-    if found:
-        says = f"{where}: the schema of {level.versions[side]} doesn't take {shown(v)} ({found[1]}); {cure}"
-        level.tell_rule("RangeLost", says, rule)
-
-
-def try_column(level, rule, side):
-    """The values of a table at a side: each has to be taken, and stands once."""
-    values = [pair[side] for pair in rule.value["pairs"]]
-    for i, v in enumerate(values):
-        try_value(level, rule, side, v, f"`pairs`[{i}]", "mend the pair or the schema")
-        again = [j for j in range(i + 1, len(values)) if alike(values[j], v)] if i < MOST_PAIRS else []
-        if again:
-            both = f"`pairs`[{i}] and [{again[0]}] both have {shown(v)} at {level.versions[side]}"
-            says = f"{both}; each value stands once at a side, so keep one of the two pairs"
-            level.tell_rule("RangeLost", says, rule)
-
-
-def bound_cure(level, by, spoke, hub, is_low):
-    """The numbers that would fit, at the one side or at the other."""
-    at_spoke = None if is_low and hub % by else hub // by
-    cures = []
-    if INT64[0] <= by * spoke <= INT64[1]:
-        most = "" if is_low else f" to {min(by * spoke + by, INT64[1]) - 1}"
-        cures.append(f"{by * spoke}{most} would fit at {level.versions[HUB]}")
-        if at_spoke is not None:
-            cures.append(f"or {at_spoke} at {level.versions[SPOKE]}")
-    elif at_spoke is not None:
-        cures.append(f"{at_spoke} would fit at {level.versions[SPOKE]}")
-    return ", ".join(cures) or "give both one that is far below 64 bits"
-
-
-def try_bounds(level, rule, one, two):
-    """Tells the bounds of two schemas of whole numbers that a factor doesn't keep."""
-    by = rule.value["by"]
-    for is_low, keyword in ((True, "minimum"), (False, "maximum")):
-        spoke, hub = one.ends()[not is_low], two.ends()[not is_low]
-        product = by * spoke
-        keeps = product == hub if is_low else product <= hub and hub // by <= spoke
-        if keeps and INT64[0] <= product <= INT64[1]:
-            continue
-        first = f"`{keyword}` is {one.doc.get(keyword, 'none')} at {level.versions[SPOKE]}"
-        second = f"{two.doc.get(keyword, 'none')} at {level.versions[HUB]}, where it has to be {by} times as much"
-        cure = bound_cure(level, by, spoke, hub, is_low)
-        level.tell_rule("RangeLost", f"{first} and {second}: {cure}", rule)
-
-
-def rule_ranges(level, rule):
-    """Where what goes over by a rule isn't taken at the other side."""
-    for spot in rule.spots:
-        if rule.kind == "split":
-            try_plain(level, rule, spot)
-        elif rule.kind == "table":
-            try_column(level, rule, spot.side)
-        elif rule.kind == "scale" and level.node(spot).choices is not None:
-            says = f"{level.of(spot)} has an `enum`; take it out, or write a `table` rule of its values"
-            level.tell_rule("RangeLost", says, rule)
-    for side, blank in enumerate(BLANKS) if rule.kind == "table" else ():
-        if rule.value[blank] is not None:
-            try_value(level, rule, side, rule.value[blank], f"`{blank}`", "give a value that it takes, or null")
-    if rule.kind == "scale":
-        one, two = map(level.node, rule.spots)
-        if one.kind == two.kind == "integer":
-            try_bounds(level, rule, one, two)
-
-
-# ---- levels
-
-def try_level(level):
-    whole = [rule for rule in level.rules if all(map(level.node, rule.spots))]
-    for rule in level.rules:
-        twice(level, rule)
-    for rule in level.rules:
-        absent(level, rule)
-    unpaired(level, SPOKE)
-    unpaired(level, HUB)
-    for rule in whole:
-        rule_schemas(level, rule)
-    free_schemas(level)
-    for rule in whole:
-        rule_defaults(level, rule)
-    for rule in whole:
-        rule_required(level, rule)
-    lost(level, SPOKE)
-    lost(level, HUB)
-    for rule in whole:
-        rule_ranges(level, rule)
-
-
-def levels_inside(level):
-    """The levels inside the `object` rules whose names have two objects with properties."""
-    for rule in level.rules:
-        nodes = [level.node(spot) for spot in rule.spots]
-        if rule.kind == "object" and all(nodes) and not any(node.unclosed() for node in nodes):
-            paths = [f"{path}{spot.name}." for path, spot in zip(level.paths, rule.spots)]
-            place = f"{level.place}[{rule.place}].object.rules"
-            yield Level(level.faults, level.versions, paths, nodes, place, rule.value["rules"])
-
-
-def fit_faults(root):
-    """All faults of a spoke's rules, whose first level this is, for its schema and the hub's."""
-    faults, is_open = root.faults, False
-    for version, schema in zip(root.versions, root.schemas):
-        if schema.unclosed():
-            why = "its root has to be an object with `properties` and without these"
-            faults.tell("", "SchemaDiffers", f"the schema of {version} {schema.unclosed()}; {why}")
-            is_open = True
-        elif schema.has_default:
-            faults.tell("", "UnpairedDefault", f"the schema of {version} has a default at its root; take it out")
-    levels = [] if is_open else [root]
-    while levels:
-        level = levels.pop()
-        try_level(level)
-        levels += reversed(list(levels_inside(level)))
+def fit_told(case: Case) -> Told:
+    """What is told of rules that don't fit."""
+    named = [it for it in case.level.rules or [] if any(case.level.paths[side] + name == case.fault.path for side, name in names_of(it))]
+    if case.fault.word == "NameTwice":
+        out = min(named, key=lambda it: len(names_of(it)))
+        says = f"keep one of {' and '.join(map(case.rules.of, named))}"
+        return case.told(says, [case.rules.swap(case.level.rules or [], out, [])])
+    return next((it for make in WAYS[case.fault.word] for it in make(case)), case.told("no mend is known", []))

@@ -1,11 +1,13 @@
-# Which program stands for the sources of this checkout. `kubeconv`, `explain`, `.ci/run` and tools/build.py read these functions; `top` is
-# the checkout's folder. What is kept stands in `out/`, which git passes over:
+# Which program stands for the sources of this checkout. `kubeconv`, `explain`, `check`, `.ci/run`, tools/build.py and tools/compile.py read
+# these functions; `top` is the checkout's folder. What is kept stands in `out/`, which git passes over:
 #
 #     out/sources        the sums of all sources and of those that are compiled (src/, crates.txt), and the folders that they stand in.
 #                        Its time is that before the first of them was read
 #     out/paths          the files and folders that were summed
 #     out/proved/SUM     the program that was proved of the sources of this sum
 #     out/compiled/SUM   the program that was compiled of the sources of this sum, and not proved
+#     out/first/SUM      the same, compiled as fast as can be: it answers until the other one stands
+#     out/CRATE/SUM      a program of cases, compiled as `compiled` is
 #
 # A name holds a whole program or none, since it is put there by `mv`; and a program is found by the sum of its sources alone.
 kept=$top/out whole=''
@@ -58,7 +60,7 @@ sum_sources() {
     [ "$summed" -eq 0 ] && read_sums
 }
 
-# Whether a program of a kind stands for the sources that were summed: `proved` or `compiled`. Its path is `program`.
+# Whether a program of a kind stands for the sources that were summed. Its path is `program`.
 stands() {
     [ -n "${whole-}" ] || are_summed || sum_sources || return 1
     case $1 in
@@ -68,13 +70,26 @@ stands() {
     [ -x "$program" ]
 }
 
-# Finds the `program` that stands for the sources as they are: the one that is proved, or else the one that is compiled.
+# Finds the `program` that stands for the sources as they are, and its `kind`: the one that is proved, else the one that is compiled, else
+# the first one.
 find_program() {
+    kind='' is_proved=''
+    find_kind proved compiled first && { [ "$kind" != proved ] || is_proved=yes; }
+}
+
+# The same, of these kinds.
+find_kind() {
     are_summed || sum_sources || return 1
-    is_proved=yes
-    stands proved && return
-    is_proved=''
-    stands compiled
+    for kind; do
+        stands "$kind" && return
+    done
+    kind=''
+    return 1
+}
+
+# Prints the path of the program that is found.
+find_one() {
+    find_kind "$@" && echo "$program"
 }
 
 # Begins a build: sums the sources, and copies the sums to a file, to be told to `keep` at the end.

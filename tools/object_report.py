@@ -4,59 +4,48 @@ comes back. It is no command: tools/explain.py tells it.
 It is seen from outside: the object is taken to its own version, to the other, and back, by the conversion that the program does, and the
 documents are compared.
 """
+from __future__ import annotations
+
 import json
-import os
-import tempfile
+from typing import Any, Dict, Iterator, List, Sequence
 
-from fault_texts import Faults, alike, at, inside, list_at, shown, text_at
-from find_faults import document, text_of
+from fault_texts import alike, at, compact, inside, list_at, read, shown, text_at
+from program_asks import Program
 
-UNREAD = ("NotJson", "TooDeep", "NotWhole")
 FILLING = ("pruned, since its schema doesn't have it", "filled by a default", "changed")
 COMING = ("  gone", "  new", "  changed to")
 NOTES = "metadata.annotations"
 
 
-def compact(value):
-    return json.dumps(value, sort_keys=True, separators=(",", ":"), ensure_ascii=False)
-
-
-# ---- two documents compared
-
-
-def differences(words, one, two):
+def differences(words: Sequence[str], one: Any, two: Any, path: str = "") -> Iterator[str]:
     """Where two documents differ, but for their annotations, which are told by themselves: what the second one doesn't have, what it has
     beside the first, and what differs, each behind its word."""
     gone, new, changed = words
-    lines, places = [], [("", one, two)]
-    while places:
-        path, one, two = places.pop()
-        if path == NOTES or alike(one, two):
-            continue
-        if isinstance(one, dict) and isinstance(two, dict):
-            lines += [f"{gone}: {inside(path, name)}: {shown(one[name])}" for name in sorted(one) if name not in two]
-            places += [(inside(path, name), one[name], two[name]) for name in sorted(one) if name in two]
-            added = [name for name in sorted(two) if name not in one and inside(path, name) != NOTES]
-            lines += [f"{new}: {inside(path, name)}: {shown(two[name])}" for name in added]
-        elif isinstance(one, list) and isinstance(two, list) and len(one) == len(two):
-            places += [(f"{path}[{i}]", *both) for i, both in enumerate(zip(one, two))]
-        else:
-            lines.append(f"{changed}: {path}: {shown(two)}")
-    return lines
+    if path == NOTES or alike(one, two):
+        return
+    if isinstance(one, dict) and isinstance(two, dict):
+        yield from (f"{gone}: {inside(path, name)}: {shown(one[name])}" for name in sorted(one) if name not in two)
+        for name in sorted(it for it in two if inside(path, it) != NOTES):
+            if name in one:
+                yield from differences(words, one[name], two[name], inside(path, name))
+            else:
+                yield f"{new}: {inside(path, name)}: {shown(two[name])}"
+    elif isinstance(one, list) and isinstance(two, list) and len(one) == len(two):
+        for i, both in enumerate(zip(one, two)):
+            yield from differences(words, *both, f"{path}[{i}]")
+    else:
+        yield f"{changed}: {path}: {shown(two)}"
 
 
-# ---- what is kept
-
-
-def kept_in(doc):
+def kept_in(doc: Any) -> Dict[str, str]:
     """The annotations that hold what a version can't show, with their texts."""
     notes = at(doc, "metadata", "annotations")
     named = notes if isinstance(notes, dict) else {}
-    is_kept = {key: key == "hub.kubeconv.local/kept" or key.startswith("spoke.kubeconv.local/") for key in named}
-    return {key: named[key] for key in sorted(named) if is_kept[key] and isinstance(named[key], str)}
+    starts = ("hub.kubeconv.local/kept", "spoke.kubeconv.local/")
+    return {key: named[key] for key in sorted(named) if key.startswith(starts) and isinstance(named[key], str)}
 
 
-def entries(text):
+def entries(text: str) -> List[Any]:
     """The entries of an annotation's text."""
     try:
         found = json.loads(text)
@@ -65,71 +54,53 @@ def entries(text):
     return found if isinstance(found, list) else []
 
 
-def dropped(doc, back):
+def dropped(doc: Any, back: Any) -> Iterator[str]:
     """The entries of an object that don't come back."""
     there = kept_in(back)
     for key, text in kept_in(doc).items():
         after = entries(there.get(key, ""))
-        for entry in entries(text):
-            if not any(alike(entry, it) for it in after):
-                yield f"dropped as dead: {shown(entry)}"
+        yield from (f"dropped as dead: {shown(it)}" for it in entries(text) if not any(alike(it, other) for other in after))
 
 
-# ---- an object
+class Refused(Exception):
+    """The program refuses an object."""
 
 
-class Way:
-    """The object's document at versions, by what the program says. What is told of it is gathered in lines."""
+def told(program: Program, crd: Any, rules: Any, doc: Any, start: str, to: str) -> Iterator[str]:
+    """An object taken from its own version to the other and back."""
+    def at_version(value: Any, version: str) -> Any:
+        into, refused = program.convert(crd, rules, value, version)
+        if refused:
+            raise Refused(f"at {version} it is refused: {refused}")
+        return into
 
-    def __init__(self, ask):
-        self.ask, self.lines = ask, []
-
-    def at(self, version, path):
-        """The document in a file at a version; where it is refused there, that is told, and it is nothing."""
-        said = self.ask(path, version)
-        if "refused" in said:
-            self.lines.append(f"at {version} it is refused: {said['refused']}")
-        return said.get("value")
-
-    def back(self, version, doc):
-        """The document at a version."""
-        with tempfile.TemporaryDirectory() as room:
-            path = os.path.join(room, "object.json")
-            with open(path, "w", encoding="utf-8", newline="") as file:
-                file.write(compact(doc))
-            return self.at(version, path)
-
-    def tell(self, start, to, path, doc):
-        """Takes the document in a file from its own version to the other and back."""
-        own = self.at(start, path)
-        if own is None:
-            return
-        self.lines += differences(FILLING, doc, own)
-        other = self.at(to, path)
-        if other is None:
-            return
-        self.lines.append(f"at {to} it is {compact(other)}")
-        self.lines += [f"kept at {to} in {key}: {text}" for key, text in kept_in(other).items()]
-        back = self.back(start, other)
-        if back is None:
-            return
-        self.lines += dropped(doc, back)
-        found = differences(COMING, own, back)
-        self.lines += [f"put back at {start} it differs:", *found] if found else [f"put back at {start} it is as it was, filled"]
+    try:
+        own = at_version(doc, start)
+        yield from differences(FILLING, doc, own)
+        other = at_version(doc, to)
+        yield f"at {to} it is {compact(other)}"
+        yield from (f"kept at {to} in {key}: {text}" for key, text in kept_in(other).items())
+        back = at_version(other, start)
+        yield from dropped(doc, back)
+        found = list(differences(COMING, own, back))
+        yield from [f"put back at {start} it differs:", *found] if found else [f"put back at {start} it is as it was, filled"]
+    except Refused as it:
+        yield str(it)
 
 
-def report(ask, crd, path, to):
-    """What becomes of the object in a file at a version of a definition."""
-    if ask(path, to).get("refused") in UNREAD:
-        return "the object isn't JSON of whole numbers and at most 64 levels\n"
-    doc = document(Faults(), text_of(path))
+def report(program: Program, crd: Any, rules: Any, text: str, to: str, name: str) -> str:
+    """What becomes of the object that a text is at a version of a definition."""
+    doc, marks = read(text)
+    lines = [f"{it.word}: {it.said(name)}" for it in marks]
     names = [text_at(v, "name") for v in list_at(crd, "spec", "versions")]
     _, slash, version = text_at(doc, "apiVersion").rpartition("/")
     start = version if slash else ""
-    if start not in names:
-        return f"the object is of no version of the definition: its apiVersion ends with `{start}`\n"
     if to not in names:
-        return f"the definition has no version `{to}`\n"
-    way = Way(ask)
-    way.tell(start, to, path, doc)
-    return "".join(f"{line}\n" for line in way.lines)
+        lines.append(f"the definition has no version `{to}`")
+    elif any(it.word != "Duplicate" for it in marks):
+        lines.append("so the object can't be read")
+    elif start not in names:
+        lines.append(f"the object is of no version of the definition: its apiVersion ends with `{start}`")
+    else:
+        lines += told(program, crd, rules, doc, start, to)
+    return "".join(f"{line}\n" for line in lines)

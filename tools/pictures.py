@@ -2,15 +2,18 @@
 """Draws the pictures of the documents: `pictures.py` writes them, `pictures.py --check` writes nothing and ends with 1 where one of
 them isn't what it would write.
 
-docs/way.svg is drawn from docs/way.txt, and docs/rooms.svg from docs/rooms.txt and crates.txt. A line of such a text is one of
+Each docs/NAME.svg is drawn from docs/NAME.txt, and docs/rooms.svg from crates.txt besides. A line of such a text is one of
 
     size WIDTH HEIGHT
+    title TEXT
     box NAME X Y WIDTH HEIGHT KIND | TITLE | LINE | ..
+    tile X Y WIDTH HEIGHT KIND | TEXT
     note X Y | TEXT
     edge FROM TO [X,Y ..] | LABEL
+    arrow X,Y X,Y .. | LABEL
 
 KIND is `plain`, `strong` or `pale`; a line that begins with a backquote is set as code. An edge goes from one box to the other by way
-of its points. A box without a TITLE is named by its NAME, and one without lines in docs/rooms.txt takes what crates.txt says of the
+of its points, an arrow from point to point. A tile is a small box with one line. A box without a TITLE is named by its NAME, and one without lines in docs/rooms.txt takes what crates.txt says of the
 room. The edges of docs/rooms.svg are those of crates.txt: a room points to each room that a crate of it names, but to those that it
 reaches by another one; docs/rooms.txt gives only their points. A box that is no room of crates.txt isn't drawn."""
 
@@ -61,26 +64,44 @@ class Box:
         return mx + dx * part, my + dy * part
 
 
+class Picture:
+    """What stands in a text: the size, the title, the boxes by name, and the rest in the order of the text."""
+
+    def __init__(self):
+        self.size, self.title = (0, 0), ""
+        self.boxes, self.tiles, self.notes, self.edges, self.arrows = {}, [], [], [], []
+
+
+def points_of(words):
+    return [tuple(float(n) for n in word.split(",")) for word in words]
+
+
 def read(file):
-    """The size, the boxes by name, the notes and the edges of a text."""
-    size, boxes, notes, edges = (0, 0), {}, [], []
+    """The picture of a text."""
+    it = Picture()
     for line in file.read_text().splitlines():
         if not line.strip() or line.startswith("#"):
             continue
         head, *parts = [part.strip() for part in line.split("|")]
         words = head.split()
+        text = parts[0] if parts else ""
         if words[0] == "size":
-            size = (int(words[1]), int(words[2]))
+            it.size = (int(words[1]), int(words[2]))
+        elif words[0] == "title":
+            it.title = head[len("title ") :]
         elif words[0] == "box":
-            boxes[words[1]] = Box(words, parts)
+            it.boxes[words[1]] = Box(words, parts)
+        elif words[0] == "tile":
+            it.tiles.append((*map(int, words[1:5]), words[5], text))
         elif words[0] == "note":
-            notes.append((int(words[1]), int(words[2]), parts[0]))
+            it.notes.append((int(words[1]), int(words[2]), text))
         elif words[0] == "edge":
-            points = [tuple(float(n) for n in word.split(",")) for word in words[3:]]
-            edges.append((words[1], words[2], points, parts[0] if parts else ""))
+            it.edges.append((words[1], words[2], points_of(words[3:]), text))
+        elif words[0] == "arrow":
+            it.arrows.append((points_of(words[1:]), text))
         else:
             sys.exit(f"{file}: {line}")
-    return size, boxes, notes, edges
+    return it
 
 
 def escaped(text):
@@ -108,6 +129,11 @@ def drawn_edge(boxes, edge):
     way = [boxes[one].border(points[0] if points else boxes[other].middle())]
     way += points
     way.append(boxes[other].border(points[-1] if points else boxes[one].middle()))
+    return drawn_way(way, label)
+
+
+def drawn_way(way, label):
+    """An arrow by way of points, with its label over the middle one of its parts."""
     path = "M" + " L".join(f"{x:.1f} {y:.1f}" for x, y in way)
     out = [f'<path class="edge" d="{path}" marker-end="url(#head)"/>']
     if label:
@@ -118,21 +144,31 @@ def drawn_edge(boxes, edge):
     return out
 
 
-def drawn(size, boxes, notes, edges, title):
-    width, height = size
+def drawn_tile(tile):
+    x, y, width, height, kind, text = tile
+    out = [f'<rect class="box {kind}" x="{x}" y="{y}" width="{width}" height="{height}" rx="4"/>']
+    return out + ([text_at(x + width / 2, y + height / 2 + 4.5, text, "soft")] if text else [])
+
+
+def drawn(it):
+    width, height = it.size
     out = [
         f'<svg xmlns="http://www.w3.org/2000/svg" viewBox="0 0 {width} {height}" width="{width}" height="{height}" role="img">',
-        f"<title>{escaped(title)}</title>",
+        f"<title>{escaped(it.title)}</title>",
         f"<style>{STYLE}</style>",
         '<defs><marker id="head" viewBox="0 0 10 10" refX="9" refY="5" markerWidth="8" markerHeight="8" orient="auto">'
         '<path class="head" d="M0 1 L9 5 L0 9 z"/></marker></defs>',
         f'<rect class="back" width="{width}" height="{height}"/>',
     ]
-    for edge in edges:
-        out += drawn_edge(boxes, edge)
-    for box in boxes.values():
+    for edge in it.edges:
+        out += drawn_edge(it.boxes, edge)
+    for box in it.boxes.values():
         out += drawn_box(box)
-    out += [text_at(x, y, text, "soft", "start") for x, y, text in notes]
+    for tile in it.tiles:
+        out += drawn_tile(tile)
+    for points, label in it.arrows:
+        out += drawn_way(points, label)
+    out += [text_at(x, y, text, "soft", "start") for x, y, text in it.notes]
     return "\n".join(out + ["</svg>", ""])
 
 
@@ -163,24 +199,20 @@ def reached(start, pairs):
     return seen
 
 
-def rooms():
-    size, boxes, notes, ways = read(DOCS / "rooms.txt")
+def rooms(it):
+    """The picture of the rooms: its text says where they stand, and crates.txt which stands on which."""
     says, pairs = rooms_in_list()
-    boxes = {name: box for name, box in boxes.items() if name in says}
-    missing = set(says) - {OUTSIDE} - set(boxes)
+    it.boxes = {name: box for name, box in it.boxes.items() if name in says}
+    missing = set(says) - {OUTSIDE} - set(it.boxes)
     if missing:
         sys.exit(f"docs/rooms.txt has no box for {', '.join(sorted(missing))}")
-    for box in boxes.values():
+    for box in it.boxes.values():
         if not box.lines:
             box.lines = textwrap.wrap(says[box.name], box.w // 7)
-    points = {(one, other): by for one, other, by, _ in ways}
+    points = {(one, other): by for one, other, by, _ in it.edges}
     short = {(a, b) for a, b in pairs if not any(b in reached(c, pairs) for x, c in pairs if x == a and c != b)}
-    edges = [(a, b, points.get((a, b), []), "") for a, b in sorted(short)]
-    return drawn(size, boxes, notes, edges, "The rooms of kubeconv, and which stands on which")
-
-
-def way():
-    return drawn(*read(DOCS / "way.txt"), "Clients at two versions, the hub, the store and a migration")
+    it.edges = [(a, b, points.get((a, b), []), "") for a, b in sorted(short)]
+    return it
 
 
 def main():
@@ -188,10 +220,12 @@ def main():
     asked.add_argument("--check", action="store_true", help="write nothing, and end with 1 where a picture is an old one")
     check = asked.parse_args().check
     old = 0
-    for name, text in (("way.svg", way()), ("rooms.svg", rooms())):
-        file = DOCS / name
+    for source in sorted(DOCS.glob("*.txt")):
+        it = read(source)
+        text = drawn(rooms(it) if source.stem == "rooms" else it)
+        file = source.with_suffix(".svg")
         if check and (not file.exists() or file.read_text() != text):
-            print(f"docs/{name} isn't what tools/pictures.py draws", file=sys.stderr)
+            print(f"docs/{file.name} isn't what tools/pictures.py draws", file=sys.stderr)
             old = 1
         elif not check:
             file.write_text(text)

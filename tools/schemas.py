@@ -1,192 +1,192 @@
-"""A schema of a definition, as loading reads it: which values it takes, and what differs between two. It is no command:
-tools/find_faults.py finds faults by it.
+"""The levels of a spoke's rules with the schemas of both sides, whether rules fit there, and what differs. It is no command:
+tools/find_faults.py finds faults by it, and tools/field_rows.py rows.
+
+A level is the fields of two objects, one of the spoke's version and one of the hub's, with the rules between them. The documents may have
+faults: what isn't of its form has no names and no levels inside.
 """
-from fault_texts import alike, inside, is_whole, shown, shown_values
+from __future__ import annotations
 
-MOST_TOLD = 6
-INT32 = (-(2**31), 2**31 - 1)
-INT64 = (-(2**63), 2**63 - 1)
-TYPES = ("array", "boolean", "integer", "object", "string")
-MIXED, OPEN = "x-kubernetes-int-or-string", "x-kubernetes-preserve-unknown-fields"
+from typing import Any, Dict, Iterator, List, Optional, Tuple
+
+from fault_texts import alike, at, inside, list_at, shown
+from program_asks import Program, definition
+
+SPOKE, HUB = SIDES = (0, 1)
 OF_OBJECT = ("apiVersion", "kind", "metadata")
+MIXED, OPEN = "x-kubernetes-int-or-string", "x-kubernetes-preserve-unknown-fields"
+ONLY = ("spokeOnly", "hubOnly")
+PASSED = {"description", "title", "example", "externalDocs"}
+INSIDE = {"properties", "items", "additionalProperties"}
+Node = Dict[str, Any]
+Rule = Dict[str, Any]
+Spot = Tuple[int, str]
 
 
-def kind_of(doc):
-    """What a node is of, in a word, or nothing where its document doesn't say it."""
-    if "type" in doc:
-        return doc["type"] if doc["type"] in TYPES else None
-    if doc.get(MIXED) is True:
-        return "int-or-string"
-    return "any value" if doc.get(OPEN) is True else None
+def kind_of(rule: Any) -> str:
+    return next(iter(rule)) if isinstance(rule, dict) and len(rule) == 1 else ""
 
 
-class Schema:
-    """A node of a schema whose document is read without a fault."""
-
-    def __init__(self, doc, is_root=False):
-        self.doc, self.kind = doc, kind_of(doc)
-        self.has_default, self.default = "default" in doc, doc.get("default")
-        self.nullable, self.choices = doc.get("nullable") is True, doc.get("enum")
-        self.required, self.properties = doc.get("required", []), None
-        if "properties" in doc:
-            named = sorted(doc["properties"].items())
-            self.properties = {name: Schema(it) for name, it in named if not (is_root and name in OF_OBJECT)}
-        self.additional = Schema(doc["additionalProperties"]) if "additionalProperties" in doc else None
-        self.items = Schema(doc["items"]) if "items" in doc else None
-
-    def field(self, name):
-        return (self.properties or {}).get(name)
-
-    def schema_for(self, name):
-        return self.field(name) or self.additional
-
-    def ends(self):
-        """The least and the greatest number that it takes."""
-        low, high = INT32 if self.doc.get("format") == "int32" else INT64
-        return max(low, self.doc.get("minimum", low)), min(high, self.doc.get("maximum", high))
-
-    def keywords(self):
-        """The keywords with what they have, as texts, but for those that have nodes. The last one is the default."""
-        doc = self.doc
-        yield "type", self.kind
-        yield OPEN, "true" if doc.get(OPEN) is True else "none"
-        yield "nullable", "true" if self.nullable else "none"
-        for name in ("format", "minimum", "maximum", "minLength", "maxLength", "minItems", "maxItems"):
-            yield name, str(doc.get(name, "none"))
-        yield "enum", shown_values(self.choices) if self.choices else "none"
-        yield "required", ", ".join(self.required) or "none"
-        yield "default", shown(self.default) if self.has_default else "none"
-
-    def unclosed(self):
-        """Why a node isn't an object with `properties` and nothing else, where it isn't."""
-        reasons = [
-            (self.kind != "object", "isn't of type object"),
-            (self.properties is None, "has no `properties`"),
-            (self.additional is not None, "has `additionalProperties`"),
-            (self.doc.get(OPEN) is True, f"has `{OPEN}`"),
-            (self.nullable, "has `nullable`"),
-            (self.choices is not None, "has an `enum`"),
-        ]
-        return next((why for is_so, why in reasons if is_so), None)
+def names_of(rule: Any) -> List[Spot]:
+    """The names of a rule with their sides, those of the spoke first; none where it isn't of its form."""
+    kind = kind_of(rule)
+    v = rule[kind] if kind else None
+    if kind in ONLY:
+        found = [(ONLY.index(kind), v)]
+    else:
+        named = [at(v, "spoke"), *list_at(v, "hub")] if kind == "split" else v if kind == "same" else at(v, "names")
+        found = list(zip((SPOKE, HUB, HUB), named)) if isinstance(named, list) else []
+    return [it for it in found if isinstance(it[1], str)]
 
 
-# ---- values
-
-FORMS = {"object": dict, "array": list, "string": str, "boolean": bool}
-
-
-def has_kind(kind, v):
-    if kind == "integer":
-        return is_whole(v)
-    if kind == "int-or-string":
-        return is_whole(v) or isinstance(v, str)
-    return kind == "any value" or isinstance(v, FORMS[kind])
+def with_names(rule: Rule, names: List[str]) -> Rule:
+    """A rule with other names."""
+    (kind, v), = rule.items()
+    if kind == "split":
+        return {kind: {**v, "spoke": names[0], "hub": names[1:]}}
+    return {kind: names[0] if kind in ONLY else names if kind == "same" else {**v, "names": names}}
 
 
-def own_fault(s, v):
-    """The first keyword of a node that a value breaks, in the order that loading takes them in."""
-    if not has_kind(s.kind, v):
-        return "Type"
-    if s.choices is not None and not any(alike(it, v) for it in s.choices):
-        return "Enum"
-    size, low, high = (v, "minimum", "maximum") if is_whole(v) else (0, "", "")
-    if isinstance(v, str):
-        size, low, high = len(v), "minLength", "maxLength"
-    if isinstance(v, list):
-        size, low, high = len(v), "minItems", "maxItems"
-    if size < s.doc.get(low, size):
-        return low[0].upper() + low[1:]
-    if size > s.doc.get(high, size):
-        return high[0].upper() + high[1:]
-    if is_whole(v) and s.doc.get("format") == "int32" and not INT32[0] <= v <= INT32[1]:
-        return "Format"
-    return None
+def is_closed(node: Any) -> bool:
+    """Whether a node is an object with `properties` and nothing else."""
+    others = ("additionalProperties", "enum", "nullable", OPEN)
+    return at(node, "type") == "object" and isinstance(node.get("properties"), dict) and not any(node.get(it) for it in others)
 
 
-def fault(s, v):
-    """Where a value doesn't keep the schema first, and the word of the rule that it breaks; nothing where it keeps it."""
-    if v is None:
-        return None if s.nullable else ("", "Type")
-    word = own_fault(s, v)
-    if word:
-        return "", word
-    inner = []
-    if isinstance(v, list) and s.items:
-        inner = [(f"[{i}]", s.items, it) for i, it in enumerate(v)]
-    if isinstance(v, dict):
-        missing = [name for name in sorted(s.required) if name not in v]
-        if missing:
-            return missing[0], "Required"
-        inner = [(name, s.schema_for(name), v[name]) for name in sorted(v) if s.schema_for(name)]
-    for step, node, it in inner:
-        found = fault(node, it)
-        if found:
-            path, word = found
-            return (step + path if path.startswith("[") else ".".join(filter(None, [step, path]))), word
-    return None
+class Level:
+    """A level, by the names of both versions, the two nodes and its list of rules, or none where no rule opens the objects."""
+
+    def __init__(self, versions: List[str], nodes: List[Node], rules: Any, around: Optional[Level] = None, names: Any = ("", "")) -> None:
+        self.versions, self.nodes, self.around, self.names = versions, nodes, around, names
+        self.rules: Optional[List[Any]] = rules if isinstance(rules, list) else None
+        self.steps: List[List[str]] = [[*around.steps[side], names[side]] if around else [] for side in SIDES]
+        self.paths = ["".join(f"{it}." for it in steps) for steps in self.steps]
+
+    def fields(self, side: int) -> Dict[str, Node]:
+        named = self.nodes[side].get("properties") or {}
+        return {name: it for name, it in sorted(named.items()) if self.around or name not in OF_OBJECT}
+
+    def node(self, side: int, name: str) -> Optional[Node]:
+        return self.fields(side).get(name)
+
+    def is_required(self, side: int, name: str) -> bool:
+        return name in self.nodes[side].get("required", [])
+
+    def free(self, side: int) -> List[str]:
+        """The names of a side that no rule has."""
+        ruled = [it for rule in self.rules or [] for it in names_of(rule)]
+        return [name for name in self.fields(side) if (side, name) not in ruled]
+
+    def equal(self) -> List[str]:
+        """The names that no rule has, and that both sides have."""
+        there = self.free(HUB)
+        return [name for name in self.free(SPOKE) if name in there]
+
+    def all_rules(self) -> List[Rule]:
+        """The rules of the level, and one for each name that goes over without one."""
+        return [*(self.rules or []), *({"same": [it, it]} for it in self.equal())]
+
+    def unpaired(self, side: int) -> List[str]:
+        """The names of a side that no rule has, and that the other side doesn't have so."""
+        equal = self.equal()
+        return [name for name in self.free(side) if name not in equal]
+
+    def of(self, side: int, name: str) -> str:
+        """A name with its path and its version."""
+        return f"`{self.paths[side]}{name}` of {self.versions[side]}"
+
+    def inner(self, names: Any, rules: Any) -> Optional[Level]:
+        """The level inside two objects."""
+        nodes = [self.node(side, name) for side, name in zip(SIDES, names) if isinstance(name, str)]
+        there = [it for it in nodes if it and is_closed(it)]
+        return Level(self.versions, there, rules, self, names) if len(there) == 2 else None
 
 
-def is_filled(s, v):
-    """Whether nothing in a value would be pruned, or set by a default."""
-    if isinstance(v, list) and s.kind == "array" and s.items:
-        return all(is_filled(s.items, it) for it in v)
-    if not isinstance(v, dict) or s.kind != "object":
-        return True
-    if any(node.has_default and name not in v for name, node in (s.properties or {}).items()):
-        return False
-    is_open = s.doc.get(OPEN) is True
-    return all(is_filled(s.schema_for(name), it) if s.schema_for(name) else is_open for name, it in v.items())
+def root_level(crd: Any, rules: Any, spoke: str) -> Level:
+    schemas = {v["name"]: v["schema"]["openAPIV3Schema"] for v in crd["spec"]["versions"]}
+    return Level([spoke, rules["hub"]], [schemas[spoke], schemas[rules["hub"]]], at(rules, "spokes", spoke))
 
 
-def depth(v):
-    if not isinstance(v, (list, dict)):
-        return 0
-    return 1 + max([depth(it) for it in (v.values() if isinstance(v, dict) else v)], default=0)
+def levels(level: Level, with_closed: bool = False) -> Iterator[Level]:
+    """A level and those that `object` rules open below it, and on demand those that such rules could open between equal names."""
+    yield level
+    opened = [(list_at(it, "object", "names"), at(it, "object", "rules")) for it in level.rules or []]
+    for below in [level.inner(*it) for it in opened + [([it, it], None) for it in level.equal() if with_closed]]:
+        if below:
+            yield from levels(below, with_closed)
+
+
+# ---- whether rules fit
+
+
+def part(node: Node, rules: List[Rule], side: int) -> Node:
+    """What of an object's schema rules name."""
+    kept = {}
+    for rule in rules:
+        for name in [it for where, it in names_of(rule) if where == side]:
+            it = at(node, "properties", name) or {}
+            kept[name] = part(it, list_at(rule, "object", "rules"), side) if kind_of(rule) == "object" and is_closed(it) else it
+    return {**node, "properties": kept, "required": [it for it in node.get("required", []) if it in kept]}
+
+
+def fits(program: Program, level: Level, rules: List[Rule], nodes: Optional[List[Node]] = None) -> bool:
+    """Whether rules fit by themselves at a level."""
+    schemas = {}
+    for side, name in zip(SIDES, level.versions):
+        inner = {key: it for key, it in part((nodes or level.nodes)[side], rules, side).items() if key != "default"}
+        if not all(inner["properties"].values()):
+            return False
+        schemas[name] = {"type": "object", "properties": {"o": inner}}
+    around = [{"object": {"names": ["o", "o"], "rules": rules}}]
+    return not program.first(definition(schemas), {"hub": level.versions[HUB], "spokes": {level.versions[SPOKE]: around}})
+
+
+def kept(level: Level, names: List[Spot]) -> List[Rule]:
+    """Rules that keep fields at the side that has them."""
+    return [{ONLY[side]: name} for side, name in names if level.node(side, name)]
+
+
+def draft(program: Program, level: Level) -> List[Rule]:
+    """Rules for a level without rules: objects are opened, and what else differs is kept."""
+    rules: List[Rule] = []
+    for name in sorted({*level.fields(SPOKE), *level.fields(HUB)}):
+        below = level.inner([name, name], None)
+        if not fits(program, level, [{"same": [name, name]}]):
+            opened = [{"object": {"names": [name, name], "rules": draft(program, below)}}] if below else []
+            rules += opened or kept(level, [(SPOKE, name), (HUB, name)])
+    return rules
 
 
 # ---- what differs
 
-def differences(versions, one, two):
-    """What differs between two schemas in more than their own defaults, keyword by keyword; of many differences the first ones."""
-    found, nodes = [], [("", one, two)]
 
-    def add(keyword, path, first, second):
-        of = f" of {path}" if path else ""
-        found.append(f"`{keyword}`{of} is {first} at {versions[0]} and {second} at {versions[1]}")
-
-    def pair(path, name, first, second):
+def differences(versions: List[str], one: Node, two: Node, path: str = "") -> Iterator[str]:
+    """What differs between two schemas in more than their own defaults."""
+    of = f" of {path}" if path else ""
+    for name in sorted({*one, *two} - PASSED - INSIDE - (set() if path else {"default"})):
+        if not alike(one.get(name), two.get(name)):
+            first, second = (shown(it[name]) if name in it else "none" for it in (one, two))
+            yield f"`{name}`{of} is {first} at {versions[0]} and {second} at {versions[1]}"
+    named = [{**{it: node.get(it) for it in INSIDE - {"properties"}}, **node.get("properties", {})} for node in (one, two)]
+    for name in sorted({*named[0], *named[1]}):
+        first, second = (it.get(name) for it in named)
         if first and second:
-            nodes.append((inside(path, name), first, second))
-        elif first:
-            add(name, path, "there", "not")
-        elif second:
-            add(name, path, "not there", "there")
-
-    while nodes:
-        path, one, two = nodes.pop()
-        for (keyword, first), (_, second) in zip(one.keywords(), two.keywords()):
-            if first != second and (path or keyword != "default"):
-                add(keyword, path, first, second)
-        for name, node in (one.properties or {}).items():
-            pair(path, name, node, two.field(name))
-        for name, node in (two.properties or {}).items():
-            if not one.field(name):
-                pair(path, name, None, node)
-        pair(path, "additionalProperties", one.additional, two.additional)
-        pair(path, "items", one.items, two.items)
-    told = "; ".join(found[:MOST_TOLD]) + ("; and more" if len(found) > MOST_TOLD else "")
-    return told or "in a long `enum`, or deep inside"
+            yield from differences(versions, first, second, inside(path, name))
+        elif first or second:
+            there, lacks = versions if first else versions[::-1]
+            yield f"`{inside(path, name)}` is there at {there} and not at {lacks}"
 
 
-def are_alike(one, two, is_inside=False):
-    """Whether two schemas say the same in every keyword that is read, those inside of them too; but for their own defaults, where they
-    aren't inside others."""
-    def own(s):
-        default = [s.has_default, s.default] if is_inside else []
-        return list(s.keywords())[:10], s.choices, s.required, default, sorted(s.properties or {}), s.properties is None
-
-    inner = [(one.additional, two.additional), (one.items, two.items)]
-    if [it is None for it, _ in inner] != [it is None for _, it in inner] or not alike(own(one), own(two)):
-        return False
-    inner += [(node, two.field(name)) for name, node in (one.properties or {}).items()]
-    return all(are_alike(a, b, is_inside=True) for a, b in inner if a)
+def wider(one: Node, two: Node) -> Optional[Node]:
+    """The keywords by which two nodes that differ in bounds alone take the values of both; nothing where more differs."""
+    found: Node = {}
+    for name in sorted({*one, *two} - PASSED - {"default"}):
+        has = [it[name] for it in (one, two) if name in it]
+        if len(has) == 2 and alike(*has):
+            found[name] = has[0]
+        elif name[:3] in ("min", "max"):
+            found.update({name: (min if name[:3] == "min" else max)(has)} if len(has) == 2 else {})
+        elif name == "nullable":
+            found[name] = True
+        elif name not in ("format", "enum"):
+            return None
+    return found

@@ -10,6 +10,8 @@ it was. cases.json has what docs/RULES.md says of rules: the fields of a `spoke`
 path and word they are `refused`; or fields `at_spoke` and `at_hub` that are the same, or what is `shown` of those `from_` one of them,
 where something is `kept` unless it says false, and which come `back` as they were or with defaults. A case may have the fields of a
 `second` spoke, with `second_rules`.
+Of each definition of projects/, as a cluster has it, ./rehearse says of its objects what stands in NAME.told, but for the seconds, and that
+nothing is lost; a second version is added first where it has one alone.
 Of prepare/definitions.json tools/prepare_crd.py makes widgets.json, saying what stands in widgets.said, and of the other definition it
 says what stands in gadgets.said. Prints a line for each file; what differs is told on standard error, and then the status is 1.
 """
@@ -21,8 +23,15 @@ import sys
 import tempfile
 
 HERE = pathlib.Path(__file__).resolve().parent
+TOP = HERE.parent.parent
+sys.path.insert(0, str(TOP))
+sys.dont_write_bytecode = True
+from rehearsing.tests.running import rehearsed  # noqa: E402
+
 KEPT = re.compile(r"(hub|spoke)\.kubeconv\.local/")
 HUB, SPOKE, SECOND = "v1", "v1beta1", "v1alpha1"
+# Definitions of projects that have one version.
+ONE_VERSION = ("certificate",)
 # What stands before a path.
 METHODS = re.compile(rb"(GET|POST|PUT) /apis/")
 
@@ -153,18 +162,32 @@ def try_cases(program, file):
     return f"{len(cases)} cases"
 
 
-def prepared(file, name):
+def try_project(program, file):
+    rules, crd = file.with_suffix(".rules.json"), file.with_suffix(".yaml")
+    with tempfile.NamedTemporaryFile("w", suffix=".json") as added:
+        if crd.stem in ONE_VERSION:
+            text, said = prepared(crd, "--webhook", "--add-version", json.loads(rules.read_text())["hub"])
+            same("a version is added", said[0].startswith("added: "), True)
+            added.write(text)
+            added.flush()
+            crd = added.name
+        status, told, why = rehearsed(program, "--crd", crd, "--rules", rules, file.with_suffix(".objects.yaml"))
+    same(f"what is told, beside {why!r}", told.splitlines(), file.read_text().splitlines())
+    same("the status", status, 0)
+    return told.partition("\n")[0]
+
+
+def prepared(file, *words):
     """What tools/prepare_crd.py prints of a definition, and what it says."""
-    tool = HERE.parent.parent / "tools" / "prepare_crd.py"
-    done = subprocess.run([sys.executable, tool, "--name", name, "-"], input=file.read_text(), capture_output=True, text=True)
+    done = subprocess.run([sys.executable, TOP / "tools" / "prepare_crd.py", *words, "-"], input=file.read_text(), capture_output=True, text=True)
     return done.stdout, [line.removeprefix("prepare_crd.py: -: ") for line in done.stderr.splitlines()]
 
 
 def try_prepared(program, file):
-    made, said = prepared(file, "widgets.example.com")
+    made, said = prepared(file, "--name", "widgets.example.com")
     same("what is said of widgets", said, (file.parent / "widgets.said").read_text().splitlines())
     same("widgets", json.loads(made), json.loads((file.parent / "widgets.json").read_text()))
-    nothing, refused = prepared(file, "gadgets.example.com")
+    nothing, refused = prepared(file, "--name", "gadgets.example.com")
     same("what is refused of gadgets", (nothing, refused), ("", (file.parent / "gadgets.said").read_text().splitlines()))
     widget = {"apiVersion": "example.com/v1", "kind": "Widget", "metadata": {"name": "a"}, "spec": {"host": "a", "tls": {"secret": "b"}}}
     rules = Rules(program, "widgets", file.parent)
@@ -176,7 +199,8 @@ def main(words):
     if len(words) != 1:
         sys.exit(__doc__)
     wrong = 0
-    for end, look in ((".http", try_requests), (".objects.json", try_objects), ("cases.json", try_cases), ("definitions.json", try_prepared)):
+    looks = {".http": try_requests, ".objects.json": try_objects, "cases.json": try_cases, "definitions.json": try_prepared, ".told": try_project}
+    for end, look in looks.items():
         for file in sorted(HERE.rglob(f"*{end}")):
             try:
                 print(f"{file.name}: {look(words[0], file)}")

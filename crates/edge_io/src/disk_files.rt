@@ -1,7 +1,8 @@
 //! The files of the system.
-ghost use Rattle.std.specs.Prelude.{◌≡◌, ◌≤◌, None, IfOk, IfErr, length};
+ghost use Rattle.std.specs.Prelude.{◌≡◌, ◌≤◌, ◌++◌, None, IfOk, IfErr, IfSome, length};
 ghost use Rattle.edge_io.specs.Causes.{Rose};
-ghost use Rattle.edge_io.specs.Files.{OnFailed};
+ghost use Rattle.edge_io.specs.Files.{OnFailed, ReadsFile, ShowsFault};
+ghost use Rattle.edge_io.specs.laws.Pieces.{ReadsPiece};
 
 use crate::{FileFault, Files, MOST_FILE_BYTES};
 use kj_value::Txt;
@@ -38,10 +39,12 @@ impl<R: rt::Files> DiskFiles<R> {
     }
 }
 
-// Reads one more piece behind the bytes, and tells whether there was one.
+// Reads one more piece behind the bytes, and tells whether there was one. `TooLong` comes only where more stands there than fits.
 fn read_piece<S: Read>(from: &mut S, bytes: &mut Vec<u8>) -> Result<bool, FileFault>
     requires { length bytes.old.items ≤ MOST_FILE_BYTES }
     ensures short { IfOk result (λ _. length bytes.new.items ≤ MOST_FILE_BYTES) }
+    ensures read { IfOk result (ReadsPiece (S.remaining from.old) (S.remaining from.new) bytes.old.items bytes.new.items) }
+    ensures fault { IfErr result (λ fault. IfSome (S.remaining from.old) (λ left. ShowsFault (bytes.old.items ++ left) fault)) }
 {
     let mut piece = [0; PIECE_BYTES];
     match from.read(&mut piece) {
@@ -61,6 +64,8 @@ fn read_piece<S: Read>(from: &mut S, bytes: &mut Vec<u8>) -> Result<bool, FileFa
 // All bytes of a reader. Each piece but the last has one byte at least.
 fn read_all<S: Read>(alloc: Global, from: &mut S) -> Result<Vec<u8>, FileFault>
     ensures short { IfOk result (λ bytes. length bytes.items ≤ MOST_FILE_BYTES) }
+    ensures whole { IfOk result (λ bytes. IfSome (S.remaining from.old) (λ all. bytes.items ≡ all)) }
+    ensures fault { IfErr result (λ fault. IfSome (S.remaining from.old) (λ all. ShowsFault all fault)) }
 {
     let mut bytes = Vec::new(alloc);
     for turn in 0..MOST_FILE_BYTES {
@@ -75,6 +80,18 @@ fn read_all<S: Read>(alloc: Global, from: &mut S) -> Result<Vec<u8>, FileFault>
     Ok(bytes)
 }
 
+// The text that a reader's bytes are, which aren't too many. `TooLong` comes before `NotText`.
+fn read_text<S: Read>(alloc: Global, from: &mut S) -> Result<Txt, FileFault>
+    ensures read { IfSome (S.remaining from.old) (λ all. ReadsFile all result) }
+    ensures short { IfOk result (λ text. length text.bytes ≤ MOST_FILE_BYTES) }
+{
+    let bytes = read_all(alloc, from)?;
+    match Txt::of_bytes(bytes) {
+        Some(text) => Ok(text),
+        None => Err(FileFault::NotText),
+    }
+}
+
 impl<R: rt::Files> Files for DiskFiles<R> {
     ghost file = { λ f path. None };
 
@@ -84,11 +101,8 @@ impl<R: rt::Files> Files for DiskFiles<R> {
         let Ok(mut file) = fs::open(&self.system, path) else {
             return Err(self.failed());
         };
-        match read_all(alloc, &mut file) {
-            Ok(bytes) => match Txt::of_bytes(bytes) {
-                Some(text) => Ok(text),
-                None => Err(FileFault::NotText),
-            },
+        match read_text(alloc, &mut file) {
+            Ok(text) => Ok(text),
             Err(FileFault::Failed) => Err(self.failed()),
             Err(FileFault::TooLong) => Err(FileFault::TooLong),
             Err(FileFault::NotText) => Err(FileFault::NotText),

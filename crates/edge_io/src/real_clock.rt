@@ -1,5 +1,5 @@
 //! The system's clock.
-ghost use Rattle.std.specs.Prelude.{◌≡◌, ◌<◌, ◌^◌, ◌/◌, ℕ, None, IfOk, OnErr, MatchResult};
+ghost use Rattle.std.specs.Prelude.{◌≡◌, ◌<◌, ◌≤◌, ◌^◌, ◌/◌, ℕ, None, IfOk, IfErr, OnErr, MatchResult};
 ghost use Rattle.std.specs.Duration.{as_nanos};
 ghost use Rattle.edge_io.specs.Stamps.{HasStampForm, IsDateTime, IsPlain};
 
@@ -29,6 +29,8 @@ impl<R: time::Clock> RealClock<R> {
 fn second_in(read: io::Result<Duration>) -> u64
     ensures bound { result < 2 ^ 37 }
     ensures read { IfOk read (λ d. as_nanos d / 1_000_000_000 < 2 ^ 37 → result ≡ as_nanos d / 1_000_000_000) }
+    ensures late { IfOk read (λ d. 2 ^ 37 ≤ as_nanos d / 1_000_000_000 → result ≡ 0) }
+    ensures unread { IfErr read (λ _. result ≡ 0) }
 {
     match read {
         Ok(since) if since.as_secs() < SECONDS_LIMIT => since.as_secs(),

@@ -1,9 +1,9 @@
 //! A dump over one link.
-ghost use Rattle.std.specs.Prelude.{◌≡◌, ⊤, Err, IfOk, IfErr, OnErr};
+ghost use Rattle.std.specs.Prelude.{◌≡◌, ◌⊎◌, ⊤, Err, IfOk, IfErr, OnErr};
 ghost use Rattle.edge_io.specs.Causes.{Rose};
 ghost use Rattle.place.specs.Place.{IsPlace, OnBadPlace, PlaceView, place_of};
 ghost use Rattle.place.specs.declared.PlaceFault.TheVariants.{BadPlace};
-ghost use Rattle.record_dump.specs.Dumps.{OnDone, OnFaults};
+ghost use Rattle.record_dump.specs.Dumps.{OnBrokenOff, OnDone, OnFaults};
 ghost use Rattle.far_lines.specs.Dumped.{Dumped, DumpedAt};
 
 use edge_io::Sink;
@@ -24,6 +24,7 @@ fn dump_over<L: Links, K: Sink>(
 ) -> Result<DumpEnd, NoMemory>
     ensures dumped { IfOk result (Dumped (place_of place.now).names (L.returned links.old) (L.returned links.new) (K.written output.old) (K.written output.new)) }
     ensures flushed { IfOk result (OnDone (K.flushed output.new ≡ K.written output.new)) }
+    ensures handed_on { IfOk result (OnBrokenOff ((output.new ≡ output.old) ⊎ (K.flushed output.new ≡ K.written output.new))) }
     ensures cause { IfOk result (OnFaults ⊤ (Rose (K.faults output.old) (K.faults output.new))) }
     ensures unmade { OnErr result ((L.returned links.new ≡ L.returned links.old) × (output.new ≡ output.old)) }
 {
@@ -40,7 +41,8 @@ fn dump_over<L: Links, K: Sink>(
 /// Writes each object as a line that a server lists at the place whose address a text is, over one link that is made and given back.
 ///
 /// There is no dump exactly where the text is no place's address, and then no link is made, or where memory is wanted for the place or the
-/// link. `LinkFault` comes only where the count of faults of the link rose, and `WriteFault` only where that of `output` did.
+/// link. `LinkFault` comes only where the count of faults of the link rose, and `WriteFault` only where that of `output` did. The lines of a
+/// page are handed on before the next page is asked for: where the dump breaks off, what was written by then was handed on.
 pub fn dump_line<L: Links, K: Sink>(
     alloc: Global,
     url: &str,
@@ -49,6 +51,7 @@ pub fn dump_line<L: Links, K: Sink>(
 ) -> Result<DumpEnd, PlaceFault>
     ensures dumped { IfOk result (DumpedAt url.now (L.returned links.old) (L.returned links.new) (K.written output.old) (K.written output.new)) }
     ensures flushed { IfOk result (OnDone (K.flushed output.new ≡ K.written output.new)) }
+    ensures handed_on { IfOk result (OnBrokenOff ((output.new ≡ output.old) ⊎ (K.flushed output.new ≡ K.written output.new))) }
     ensures cause { IfOk result (OnFaults ⊤ (Rose (K.faults output.old) (K.faults output.new))) }
     ensures placeless { IfErr result (OnBadPlace ((p : PlaceView) → IsPlace url.now p → ⊥)) }
     ensures untouched { OnErr result ((L.returned links.new ≡ L.returned links.old) × (output.new ≡ output.old)) }

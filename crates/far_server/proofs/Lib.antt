@@ -1,2 +1,3 @@
 pub mod Serving
 pub mod Made
+pub mod Saying

@@ -55,3 +55,13 @@ pub record Paced {S I O : Type 0} (h : Handles I O) (Step : S → Request → Re
   pub moment : Moment I O
   pub turns : InTurn h Step most s k before moment
   pub last : Finishes h Step most end before moment t n
+
+-- the end of a connection for which there was no memory: the one response to that was written, or a front of it
+abbrev pub IsUnserved : End → Type 0
+IsUnserved NoMemory = Unit {0}
+IsUnserved WriteFault = Unit {0}
+IsUnserved Closed = ⊥
+IsUnserved (Torn held) = ⊥
+IsUnserved (Refused f) = ⊥
+IsUnserved ReadFault = ⊥
+IsUnserved Spent = ⊥

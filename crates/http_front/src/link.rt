@@ -6,7 +6,7 @@ ghost use Rattle.shared_api.specs.Base.{server_of};
 ghost use Rattle.shared_api.specs.Passes.{IsOf};
 ghost use Rattle.http_front.specs.Steps.{StepAnswers, IsSameBut, Quiet, point_of};
 ghost use Rattle.http_front.specs.Link.{LinkBlames, Links, UnlessUnwritten};
-ghost use Rattle.http_front.specs.Paced.{Paced};
+ghost use Rattle.http_front.specs.Paced.{IsUnserved, Paced};
 ghost use Rattle.http_front.specs.inner.Ends.{end_by};
 
 use crate::one::{OneEnd, serve_one};
@@ -107,9 +107,9 @@ pub fn serve_link<V: Versions + Drop, S: Source, K: Sink, C: Clock, R: Wait>(
     ensures links { (n : ℕ) → pass.old.view.number ≡ Some n
         → Links (StepAnswers (record { server = server_of V.meaning api.now.base; told = C.told clock.now }) n) MOST_REQUESTS (input.new ≡ input.old) result
         (point_of V.Tool.faults pass.old) (point_of V.Tool.faults pass.new) (S.left input.old) (K.written output.old) (K.written output.new) }
-    // Where anything was read, each request was answered and its answer handed on before more was read, and nothing was read behind one
-    // that asked for closing but what came with it.
-    ensures paced { (n : ℕ) → pass.old.view.number ≡ Some n → (input.new ≡ input.old) ⊎ ((held : List ℕ)
+    // Each request was answered and its answer handed on before more was read, and nothing was read behind one that asked for closing but
+    // what came with it. Only where there was no memory for the connection there is no such step, and nothing was read.
+    ensures paced { (n : ℕ) → pass.old.view.number ≡ Some n → (IsUnserved result × (input.new ≡ input.old)) ⊎ ((held : List ℕ)
         × Paced (record { left = S.left; written = K.written; flushed = K.flushed }) (StepAnswers (record { server = server_of V.meaning api.now.base; told = C.told clock.now }) n) (S.most input.old) result
         (point_of V.Tool.faults pass.old) (record { held = []; input = input.old; output = output.old })
         (point_of V.Tool.faults pass.new) (record { held = held; input = input.new; output = output.new })) }

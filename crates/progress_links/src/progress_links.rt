@@ -4,6 +4,7 @@ ghost use Rattle.edge_io.specs.Causes.{Rose};
 ghost use Rattle.edge_io.specs.Exchanges.{after_exchange, answer_of, OnBroken};
 ghost use Rattle.edge_io.specs.Connections.{AddsOne};
 ghost use Rattle.progress_links.specs.Progress.{MayAdd, MayTell, GivesBack, erased, progress};
+ghost use Rattle.tcp_links.specs.Links.{AsksOne};
 
 use crate::telling::{erase, is_due, tell};
 use edge_io::{Link, LinkFault, Sink};
@@ -73,6 +74,10 @@ impl<'a, T, L, K> ProgressLinks<'a, T, L, K> {
 impl<'a, T: Clock + Sync, L: Links, K: Sink + Send + Drop> Links for ProgressLinks<'a, T, L, K> {
     type One = ProgressLink<'a, T, L::One, K>;
 
+    ghost asked = { λ s. L.asked s.links };
+
+    ghost peer = { λ l. L.peer l.link };
+
     ghost returned = { λ s. L.returned s.links };
 
     fn make(
@@ -83,6 +88,8 @@ impl<'a, T: Clock + Sync, L: Links, K: Sink + Send + Drop> Links for ProgressLin
     ) -> Result<ProgressLink<'a, T, L::One, K>, NoMemory>
         ensures unused { IfOk result (λ l. L.One.faults l.link ≡ 0) }
         ensures none { IfOk result (λ l. IfSome (L.One.exchanges l.link) (λ es. es ≡ [])) }
+        ensures asked { AsksOne (L.asked self.old.links) (L.asked self.new.links) (record { host = host.now; port = port }) result }
+        ensures peer { IfOk result (λ l. IfSome (L.peer l.link) (λ p. p ≡ record { host = host.now; port = port })) }
         ensures returned { L.returned self.new.links ≡ L.returned self.old.links }
 
         // It counts from 0, told nothing, and has the sink until it is taken back.
@@ -103,6 +110,7 @@ impl<'a, T: Clock + Sync, L: Links, K: Sink + Send + Drop> Links for ProgressLin
 
     /// Takes a link back, and its sink, on which the line is erased where something was told.
     fn back(&mut self, one: ProgressLink<'a, T, L::One, K>)
+        ensures asked { L.asked self.new.links ≡ L.asked self.old.links }
         ensures returned { AddsOne (L.returned self.old.links) (L.returned self.new.links) (record { exchanges = L.One.exchanges one.entry.link; faults = L.One.faults one.entry.link }) }
         ensures sink { GivesBack K.written one.entry.lit one.entry.sink self.old.sink self.new.sink }
     {

@@ -1,6 +1,6 @@
 -- One page in memory, its lines, and where a dump stands behind it.
-use Rattle.std.proofs.Common.{◌≡◌, ◌<◌, ◌≤◌, ◌+◌, ℕ, Bool, true, false, List, [], ◌∷◌, ◌++◌, map, length, Option, None, unwrap_or, refl, ap, sym, ◌∙◌, subst, arith}
-use Rattle.std.proofs.lemmas.List.{append-nil, length-map}
+use Rattle.std.proofs.Common.{◌≡◌, ◌⊎◌, ◌<◌, ◌≤◌, ◌+◌, ℕ, Bool, true, false, List, [], ◌∷◌, ◌++◌, map, length, Option, None, unwrap_or, refl, ap, sym, ◌∙◌, inl, inr, subst, arith}
+use Rattle.std.proofs.lemmas.List.{length-map}
 use Rattle.std.specs.Io.KnownBytes.{append_known}
 use Rattle.kj_value.specs.Json.{Json}
 use Rattle.kj_value.specs.Seen.{json}
@@ -18,8 +18,8 @@ use Rattle.far_migrate.specs.Answered.{Did}
 use Rattle.far_migrate.specs.Pages.{goes_on_from, objects_of, token_of, is_empty, last_key, most_objects}
 use Rattle.record_dump.specs.Lines.{lines_of}
 use Rattle.record_dump.specs.Dumps as dumps
-use Rattle.record_dump.specs.Dumps.{Dumps, goes_on, after_page, IsUnwritten, OnFaults, OnDone}
-use Rattle.record_dump.specs.inner.Seen.{walk_of, left_in, OnUnsent, unsent_as, OnEnded, EndsPage, TakesPage}
+use Rattle.record_dump.specs.Dumps.{Dumps, goes_on, after_page, IsUnwritten, OnBrokenOff, OnFaults, OnDone}
+use Rattle.record_dump.specs.inner.Seen.{walk_of, left_in, OnUnsent, unsent_as, OnEnded, TakesPage}
 use Rattle.record_dump.specs.declared.ends.DumpEnd.{DumpEnd}
 use Rattle.record_dump.specs.declared.ends.DumpEnd.TheVariants as ends
 use Rattle.record_dump.specs.declared.dumping.Turned.{Turned}
@@ -88,26 +88,20 @@ takes_unsent old new a b p u d goes some is =
     by_why unsent.NoMemory = tt
 
 -- all of them
-pub takes_last : (old mid new : Option (List ℕ)) (a b : Walk) (p : ListPage) (k : ℕ) (d : DumpEnd) → GoesOn a p true → is_empty p.token.bytes ≡ true
-    → mid ≡ append_known old (lines_of p.items) → new ≡ mid → k ≡ a.listed + length p.items → EndsPage k d → Taken old new a p b (turned.Ended d)
-takes_last old mid new a b p k (ends.Done lines) goes empty wrote same many is = (
+pub takes_last : (old new : Option (List ℕ)) (a b : Walk) (p : ListPage) (k : ℕ) → GoesOn a p true → is_empty p.token.bytes ≡ true
+    → new ≡ append_known old (lines_of p.items) → k ≡ a.listed + length p.items → Taken old new a p b (turned.Ended (ends.Done k))
+takes_last old new a b p k goes empty wrote many = (
   lines_of p.items,
-  same ∙ wrote,
+  wrote,
   λ n j e did page. by_page n j e did page,
 )
   where
-    by_page : (n : Names) (j : Json) (e : Exchange) → Did n (lists a.limit a.token.bytes) e (given j) → IsPage j p → Dumps n (walk_of a) (e ∷ []) (lines_of p.items) (ends.Done lines)
+    by_page : (n : Names) (j : Json) (e : Exchange) → Did n (lists a.limit a.token.bytes) e (given j) → IsPage j p → Dumps n (walk_of a) (e ∷ []) (lines_of p.items) (ends.Done k)
     by_page n j e did page =
-        let count : a.listed + length (objects_of j) ≡ lines = ap (λ (js : List Json). a.listed + length js) (objects_are j p page) ∙ sym many ∙ sym is in
+        let count : a.listed + length (objects_of j) ≡ k = ap (λ (js : List Json). a.listed + length js) (objects_are j p page) ∙ sym many in
         subst (λ (x : ℕ). Dumps n (walk_of a) (e ∷ []) (lines_of p.items) (ends.Done x)) count
         (subst (λ (js : List Json). Dumps n (walk_of a) (e ∷ []) (lines_of js) (ends.Done (a.listed + length (objects_of j)))) (objects_are j p page)
         (dumps.last _ j e did (goes j page) (empty_is j p true empty page)))
-takes_last old mid new a b p k ends.LinkFault goes empty wrote same many is = absurd is
-takes_last old mid new a b p k ends.WriteFault goes empty wrote same many is =
-    takes_front old new a b p ends.WriteFault goes (record { front = lines_of p.items; back = []; whole = sym (append-nil (lines_of p.items)); wrote = same ∙ wrote }) tt
-takes_last old mid new a b p k (ends.Answer c) goes empty wrote same many is = absurd is
-takes_last old mid new a b p k ends.Expired goes empty wrote same many is = absurd is
-takes_last old mid new a b p k ends.NoMemory goes empty wrote same many is = absurd is
 
 -- ---- where a dump stands behind a page
 
@@ -179,6 +173,37 @@ unsent_not_done P u d is = subst (λ (x : DumpEnd). OnDone P x) (sym is) (by_why
     by_why : (v : Unsent) → OnDone P (unsent_as v)
     by_why unsent.Failed = tt
     by_why unsent.NoMemory = tt
+
+pub unsent_not_broken : (P : Type 0) (u : Unsent) (d : DumpEnd) → d ≡ unsent_as u → OnBrokenOff P d
+unsent_not_broken P u d is = subst (λ (x : DumpEnd). OnBrokenOff P x) (sym is) (by_why u)
+  where
+    by_why : (v : Unsent) → OnBrokenOff P (unsent_as v)
+    by_why unsent.Failed = tt
+    by_why unsent.NoMemory = tt
+
+-- what holds in any case
+pub broken_any : (P : Type 0) (d : DumpEnd) → P → OnBrokenOff P d
+broken_any P (ends.Done k) h = tt
+broken_any P ends.LinkFault h = h
+broken_any P ends.WriteFault h = tt
+broken_any P (ends.Answer c) h = h
+broken_any P ends.Expired h = h
+broken_any P ends.NoMemory h = tt
+
+-- the output is as it was, or all was handed on: so of two steps
+pub handed_more : {T : Type 0} (written flushed : T → Option (List ℕ)) (a b c : T) → (b ≡ a) ⊎ (flushed b ≡ written b) → (c ≡ b) ⊎ (flushed c ≡ written c)
+    → (c ≡ a) ⊎ (flushed c ≡ written c)
+handed_more {T} written flushed a b c (inl first) (inl second) = inl (second ∙ first)
+handed_more {T} written flushed a b c (inr first) (inl second) = inr (subst (λ (x : T). flushed x ≡ written x) (sym second) first)
+handed_more {T} written flushed a b c first (inr second) = inr second
+
+pub broken_maps : (P Q : Type 0) (d : DumpEnd) → (P → Q) → OnBrokenOff P d → OnBrokenOff Q d
+broken_maps P Q (ends.Done k) f h = tt
+broken_maps P Q ends.LinkFault f h = f h
+broken_maps P Q ends.WriteFault f h = tt
+broken_maps P Q (ends.Answer c) f h = f h
+broken_maps P Q ends.Expired f h = f h
+broken_maps P Q ends.NoMemory f h = tt
 
 pub blames_more : (P Q : Type 0) (r : Turned) → OnEnded (OnFaults ⊥ Q) r → OnEnded (OnFaults P Q) r
 blames_more P Q turned.More h = tt

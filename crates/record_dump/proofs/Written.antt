@@ -11,6 +11,10 @@ use Rattle.record_dump.specs.Lines.{line_of, lines_of}
 pub none_added : (before : Option (List ℕ)) (bytes : List ℕ) → AddsSome before before bytes
 none_added before bytes = record { front = []; back = bytes; whole = refl; wrote = known_nil before }
 
+-- all was written
+pub all_added : (before mid now : Option (List ℕ)) (bytes : List ℕ) → mid ≡ append_known before bytes → now ≡ mid → AddsSome before now bytes
+all_added before mid now bytes wrote same = record { front = bytes; back = []; whole = sym (append-nil bytes); wrote = same ∙ wrote }
+
 pub lines_both : (xs ys : List Json) → lines_of (xs ++ ys) ≡ lines_of xs ++ lines_of ys
 lines_both [] ys = refl
 lines_both (x ∷ xs) ys = ap (λ (bs : List ℕ). line_of x ++ bs) (lines_both xs ys) ∙ sym (append_assoc (line_of x) (lines_of xs) (lines_of ys))

@@ -88,6 +88,15 @@ OnFaults P Q (ends.Answer c) = ⊤
 OnFaults P Q ends.Expired = ⊤
 OnFaults P Q ends.NoMemory = ⊤
 
+-- P holds where the dump broke off: of the pages before, whose lines were written
+abbrev pub OnBrokenOff : Type 0 → DumpEnd → Type 0
+OnBrokenOff P (ends.Done lines) = ⊤
+OnBrokenOff P ends.LinkFault = P
+OnBrokenOff P ends.WriteFault = ⊤
+OnBrokenOff P (ends.Answer c) = P
+OnBrokenOff P ends.Expired = P
+OnBrokenOff P ends.NoMemory = ⊤
+
 -- P holds where all was written
 abbrev pub OnDone : Type 0 → DumpEnd → Type 0
 OnDone P (ends.Done lines) = P

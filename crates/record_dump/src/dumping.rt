@@ -1,5 +1,5 @@
 //! A whole dump.
-ghost use Rattle.std.specs.Prelude.{◌≡◌, ◌≤◌, ◌+◌, ℕ, List, [], length};
+ghost use Rattle.std.specs.Prelude.{◌≡◌, ◌≤◌, ◌+◌, ◌⊎◌, ℕ, List, [], length};
 ghost use Rattle.std.specs.Io.KnownBytes.{append_known};
 ghost use Rattle.kj_value.specs.Json.{items_depth, items_of};
 ghost use Rattle.edge_io.specs.Causes.{Rose};
@@ -9,11 +9,11 @@ ghost use Rattle.wire_client.specs.Far.{Made};
 ghost use Rattle.wire_client.specs.Keys.{AreKeyed};
 ghost use Rattle.wire_client.specs.declared.buffer.TheConstants.{ANSWER_LEVELS};
 ghost use Rattle.far_migrate.specs.Pages.{most_objects};
-ghost use Rattle.record_dump.specs.Dumps.{at_first, Dumps, OnFaults, OnDone};
-ghost use Rattle.record_dump.specs.inner.Seen.{walk_of, ListEnds, Turns, TakesPage, IsWalking, OnEnded, EndsPage, unsent_as};
+ghost use Rattle.record_dump.specs.Dumps.{at_first, Dumps, OnBrokenOff, OnFaults, OnDone};
+ghost use Rattle.record_dump.specs.inner.Seen.{walk_of, ListEnds, Turns, TakesPage, IsWalking, OnEnded, OnTurned, unsent_as};
 
 use crate::ends::DumpEnd;
-use crate::line::{Unsent, send_all};
+use crate::line::{Unsent, send_page};
 use crate::walk::Walk;
 use edge_io::Sink;
 use far_migrate::{goes_on, is_last, last_of};
@@ -71,21 +71,7 @@ fn unsent_end(unsent: Unsent) -> DumpEnd
     }
 }
 
-// Hands on what was written.
-fn finish<K: Sink>(out: &mut K, lines: u64) -> DumpEnd
-    ensures same { K.written out.new ≡ K.written out.old }
-    ensures end { EndsPage lines result }
-    ensures flushed { OnDone (K.flushed out.new ≡ K.written out.new) result }
-    ensures later { K.faults out.old ≤ K.faults out.new }
-    ensures cause { OnFaults ⊥ (Rose (K.faults out.old) (K.faults out.new)) result }
-{
-    match out.flush() {
-        Ok(()) => DumpEnd::Done { lines },
-        Err(_) => DumpEnd::WriteFault,
-    }
-}
-
-// Writes the lines of a page, and goes on to the next.
+// Writes the lines of a page, hands them on, and goes on to the next.
 fn take_page<K: Sink>(alloc: Global, walk: &mut Walk, page: ListPage, out: &mut K) -> Turned
     requires walking { IsWalking walk.old }
     requires levels { items_depth (items_of page.items) ≤ ANSWER_LEVELS }
@@ -93,6 +79,7 @@ fn take_page<K: Sink>(alloc: Global, walk: &mut Walk, page: ListPage, out: &mut 
     ensures wrote { (w : List ℕ) × (K.written out.new ≡ append_known (K.written out.old) w) × TakesPage walk.old page w walk.new result }
     ensures walking { IsWalking walk.new }
     ensures flushed { OnEnded (OnDone (K.flushed out.new ≡ K.written out.new)) result }
+    ensures handed_on { OnTurned ((out.new ≡ out.old) ⊎ (K.flushed out.new ≡ K.written out.new)) result }
     ensures later { K.faults out.old ≤ K.faults out.new }
     ensures cause { OnEnded (OnFaults ⊥ (Rose (K.faults out.old) (K.faults out.new))) result }
 {
@@ -114,12 +101,12 @@ fn take_page<K: Sink>(alloc: Global, walk: &mut Walk, page: ListPage, out: &mut 
         Err(NoMemory) => return Turned::Ended(DumpEnd::NoMemory),
     };
     let listed = walk.listed + items.len() as u64;
-    match send_all(alloc, out, items) {
+    match send_page(alloc, out, items) {
         Ok(()) => {}
         Err(unsent) => return Turned::Ended(unsent_end(unsent)),
     }
     if is_last(token.as_str()) {
-        return Turned::Ended(finish(out, listed));
+        return Turned::Ended(DumpEnd::Done { lines: listed });
     }
     walk.token = token;
     walk.last = last;
@@ -145,6 +132,7 @@ fn turn<R: Far, K: Sink>(
         × Turns (place_of place.now).names (walk_of walk.old) es w (walk_of walk.new) result }
     ensures walking { IsWalking walk.new }
     ensures flushed { OnEnded (OnDone (K.flushed out.new ≡ K.written out.new)) result }
+    ensures handed_on { OnTurned ((out.new ≡ out.old) ⊎ (K.flushed out.new ≡ K.written out.new)) result }
     ensures cause { OnEnded (OnFaults (Rose (R.faults far.old) (R.faults far.new)) (Rose (K.faults out.old) (K.faults out.new))) result }
 {
     match list_page(far, alloc, buffer, place, walk.limit, walk.token.as_str()) {
@@ -164,8 +152,9 @@ fn turn<R: Far, K: Sink>(
 /// Lists all objects of the place, page by page, and writes each as a line: its compact text without what a server sets anew when the
 /// object is created.
 ///
-/// A page has at most 500 objects; one whose body is too long is asked for with half as many, from then on. Where the server has
-/// forgotten the list the dump ends, since what it wrote is of that list. What was written by then stays.
+/// A page has at most 500 objects; one whose body is too long is asked for with half as many, from then on. The lines of a page are handed
+/// on before the next page is asked for. Where the server has forgotten the list the dump ends, since what it wrote is of that list.
+/// Where it breaks off, by the link, an answer or a list that is forgotten, what was written by then was handed on.
 ///
 /// `LinkFault` and `WriteFault` come only where the count of faults of the link, and of the output, rose.
 pub fn dump<R: Far, K: Sink>(far: &mut R, alloc: Global, place: &Place, out: &mut K) -> DumpEnd
@@ -176,6 +165,7 @@ pub fn dump<R: Far, K: Sink>(far: &mut R, alloc: Global, place: &Place, out: &mu
         × (w : List ℕ) × (K.written out.new ≡ append_known (K.written out.old) w)
         × Dumps (place_of place.now).names at_first es w result }
     ensures flushed { OnDone (K.flushed out.new ≡ K.written out.new) result }
+    ensures handed_on { OnBrokenOff ((out.new ≡ out.old) ⊎ (K.flushed out.new ≡ K.written out.new)) result }
     ensures cause { OnFaults (Rose (R.faults far.old) (R.faults far.new)) (Rose (K.faults out.old) (K.faults out.new)) result }
 {
     let mut buffer = ResponseBuffer::new();

@@ -123,8 +123,8 @@ fn send_object<K: Sink>(alloc: Global, out: &mut K, object: JVal) -> Result<(), 
     }
 }
 
-/// Writes the lines of the objects.
-pub(crate) fn send_all<K: Sink>(alloc: Global, out: &mut K, objects: JItems) -> Result<(), Unsent>
+// Writes the lines of the objects.
+fn send_all<K: Sink>(alloc: Global, out: &mut K, objects: JItems) -> Result<(), Unsent>
     requires { items_depth (items_of objects) ≤ ANSWER_LEVELS }
     ensures sent { Sends (K.written out.old) (K.written out.new) (lines_of objects) result }
     ensures later { K.faults out.old ≤ K.faults out.new }
@@ -137,4 +137,21 @@ pub(crate) fn send_all<K: Sink>(alloc: Global, out: &mut K, objects: JItems) -> 
         }
     }
     Ok(())
+}
+
+/// Writes the lines of the objects, and hands them on.
+pub(crate) fn send_page<K: Sink>(alloc: Global, out: &mut K, objects: JItems) -> Result<(), Unsent>
+    requires { items_depth (items_of objects) ≤ ANSWER_LEVELS }
+    ensures sent { Sends (K.written out.old) (K.written out.new) (lines_of objects) result }
+    ensures flushed { OnOk result (K.flushed out.new ≡ K.written out.new) }
+    ensures later { K.faults out.old ≤ K.faults out.new }
+    ensures cause { IfErr result (OnUnsent (Rose (K.faults out.old) (K.faults out.new))) }
+{
+    match send_all(alloc, out, objects) {
+        Ok(()) => match out.flush() {
+            Ok(()) => Ok(()),
+            Err(Failed) => Err(Unsent::Failed),
+        },
+        Err(unsent) => Err(unsent),
+    }
 }

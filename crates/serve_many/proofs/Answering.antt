@@ -1,5 +1,5 @@
 -- From what one connection came to, to what is known of it once it is closed.
-use Rattle.std.proofs.Common.{ℕ, ◌≡◌, ◌≤◌, ◌+◌, ◌-◌, List, [], ◌∷◌, ◌++◌, Option, None, Some, refl, ap, sym, ◌∙◌, subst, arith, append_assoc, inl, inr}
+use Rattle.std.proofs.Common.{ℕ, ◌≡◌, ◌≤◌, ◌+◌, ◌-◌, List, [], ◌∷◌, ◌++◌, ◌⊎◌, Option, None, Some, refl, ap, sym, ◌∙◌, subst, arith, append_assoc, inl, inr}
 use Rattle.std.specs.Prelude.{IfSome}
 use mathlib.Core.List.{IsPrefix}
 use Rattle.api_calls.specs.Item.{Logged}
@@ -9,7 +9,8 @@ use Rattle.edge_io.specs.Causes.{Rose}
 use Rattle.edge_io.specs.Connections.{Origin, Ending, HasAllLeft, HasNumberOf, NumbersAgree}
 use Rattle.http_wire.specs.Head.{Request}
 use Rattle.http_wire.specs.declared.limits.TheConstants.{MOST_REQUESTS}
-use Rattle.http_front.specs.Link.{Breaks, answer, refusal, no_memory, Links, LinkBlames}
+use Rattle.http_front.specs.Link.{Links, LinkBlames, UnlessUnwritten}
+use Rattle.http_front.specs.Paced.{IsUnserved, Paced}
 use Rattle.request_replies.specs.Replies.{Front}
 use Rattle.http_front.specs.Steps.{StepAnswers, Point, added}
 use Rattle.http_front.specs.Talk.{Exchange, Steps}
@@ -21,7 +22,7 @@ use Rattle.turn_cell.specs.laws.Laws.{prefix_self, prefix_trans}
 use Rattle.turn_cell.specs.declared.view.View.{View}
 use Rattle.serve_spans.specs.Spans.{IsSameBut, Quiet, Linked}
 use Rattle.serve_spans.proofs.Spans.{Grows}
-use Rattle.serve_many.specs.Answered.{IsAnswered}
+use Rattle.serve_many.specs.Answered.{IsAnswered, Sides}
 
 -- ---- the list only grows, and the count only rises
 
@@ -53,50 +54,48 @@ links_later f n budget unread ends.WriteFault s t known before written h = steps
 links_later f n budget unread ends.NoMemory s t known before written h =
     subst (λ (q : Point). Later s q) (sym h.1) (prefix_self s.seen, (let k : ℕ = s.faults in let r : k ≤ k = omega arith in r))
 
-pub answered_grows : {A : Type 0} (count : A → ℕ) (f : Front) → Grows (IsAnswered count f)
-answered_grows count f n p q rose e h =
-    (links_later f n MOST_REQUESTS (e.read_faults ≡ 0) h.end (record { seen = p; faults = count h.tool }) (record { seen = q; faults = count h.left }) h.known h.before e.written h.links).0
-
--- ---- nothing was read
-
-breaks_unread : (P Q : Type 0) → (P → Q) → (budget : ℕ) (known : Option (List ℕ)) (xs : List Exchange) (whole piece : List ℕ)
-    → Breaks budget P known xs whole piece → Breaks budget Q known xs whole piece
-breaks_unread P Q on budget known xs whole piece (answer ys y) = answer ys y
-breaks_unread P Q on budget known xs whole piece (refusal ys fault stops) = refusal ys fault stops
-breaks_unread P Q on budget known xs whole piece (no_memory none) = no_memory (on none)
-
-links_unread : {S : Type 0} (Step : S → Request → ReplyView → S → Type 0) (budget : ℕ) (P Q : Type 0) → (P → Q) → (end : End) (s t : S) (known before written : Option (List ℕ))
-    → Links Step budget P end s t known before written → Links Step budget Q end s t known before written
-links_unread Step budget P Q on ends.Closed s t known before written links = links
-links_unread Step budget P Q on (ends.Torn held) s t known before written links = links
-links_unread Step budget P Q on (ends.Refused f) s t known before written links = links
-links_unread Step budget P Q on ends.Spent s t known before written links = links
-links_unread Step budget P Q on ends.ReadFault s t known before written links = links
-links_unread Step budget P Q on ends.WriteFault s t known before written links = record {
-  exchanges = links.exchanges;
-  whole = links.whole;
-  piece = links.piece;
-  steps = links.steps;
-  first = links.first;
-  breaks = breaks_unread P Q on budget known links.exchanges links.whole links.piece links.breaks;
-  some = links.some;
-}
-links_unread Step budget P Q on ends.NoMemory s t known before written links = (on links.0, links.1, links.2)
+pub answered_grows : {A I O : Type 0} (count : A → ℕ) (w : Sides I O) (f : Front) → Grows (IsAnswered count w f)
+answered_grows count w f n p q rose e h =
+    (links_later f n MOST_REQUESTS (h.input ≡ h.input_before) h.end (record { seen = p; faults = count h.tool }) (record { seen = q; faults = count h.left }) (w.tell.left h.input_before) (w.tell.written h.output_before) e.written h.links).0
 
 -- ---- a connection that is closed
 
 rise_between : (j k : ℕ) → j ≤ k → k ≡ j + (k - j)
 rise_between j k up = omega (arith, up)
 
-pub closes : {B A : Type 0} (count : A → ℕ) (f : Front) (n : ℕ) (end : End) (v z : View B) (a b : A) (unread : Type 0) (o p : Option Origin) (left before written : Option (List ℕ)) (r0 r1 w0 w1 : ℕ)
-    → HasAllLeft o left → IfSome before (λ (b : List ℕ). b ≡ []) → r0 ≡ 0 → w0 ≡ 0 → p ≡ o → (unread → r1 ≡ r0)
-    → Links (StepAnswers f n) MOST_REQUESTS unread end (record { seen = v.seen; faults = count a }) (record { seen = z.seen; faults = count b }) left before written
-    → IsSameBut v z → Quiet n v z → LinkBlames end (Rose r0 r1) (Rose w0 w1)
-    → Linked (IsAnswered count f) n v o z (record { origin = p; read_faults = r1; write_faults = w1; written = written })
-closes count f n end v z a b unread o p left before written r0 r1 w0 w1 whole empty none_read none_written of still links same quiet blames =
+-- what was handed on, where writing didn't fail
+on_handed : (end : End) (P Q : Type 0) → P → UnlessUnwritten end (P → Q) → UnlessUnwritten end Q
+on_handed ends.Closed P Q p h = h p
+on_handed (ends.Torn held) P Q p h = h p
+on_handed (ends.Refused f) P Q p h = h p
+on_handed ends.Spent P Q p h = h p
+on_handed ends.ReadFault P Q p h = h p
+on_handed ends.WriteFault P Q p h = tt
+on_handed ends.NoMemory P Q p h = h p
+
+-- a sink that never failed handed on what was written
+pub handed : (end : End) (reads : Type 0) (before now : ℕ) (P Q : Type 0) → before ≡ 0 → P → LinkBlames end reads (Rose before now) → UnlessUnwritten end (P → Q) → now ≡ 0 → Q
+handed ends.Closed reads before now P Q none p blames h sure = h p
+handed (ends.Torn held) reads before now P Q none p blames h sure = h p
+handed (ends.Refused f) reads before now P Q none p blames h sure = h p
+handed ends.Spent reads before now P Q none p blames h sure = h p
+handed ends.ReadFault reads before now P Q none p blames h sure = h p
+handed ends.WriteFault reads before now P Q none p blames h sure = absurd (omega (arith, none, blames, sure))
+handed ends.NoMemory reads before now P Q none p blames h sure = h p
+
+pub closes : {B A I O : Type 0} (count : A → ℕ) (w : Sides I O) (f : Front) (n : ℕ) (end : End) (v z : View B) (a b : A) (i j : I) (x y : O) (o p : Option Origin) (r0 r1 w0 w1 : ℕ)
+    → HasAllLeft o (w.tell.left i) → IfSome (w.tell.written x) (λ (b : List ℕ). b ≡ []) → w.tell.flushed x ≡ w.tell.written x → r0 ≡ 0 → w0 ≡ 0 → p ≡ o
+    → Links (StepAnswers f n) MOST_REQUESTS (j ≡ i) end (record { seen = v.seen; faults = count a }) (record { seen = z.seen; faults = count b }) (w.tell.left i) (w.tell.written x) (w.tell.written y)
+    → ((IsUnserved end × (j ≡ i)) ⊎ ((held : List ℕ)
+    × Paced w.tell (StepAnswers f n) (w.most i) end
+    (record { seen = v.seen; faults = count a }) (record { held = []; input = i; output = x })
+    (record { seen = z.seen; faults = count b }) (record { held = held; input = j; output = y })))
+    → IsSameBut v z → Quiet n v z → UnlessUnwritten end (w.tell.flushed x ≡ w.tell.written x → w.tell.flushed y ≡ w.tell.written y) → LinkBlames end (Rose r0 r1) (Rose w0 w1)
+    → Linked (IsAnswered count w f) n v o z (record { origin = p; read_faults = r1; write_faults = w1; written = w.tell.written y; flushed = w.tell.flushed y })
+closes count w f n end v z a b i j x y o p r0 r1 w0 w1 whole empty clean none_read none_written of links paced same quiet flushed blames =
     let s : Point = record { seen = v.seen; faults = count a } in
     let t : Point = record { seen = z.seen; faults = count b } in
-    let up : count a ≤ count b = (links_later f n MOST_REQUESTS unread end s t left before written links).1 in
+    let up : count a ≤ count b = (links_later f n MOST_REQUESTS (j ≡ i) end s t (w.tell.left i) (w.tell.written x) (w.tell.written y) links).1 in
     record {
       rose = count b - count a;
       same = same;
@@ -106,12 +105,18 @@ closes count f n end v z a b unread o p left before written r0 r1 w0 w1 whole em
         tool = a;
         left = b;
         counted = rise_between (count a) (count b) up;
-        known = left;
-        before = before;
-        whole = subst (λ (x : Option Origin). HasAllLeft x left) (sym of) whole;
+        input_before = i;
+        input = j;
+        output_before = x;
+        output = y;
+        whole = subst (λ (q : Option Origin). HasAllLeft q (w.tell.left i)) (sym of) whole;
         empty = empty;
-        links = links_unread (StepAnswers f n) MOST_REQUESTS unread (r1 ≡ 0) (λ u. still u ∙ none_read) end s t left before written links;
-        blames = subst (λ (m : ℕ × ℕ). LinkBlames end (Rose m.0 r1) (Rose m.1 w1)) (λ i. (none_read i, none_written i)) blames;
+        written = refl;
+        flushed = refl;
+        links = links;
+        paced = paced;
+        handed_on = on_handed end _ _ clean flushed;
+        blames = subst (λ (m : ℕ × ℕ). LinkBlames end (Rose m.0 r1) (Rose m.1 w1)) (λ k. (none_read k, none_written k)) blames;
       };
       quiet = quiet;
     }

@@ -1,3 +1,5 @@
 mod Answering
 mod Counting
+mod Gating
+mod Rounds
 mod Working

@@ -14,3 +14,8 @@ most_rest false = 1000
 pub record Rests (last : TurnStep) (most before after heard now : ℕ) (may : Bool) : Type 0 where
   pub begins : ¬ (last ≡ Idle) → after ≡ 2
   pub grows : last ≡ Idle → ((after ≡ min (before * 2) most) × (now ≡ heard)) ⊎ ((after ≡ 2) × (now ≢ heard)) ⊎ ((after ≡ before) × (may ≡ false))
+
+-- where it says no it saw that its flag is up, of which nothing tells but a look at a flag that is up
+abbrev pub Shows : Bool → Bool → Type 0
+Shows true up = Unit {0}
+Shows false up = up ≡ true

@@ -6,9 +6,11 @@ ghost use Rattle.shared_api.specs.Passes.{IsOf};
 ghost use Rattle.shared_api.specs.declared.cell.CoreBase.{CoreBase};
 ghost use Rattle.turn_cell.specs.declared.view.View.{View};
 ghost use Rattle.serve_spans.specs.inner.Keeping.{Going, Job as GoingJob};
-ghost use Rattle.serve_many.specs.Answered.{IsAnswered, front_of};
+ghost use Rattle.serve_many.specs.Answered.{IsAnswered, front_of, sides};
 ghost use Rattle.serve_many.specs.Ends.{most_running};
+ghost use Rattle.serve_many.specs.Helping.{Goes, HelpsOut, Rounds, turns_between};
 ghost use Rattle.serve_many.specs.Jobs.{IsUntouched, Serves};
+ghost use Rattle.shared_api.specs.Base.{server_of};
 
 use crate::crew::work_between;
 use crate::link_job::Job;
@@ -38,11 +40,12 @@ fn serve_here<V: Versions + Drop, A: Ears, C: Clock, R: Wait>(
     mut output: A::Out,
 )
     requires of { IsOf V.meaning api.now pass.old }
-    requires untouched { IsUntouched (A.In.origin input) (A.In.left input) (A.In.faults input) (A.Out.number output) (A.Out.written output) (A.Out.faults output) }
+    requires untouched { IsUntouched (A.In.origin input) (A.In.left input) (A.In.faults input) (A.Out.number output) (A.Out.written output) (A.Out.flushed output) (A.Out.faults output) }
     ensures of { IsOf V.meaning api.now pass.new }
+    ensures hears { (place : List ℕ) → A.hears ears.old place → A.hears ears.new place }
     ensures faults { A.faults ears.new ≡ A.faults ears.old }
     ensures origins { A.origins ears.new ≡ A.origins ears.old }
-    ensures served { (e : Ending) × Serves V.Tool.faults V.meaning api.now.base (C.told clock.now) pass.old.view (A.In.origin input) pass.new.view e × AddsOne (A.returned ears.old) (A.returned ears.new) e }
+    ensures served { (e : Ending) × Serves V.Tool.faults (sides A.In.left A.In.most A.Out.written A.Out.flushed) V.meaning api.now.base (C.told clock.now) pass.old.view (A.In.origin input) pass.new.view e × AddsOne (A.returned ears.old) (A.returned ears.new) e }
 {
     let _ = serve_link(rt, alloc, api, pass, &mut input, &mut output, clock);
     ears.back(A::shut(input, output));
@@ -79,16 +82,18 @@ where
     requires of { IsOf V.meaning api.now pass.old }
     requires links { All (λ h. IsOf V.meaning api.now h.handle.promise.job.value.pass × (C.told h.handle.promise.job.value.clock.now ≡ C.told clock.now)) running.old.items }
     requires room { (vec_len running.old ≤ most_running) × (most_running ≤ vec_capacity running.old) }
-    requires untouched { IsUntouched (A.In.origin input) (A.In.left input) (A.In.faults input) (A.Out.number output) (A.Out.written output) (A.Out.faults output) }
+    requires untouched { IsUntouched (A.In.origin input) (A.In.left input) (A.In.faults input) (A.Out.number output) (A.Out.written output) (A.Out.flushed output) (A.Out.faults output) }
     ensures of { IsOf V.meaning api.now pass.new }
     ensures links { All (λ h. IsOf V.meaning api.now h.handle.promise.job.value.pass × (C.told h.handle.promise.job.value.clock.now ≡ C.told clock.now)) running.new.items }
     ensures room { (vec_len running.new ≤ most_running) × (vec_capacity running.new ≡ vec_capacity running.old) }
+    ensures goes { Goes pass.old.view pass.new.view }
+    ensures hears { (place : List ℕ) → A.hears ears.old place → A.hears ears.new place }
     ensures faults { A.faults ears.new ≡ A.faults ears.old }
     ensures origins { A.origins ears.new ≡ A.origins ears.old }
     ensures going { (n asked idle : ℕ) (v0 : View (CoreBase V)) (h0 : Option (List Origin)) (g0 : Option (List Ending)) (crew : List (View (CoreBase V))) (count : ℕ) (handed : Option (List Origin)) (later : Option (List Origin))
         → HandsOut handed later (A.In.origin input)
-        → Going (IsAnswered V.Tool.faults (front_of V.meaning api.now.base (C.told clock.now))) n asked idle v0 h0 g0 crew (map (λ h. (h.handle.promise.job.value.pass.view, A.In.origin h.handle.promise.job.value.input)) running.old.items) pass.old.view count handed (A.returned ears.old)
-        → Going (IsAnswered V.Tool.faults (front_of V.meaning api.now.base (C.told clock.now))) n asked idle v0 h0 g0 crew (map (λ h. (h.handle.promise.job.value.pass.view, A.In.origin h.handle.promise.job.value.input)) running.new.items) pass.new.view (count + 1) later (A.returned ears.new) }
+        → Going (IsAnswered V.Tool.faults (sides A.In.left A.In.most A.Out.written A.Out.flushed) (front_of V.meaning api.now.base (C.told clock.now))) n asked idle v0 h0 g0 crew (map (λ h. (h.handle.promise.job.value.pass.view, A.In.origin h.handle.promise.job.value.input)) running.old.items) pass.old.view count handed (A.returned ears.old)
+        → Going (IsAnswered V.Tool.faults (sides A.In.left A.In.most A.Out.written A.Out.flushed) (front_of V.meaning api.now.base (C.told clock.now))) n asked idle v0 h0 g0 crew (map (λ h. (h.handle.promise.job.value.pass.view, A.In.origin h.handle.promise.job.value.input)) running.new.items) pass.new.view (count + 1) later (A.returned ears.new) }
 {
     if running.len() >= MOST_RUNNING {
         serve_here(rt, alloc, api, pass, ears, clock, input, output);
@@ -119,7 +124,7 @@ where
 }
 
 // Takes the turns of the workers that have no thread.
-fn help_out<V: Versions + Drop, R: Wait>(
+fn help_out<V: Versions + Drop, A: Ears, R: Wait>(
     rt: &R,
     api: &SharedApi<V>,
     pass: &mut Pass<V>,
@@ -127,9 +132,11 @@ fn help_out<V: Versions + Drop, R: Wait>(
 )
     requires of { IsOf V.meaning api.now pass.old }
     ensures of { IsOf V.meaning api.now pass.new }
+    ensures helps { HelpsOut (server_of V.meaning api.now.base) turns_between (V.Tool.faults pass.old.tool) pass.old.view idle (V.Tool.faults pass.new.tool) pass.new.view }
+    ensures goes { Goes pass.old.view pass.new.view }
     ensures going { (told : Option (List ℕ)) (n asked : ℕ) (v0 : View (CoreBase V)) (h0 : Option (List Origin)) (g0 : Option (List Ending)) (crew : List (View (CoreBase V))) (jobs : List (GoingJob (CoreBase V))) (count : ℕ) (handed : Option (List Origin)) (given : Option (List Ending))
-        → Going (IsAnswered V.Tool.faults (front_of V.meaning api.now.base told)) n asked idle v0 h0 g0 crew jobs pass.old.view count handed given
-        → Going (IsAnswered V.Tool.faults (front_of V.meaning api.now.base told)) n asked idle v0 h0 g0 crew jobs pass.new.view count handed given }
+        → Going (IsAnswered V.Tool.faults (sides A.In.left A.In.most A.Out.written A.Out.flushed) (front_of V.meaning api.now.base told)) n asked idle v0 h0 g0 crew jobs pass.old.view count handed given
+        → Going (IsAnswered V.Tool.faults (sides A.In.left A.In.most A.Out.written A.Out.flushed) (front_of V.meaning api.now.base told)) n asked idle v0 h0 g0 crew jobs pass.new.view count handed given }
 {
     for _i in 0..idle {
         work_between(rt, api, pass);
@@ -167,13 +174,15 @@ where
     ensures of { IsOf V.meaning api.now pass.new }
     ensures links { All (λ h. IsOf V.meaning api.now h.handle.promise.job.value.pass × (C.told h.handle.promise.job.value.clock.now ≡ C.told clock.now)) running.new.items }
     ensures room { (vec_len running.new ≤ most_running) × (vec_capacity running.new ≡ vec_capacity running.old) }
+    ensures goes { Goes pass.old.view pass.new.view }
+    ensures hears { (place : List ℕ) → A.hears ears.old place → A.hears ears.new place }
     ensures later { A.faults ears.old ≤ A.faults ears.new }
     ensures fault { IfErr result (λ _. Rose (A.faults ears.old) (A.faults ears.new)) }
     ensures going { (n asked idle : ℕ) (v0 : View (CoreBase V)) (h0 : Option (List Origin)) (g0 : Option (List Ending)) (crew : List (View (CoreBase V))) (count : ℕ)
-        → Going (IsAnswered V.Tool.faults (front_of V.meaning api.now.base (C.told clock.now))) n asked idle v0 h0 g0 crew (map (λ h. (h.handle.promise.job.value.pass.view, A.In.origin h.handle.promise.job.value.input)) running.old.items) pass.old.view count (A.origins ears.old) (A.returned ears.old)
+        → Going (IsAnswered V.Tool.faults (sides A.In.left A.In.most A.Out.written A.Out.flushed) (front_of V.meaning api.now.base (C.told clock.now))) n asked idle v0 h0 g0 crew (map (λ h. (h.handle.promise.job.value.pass.view, A.In.origin h.handle.promise.job.value.input)) running.old.items) pass.old.view count (A.origins ears.old) (A.returned ears.old)
         → MatchResult result
-        (λ _. Going (IsAnswered V.Tool.faults (front_of V.meaning api.now.base (C.told clock.now))) n asked idle v0 h0 g0 crew (map (λ h. (h.handle.promise.job.value.pass.view, A.In.origin h.handle.promise.job.value.input)) running.new.items) pass.new.view (count + 1) (A.origins ears.new) (A.returned ears.new))
-        (λ _. Going (IsAnswered V.Tool.faults (front_of V.meaning api.now.base (C.told clock.now))) n asked idle v0 h0 g0 crew (map (λ h. (h.handle.promise.job.value.pass.view, A.In.origin h.handle.promise.job.value.input)) running.new.items) pass.new.view count (A.origins ears.new) (A.returned ears.new)) }
+        (λ _. Going (IsAnswered V.Tool.faults (sides A.In.left A.In.most A.Out.written A.Out.flushed) (front_of V.meaning api.now.base (C.told clock.now))) n asked idle v0 h0 g0 crew (map (λ h. (h.handle.promise.job.value.pass.view, A.In.origin h.handle.promise.job.value.input)) running.new.items) pass.new.view (count + 1) (A.origins ears.new) (A.returned ears.new))
+        (λ _. Going (IsAnswered V.Tool.faults (sides A.In.left A.In.most A.Out.written A.Out.flushed) (front_of V.meaning api.now.base (C.told clock.now))) n asked idle v0 h0 g0 crew (map (λ h. (h.handle.promise.job.value.pass.view, A.In.origin h.handle.promise.job.value.input)) running.new.items) pass.new.view count (A.origins ears.new) (A.returned ears.new)) }
 {
     let (input, output) = ears.next()?;
     reap(rt, api, pass, ears, clock, running);
@@ -204,8 +213,8 @@ fn one_less(left: Option<u64>) -> Option<u64>
     }
 }
 
-// Accepts so many connections, or as many as come, and answers whether they were so many. Where no number is given it goes on
-// until no more can be had.
+// Accepts so many connections, or as many as come, and takes the turns of the workers without a thread behind each. It answers whether they
+// were so many. Where no number is given it goes on until no more can be had.
 pub(crate) fn accept_all<
     's,
     E,
@@ -237,11 +246,13 @@ where
     requires room { (vec_len running.old ≤ most_running) × (most_running ≤ vec_capacity running.old) }
     ensures of { IsOf V.meaning api.now pass.new }
     ensures links { All (λ h. IsOf V.meaning api.now h.handle.promise.job.value.pass × (C.told h.handle.promise.job.value.clock.now ≡ C.told clock.now)) running.new.items }
+    ensures hears { (place : List ℕ) → A.hears ears.old place → A.hears ears.new place }
     ensures fault { result ≡ false → Rose (A.faults ears.old) (A.faults ears.new) }
     ensures going { (n asked : ℕ) (v0 : View (CoreBase V)) (h0 : Option (List Origin)) (g0 : Option (List Ending)) (crew : List (View (CoreBase V)))
-        → Going (IsAnswered V.Tool.faults (front_of V.meaning api.now.base (C.told clock.now))) n asked idle v0 h0 g0 crew (map (λ h. (h.handle.promise.job.value.pass.view, A.In.origin h.handle.promise.job.value.input)) running.old.items) pass.old.view 0 (A.origins ears.old) (A.returned ears.old)
+        → Going (IsAnswered V.Tool.faults (sides A.In.left A.In.most A.Out.written A.Out.flushed) (front_of V.meaning api.now.base (C.told clock.now))) n asked idle v0 h0 g0 crew (map (λ h. (h.handle.promise.job.value.pass.view, A.In.origin h.handle.promise.job.value.input)) running.old.items) pass.old.view 0 (A.origins ears.old) (A.returned ears.old)
         → (count : ℕ) × MatchBool result (connections ≡ Some count) (IfSome connections (λ k. count < k))
-        × Going (IsAnswered V.Tool.faults (front_of V.meaning api.now.base (C.told clock.now))) n asked idle v0 h0 g0 crew (map (λ h. (h.handle.promise.job.value.pass.view, A.In.origin h.handle.promise.job.value.input)) running.new.items) pass.new.view count (A.origins ears.new) (A.returned ears.new) }
+        × Rounds (server_of V.meaning api.now.base) turns_between idle pass.old.view count pass.new.view
+        × Going (IsAnswered V.Tool.faults (sides A.In.left A.In.most A.Out.written A.Out.flushed) (front_of V.meaning api.now.base (C.told clock.now))) n asked idle v0 h0 g0 crew (map (λ h. (h.handle.promise.job.value.pass.view, A.In.origin h.handle.promise.job.value.input)) running.new.items) pass.new.view count (A.origins ears.new) (A.returned ears.new) }
 {
     let mut left = connections;
     for _ in rt.forever() {
@@ -251,7 +262,7 @@ where
         if accept_one(rt, alloc, scope, api, pass, tools, ears, clock, running).is_err() {
             return false;
         }
-        help_out(rt, api, pass, idle);
+        help_out::<V, A, R>(rt, api, pass, idle);
         left = one_less(left);
     }
     unreachable!()

@@ -6,12 +6,15 @@ ghost use Rattle.shared_api.specs.declared.cell.CoreBase.{CoreBase};
 ghost use Rattle.turn_cell.specs.Turns.{Meets};
 ghost use Rattle.turn_cell.specs.declared.view.View.{View};
 ghost use Rattle.serve_spans.specs.inner.Keeping.{Going, Job};
-ghost use Rattle.serve_many.specs.Answered.{IsAnswered, front_of};
+ghost use Rattle.serve_many.specs.Answered.{IsAnswered, front_of, sides};
+ghost use Rattle.serve_many.specs.Helping.{Goes, Helps, turns_between};
 ghost use Rattle.serve_many.specs.Jobs.{Retires, Worked};
+ghost use Rattle.shared_api.specs.Base.{server_of};
 
 use crate::gates::{OpenGate, PatientGate, RestingGate, resting_gate};
 use crate::passes::make_pass;
 use api_calls::{Tools, Versions};
+use edge_io::Ears;
 use migrate_workers::{WorkEnd, work};
 use shared_api::{Pass, SharedApi};
 use std::alloc::Global;
@@ -33,6 +36,9 @@ fn keep_working<V: Versions + Drop, G: PatientGate, R: Wait>(
     requires of { IsOf V.meaning api.now pass.old }
     ensures of { IsOf V.meaning api.now pass.new }
     ensures worked { Worked pass.old.view pass.new.view }
+    // It works until the gate saw that its flag is up.
+    ensures shut { G.shut gate.new }
+    ensures flag { G.flag gate.new ≡ G.flag gate.old }
 {
     for _ in rt.forever() {
         let end = work(rt, api, pass, gate, u64::MAX);
@@ -53,41 +59,43 @@ pub(crate) fn work_between<V: Versions + Drop, R: Wait>(
     requires of { IsOf V.meaning api.now pass.old }
     ensures of { IsOf V.meaning api.now pass.new }
     ensures worked { Worked pass.old.view pass.new.view }
+    ensures helps { Helps (server_of V.meaning api.now.base) turns_between (V.Tool.faults pass.old.tool) (V.Tool.faults pass.new.tool) pass.old.view pass.new.view }
 {
     let mut gate = OpenGate;
     let _ = work(rt, api, pass, &mut gate, TURNS_BETWEEN);
 }
 
-/// A worker's pass and gate. Its parameters have no bounds, so that it may be sent.
+/// A worker's pass and gate, as it begins or as it ended. Its parameters have no bounds, so that it may be sent.
 #[derive(Drop)]
 pub struct Shift<G, P> {
     pub pass: P,
     pub gate: G,
 }
 
-impl<V: Versions + Drop, G: PatientGate + Drop> Runner<Shift<G, Pass<V>>, Pass<V>>
+impl<V: Versions + Drop, G: PatientGate + Drop> Runner<Shift<G, Pass<V>>, Shift<G, Pass<V>>>
     for SharedApi<V> {
     ghost use Rattle.shared_api.specs.Passes.{IsOf};
     ghost use Rattle.serve_many.specs.Jobs.{Retires};
+    ghost use Rattle.std.specs.Prelude.{◌≡◌};
 
     ghost ready = { λ api job. IsOf V.meaning api job.pass };
 
-    ghost done = { λ job r. Retires V.meaning job.pass r };
+    ghost done = { λ job r. Retires V.meaning job.pass r.pass × G.shut r.gate × (G.flag r.gate ≡ G.flag job.gate) };
 
-    fn run<R: Wait>(&self, rt: &R, job: Shift<G, Pass<V>>) -> Pass<V>
+    fn run<R: Wait>(&self, rt: &R, job: Shift<G, Pass<V>>) -> Shift<G, Pass<V>>
         requires ready { IsOf V.meaning self.now job.pass }
-        ensures done { Retires V.meaning job.pass result }
+        ensures done { Retires V.meaning job.pass result.pass × G.shut result.gate × (G.flag result.gate ≡ G.flag job.gate) }
     {
         let Shift { mut pass, mut gate } = job;
         keep_working(rt, self, &mut pass, &mut gate);
-        pass
+        Shift { pass, gate }
     }
 }
 
 /// A worker that runs, and its gate.
 #[derive(Drop)]
 pub struct Hired<V: Versions + Drop, G: PatientGate + Drop> {
-    pub running: Running<SharedApi<V>, Shift<G, Pass<V>>, Pass<V>>,
+    pub running: Running<SharedApi<V>, Shift<G, Pass<V>>, Shift<G, Pass<V>>>,
     shut: Flag,
 }
 
@@ -118,12 +126,17 @@ fn start_work<
 where
     V::Tool: Send + 's,
     requires of { IsOf V.meaning api.now shift.pass }
+    requires flag { shift.gate.shut ≡ shut }
     ensures begun { IfOk result (λ h. h.running.handle.promise.job.value ≡ shift.entry) }
+    ensures flag { IfOk result (λ h. h.shut ≡ h.running.handle.promise.job.value.gate.shut) }
     ensures done { IfErr result (λ r. Retires V.meaning shift.entry.pass r) }
 {
     match begin(rt, alloc, scope, api, shift, Some(&shut)) {
         Ok(running) => Ok(Hired { running, shut }),
-        Err(pass) => Err(pass),
+        Err(back) => {
+            let Shift { pass, gate: _ } = back;
+            Err(pass)
+        }
     }
 }
 
@@ -132,6 +145,7 @@ fn hire_one<
     's,
     E,
     V: Versions + Drop + Send + Sync + 's,
+    A: Ears,
     M: Tools<V::Tool>,
     R: Threads + Wait + time::Clock + Sync + 's,
 >(
@@ -152,9 +166,10 @@ where
     ensures one { result ≤ 1 }
     ensures crew { All (λ h. IsOf V.meaning api.now h.running.handle.promise.job.value.pass) crew.new.items }
     ensures room { (vec_len crew.new ≤ vec_len crew.old + 1) × (vec_capacity crew.new ≡ vec_capacity crew.old) }
+    ensures goes { Goes pass.old.view pass.new.view }
     ensures going { (told : Option (List ℕ)) (n asked idle : ℕ) (v0 : View (CoreBase V)) (h0 : Option (List Origin)) (g0 : Option (List Ending)) (jobs : List (Job (CoreBase V))) (count : ℕ) (handed : Option (List Origin)) (given : Option (List Ending))
-        → Going (IsAnswered V.Tool.faults (front_of V.meaning api.now.base told)) n asked idle v0 h0 g0 (map (λ h. h.running.handle.promise.job.value.pass.view) crew.old.items) jobs pass.old.view count handed given
-        → Going (IsAnswered V.Tool.faults (front_of V.meaning api.now.base told)) n (asked + 1) (idle + result) v0 h0 g0 (map (λ h. h.running.handle.promise.job.value.pass.view) crew.new.items) jobs pass.new.view count handed given }
+        → Going (IsAnswered V.Tool.faults (sides A.In.left A.In.most A.Out.written A.Out.flushed) (front_of V.meaning api.now.base told)) n asked idle v0 h0 g0 (map (λ h. h.running.handle.promise.job.value.pass.view) crew.old.items) jobs pass.old.view count handed given
+        → Going (IsAnswered V.Tool.faults (sides A.In.left A.In.most A.Out.written A.Out.flushed) (front_of V.meaning api.now.base told)) n (asked + 1) (idle + result) v0 h0 g0 (map (λ h. h.running.handle.promise.job.value.pass.view) crew.new.items) jobs pass.new.view count handed given }
 {
     let Ok((shut, gate)) = resting_gate(alloc, rt, api.bell(), crew.is_empty()) else {
         return 1;
@@ -180,6 +195,7 @@ pub(crate) fn hire<
     's,
     E,
     V: Versions + Drop + Send + Sync + 's,
+    A: Ears,
     M: Tools<V::Tool>,
     R: Threads + Wait + time::Clock + Sync + 's,
 >(
@@ -199,13 +215,14 @@ where
     ensures of { IsOf V.meaning api.now pass.new }
     ensures idle { result ≤ workers }
     ensures crew { All (λ h. IsOf V.meaning api.now h.running.handle.promise.job.value.pass) crew.new.items }
+    ensures goes { Goes pass.old.view pass.new.view }
     ensures going { (told : Option (List ℕ)) (n : ℕ) (v0 : View (CoreBase V)) (h0 : Option (List Origin)) (g0 : Option (List Ending)) (jobs : List (Job (CoreBase V))) (count : ℕ) (handed : Option (List Origin)) (given : Option (List Ending))
-        → Going (IsAnswered V.Tool.faults (front_of V.meaning api.now.base told)) n 0 0 v0 h0 g0 [] jobs pass.old.view count handed given
-        → Going (IsAnswered V.Tool.faults (front_of V.meaning api.now.base told)) n workers result v0 h0 g0 (map (λ h. h.running.handle.promise.job.value.pass.view) crew.new.items) jobs pass.new.view count handed given }
+        → Going (IsAnswered V.Tool.faults (sides A.In.left A.In.most A.Out.written A.Out.flushed) (front_of V.meaning api.now.base told)) n 0 0 v0 h0 g0 [] jobs pass.old.view count handed given
+        → Going (IsAnswered V.Tool.faults (sides A.In.left A.In.most A.Out.written A.Out.flushed) (front_of V.meaning api.now.base told)) n workers result v0 h0 g0 (map (λ h. h.running.handle.promise.job.value.pass.view) crew.new.items) jobs pass.new.view count handed given }
 {
     let mut idle = 0;
     for _i in 0..workers {
-        idle += hire_one(rt, alloc, scope, api, pass, tools, crew);
+        idle += hire_one::<E, V, A, M, R>(rt, alloc, scope, api, pass, tools, crew);
     }
     idle
 }
@@ -223,11 +240,12 @@ fn dismiss_one<V: Versions + Drop, G: PatientGate + Drop, R: Threads>(
 {
     let Hired { running, shut: _ } = hired;
     let back = running.join(rt);
-    api.meet(pass, back);
+    let Shift { pass: own, gate: _ } = back;
+    api.meet(pass, own);
 }
 
 // Shuts all gates, rings for those who rest, joins all workers, and meets their passes into `pass`.
-pub(crate) fn dismiss<V: Versions + Drop, G: PatientGate + Drop, R: Threads>(
+pub(crate) fn dismiss<V: Versions + Drop, A: Ears, G: PatientGate + Drop, R: Threads>(
     rt: &R,
     api: &SharedApi<V>,
     pass: &mut Pass<V>,
@@ -236,9 +254,10 @@ pub(crate) fn dismiss<V: Versions + Drop, G: PatientGate + Drop, R: Threads>(
     requires of { IsOf V.meaning api.now pass.old }
     requires crew { All (λ h. IsOf V.meaning api.now h.running.handle.promise.job.value.pass) crew.items }
     ensures of { IsOf V.meaning api.now pass.new }
+    ensures goes { Goes pass.old.view pass.new.view }
     ensures going { (told : Option (List ℕ)) (n asked idle : ℕ) (v0 : View (CoreBase V)) (h0 : Option (List Origin)) (g0 : Option (List Ending)) (jobs : List (Job (CoreBase V))) (count : ℕ) (handed : Option (List Origin)) (given : Option (List Ending))
-        → Going (IsAnswered V.Tool.faults (front_of V.meaning api.now.base told)) n asked idle v0 h0 g0 (map (λ h. h.running.handle.promise.job.value.pass.view) crew.items) jobs pass.old.view count handed given
-        → Going (IsAnswered V.Tool.faults (front_of V.meaning api.now.base told)) n asked idle v0 h0 g0 [] jobs pass.new.view count handed given }
+        → Going (IsAnswered V.Tool.faults (sides A.In.left A.In.most A.Out.written A.Out.flushed) (front_of V.meaning api.now.base told)) n asked idle v0 h0 g0 (map (λ h. h.running.handle.promise.job.value.pass.view) crew.items) jobs pass.old.view count handed given
+        → Going (IsAnswered V.Tool.faults (sides A.In.left A.In.most A.Out.written A.Out.flushed) (front_of V.meaning api.now.base told)) n asked idle v0 h0 g0 [] jobs pass.new.view count handed given }
 {
     for hired in &crew {
         hired.close();

@@ -15,6 +15,7 @@ mod link_job;
 mod passes;
 mod running;
 mod serving;
+mod showing;
 
 pub use accepting::MOST_RUNNING;
 pub use crew::TURNS_BETWEEN;

@@ -6,7 +6,8 @@ ghost use Rattle.shared_api.specs.declared.cell.CoreBase.{CoreBase};
 ghost use Rattle.turn_cell.specs.Turns.{Meets};
 ghost use Rattle.turn_cell.specs.declared.view.View.{View};
 ghost use Rattle.serve_spans.specs.inner.Keeping.{Going};
-ghost use Rattle.serve_many.specs.Answered.{IsAnswered, front_of};
+ghost use Rattle.serve_many.specs.Answered.{IsAnswered, front_of, sides};
+ghost use Rattle.serve_many.specs.Helping.{Goes};
 ghost use Rattle.serve_many.specs.Jobs.{Finishes, IsUntouched, Serves};
 
 use crate::link_job::{LinkJob, LinkOutcome, Outcome};
@@ -42,9 +43,9 @@ where
     A::Out: 's,
     A::Ended: 's,
     requires of { IsOf V.meaning api.now job.pass }
-    requires untouched { IsUntouched (A.In.origin job.input) (A.In.left job.input) (A.In.faults job.input) (A.Out.number job.output) (A.Out.written job.output) (A.Out.faults job.output) }
+    requires untouched { IsUntouched (A.In.origin job.input) (A.In.left job.input) (A.In.faults job.input) (A.Out.number job.output) (A.Out.written job.output) (A.Out.flushed job.output) (A.Out.faults job.output) }
     ensures begun { IfOk result (λ h. h.handle.promise.job.value ≡ job.entry) }
-    ensures done { IfErr result (λ r. Finishes V.Tool.faults V.meaning (C.told job.entry.clock.now) job.entry.pass (A.In.origin job.entry.input) r.pass (A.ending r.ended)) }
+    ensures done { IfErr result (λ r. Finishes V.Tool.faults (sides A.In.left A.In.most A.Out.written A.Out.flushed) V.meaning (C.told job.entry.clock.now) job.entry.pass (A.In.origin job.entry.input) r.pass (A.ending r.ended)) }
 {
     begin(rt, alloc, scope, api, job, None)
 }
@@ -59,6 +60,7 @@ pub(crate) fn give_back<V: Versions + Drop, A: Ears>(
     requires of { IsOf V.meaning api.now pass.old × IsOf V.meaning api.now outcome.pass }
     ensures of { IsOf V.meaning api.now pass.new }
     ensures met { Meets pass.old.view outcome.pass.view pass.new.view }
+    ensures hears { (place : List ℕ) → A.hears ears.old place → A.hears ears.new place }
     ensures faults { A.faults ears.new ≡ A.faults ears.old }
     ensures origins { A.origins ears.new ≡ A.origins ears.old }
     ensures returned { AddsOne (A.returned ears.old) (A.returned ears.new) (A.ending outcome.ended) }
@@ -78,10 +80,11 @@ fn join_one<V: Versions + Drop, A: Ears, C: Clock, R: Threads>(
 )
     requires of { IsOf V.meaning api.now pass.old × IsOf V.meaning api.now link.handle.promise.job.value.pass }
     ensures of { IsOf V.meaning api.now pass.new }
+    ensures hears { (place : List ℕ) → A.hears ears.old place → A.hears ears.new place }
     ensures faults { A.faults ears.new ≡ A.faults ears.old }
     ensures origins { A.origins ears.new ≡ A.origins ears.old }
     ensures joined { (r : Known (CoreBase V) V.Tool) × (e : Ending)
-        × Serves V.Tool.faults V.meaning api.now.base (C.told link.entry.handle.promise.job.value.clock.now) link.entry.handle.promise.job.value.pass.view (A.In.origin link.entry.handle.promise.job.value.input) r.view e
+        × Serves V.Tool.faults (sides A.In.left A.In.most A.Out.written A.Out.flushed) V.meaning api.now.base (C.told link.entry.handle.promise.job.value.clock.now) link.entry.handle.promise.job.value.pass.view (A.In.origin link.entry.handle.promise.job.value.input) r.view e
         × Meets pass.old.view r.view pass.new.view × AddsOne (A.returned ears.old) (A.returned ears.new) e }
 {
     let outcome = link.join(rt);
@@ -103,11 +106,13 @@ pub(crate) fn join_all<V: Versions + Drop, A: Ears, C: Clock, R: Threads>(
     requires of { IsOf V.meaning api.now pass.old }
     requires links { All (λ h. IsOf V.meaning api.now h.handle.promise.job.value.pass × (C.told h.handle.promise.job.value.clock.now ≡ C.told clock.now)) running.items }
     ensures of { IsOf V.meaning api.now pass.new }
+    ensures goes { Goes pass.old.view pass.new.view }
+    ensures hears { (place : List ℕ) → A.hears ears.old place → A.hears ears.new place }
     ensures faults { A.faults ears.new ≡ A.faults ears.old }
     ensures origins { A.origins ears.new ≡ A.origins ears.old }
     ensures going { (n asked idle : ℕ) (v0 : View (CoreBase V)) (h0 : Option (List Origin)) (g0 : Option (List Ending)) (crew : List (View (CoreBase V))) (count : ℕ) (handed : Option (List Origin))
-        → Going (IsAnswered V.Tool.faults (front_of V.meaning api.now.base (C.told clock.now))) n asked idle v0 h0 g0 crew (map (λ h. (h.handle.promise.job.value.pass.view, A.In.origin h.handle.promise.job.value.input)) running.entry.items) pass.old.view count handed (A.returned ears.old)
-        → Going (IsAnswered V.Tool.faults (front_of V.meaning api.now.base (C.told clock.now))) n asked idle v0 h0 g0 crew [] pass.new.view count handed (A.returned ears.new) }
+        → Going (IsAnswered V.Tool.faults (sides A.In.left A.In.most A.Out.written A.Out.flushed) (front_of V.meaning api.now.base (C.told clock.now))) n asked idle v0 h0 g0 crew (map (λ h. (h.handle.promise.job.value.pass.view, A.In.origin h.handle.promise.job.value.input)) running.entry.items) pass.old.view count handed (A.returned ears.old)
+        → Going (IsAnswered V.Tool.faults (sides A.In.left A.In.most A.Out.written A.Out.flushed) (front_of V.meaning api.now.base (C.told clock.now))) n asked idle v0 h0 g0 crew [] pass.new.view count handed (A.returned ears.new) }
 {
     while let Some(link) = running.pop() {
         join_one(rt, api, pass, ears, link);
@@ -132,11 +137,13 @@ fn reap_at<V: Versions + Drop, A: Ears, C: Clock, R: Threads>(
     ensures links { All (λ h. IsOf V.meaning api.now h.handle.promise.job.value.pass × (C.told h.handle.promise.job.value.clock.now ≡ C.told clock.now)) running.new.items }
     ensures room { MatchBool result (vec_len running.new + 1 ≡ vec_len running.old) (vec_len running.new ≡ vec_len running.old) }
     ensures capacity { vec_capacity running.new ≡ vec_capacity running.old }
+    ensures goes { Goes pass.old.view pass.new.view }
+    ensures hears { (place : List ℕ) → A.hears ears.old place → A.hears ears.new place }
     ensures faults { A.faults ears.new ≡ A.faults ears.old }
     ensures origins { A.origins ears.new ≡ A.origins ears.old }
     ensures going { (n asked idle : ℕ) (v0 : View (CoreBase V)) (h0 : Option (List Origin)) (g0 : Option (List Ending)) (crew : List (View (CoreBase V))) (count : ℕ) (handed : Option (List Origin))
-        → Going (IsAnswered V.Tool.faults (front_of V.meaning api.now.base (C.told clock.now))) n asked idle v0 h0 g0 crew (map (λ h. (h.handle.promise.job.value.pass.view, A.In.origin h.handle.promise.job.value.input)) running.old.items) pass.old.view count handed (A.returned ears.old)
-        → Going (IsAnswered V.Tool.faults (front_of V.meaning api.now.base (C.told clock.now))) n asked idle v0 h0 g0 crew (map (λ h. (h.handle.promise.job.value.pass.view, A.In.origin h.handle.promise.job.value.input)) running.new.items) pass.new.view count handed (A.returned ears.new) }
+        → Going (IsAnswered V.Tool.faults (sides A.In.left A.In.most A.Out.written A.Out.flushed) (front_of V.meaning api.now.base (C.told clock.now))) n asked idle v0 h0 g0 crew (map (λ h. (h.handle.promise.job.value.pass.view, A.In.origin h.handle.promise.job.value.input)) running.old.items) pass.old.view count handed (A.returned ears.old)
+        → Going (IsAnswered V.Tool.faults (sides A.In.left A.In.most A.Out.written A.Out.flushed) (front_of V.meaning api.now.base (C.told clock.now))) n asked idle v0 h0 g0 crew (map (λ h. (h.handle.promise.job.value.pass.view, A.In.origin h.handle.promise.job.value.input)) running.new.items) pass.new.view count handed (A.returned ears.new) }
 {
     if running[at].is_over().is_none() {
         return false;
@@ -161,11 +168,13 @@ pub(crate) fn reap<V: Versions + Drop, A: Ears, C: Clock, R: Threads>(
     ensures links { All (λ h. IsOf V.meaning api.now h.handle.promise.job.value.pass × (C.told h.handle.promise.job.value.clock.now ≡ C.told clock.now)) running.new.items }
     ensures room { vec_len running.new ≤ vec_len running.old }
     ensures capacity { vec_capacity running.new ≡ vec_capacity running.old }
+    ensures goes { Goes pass.old.view pass.new.view }
+    ensures hears { (place : List ℕ) → A.hears ears.old place → A.hears ears.new place }
     ensures faults { A.faults ears.new ≡ A.faults ears.old }
     ensures origins { A.origins ears.new ≡ A.origins ears.old }
     ensures going { (n asked idle : ℕ) (v0 : View (CoreBase V)) (h0 : Option (List Origin)) (g0 : Option (List Ending)) (crew : List (View (CoreBase V))) (count : ℕ) (handed : Option (List Origin))
-        → Going (IsAnswered V.Tool.faults (front_of V.meaning api.now.base (C.told clock.now))) n asked idle v0 h0 g0 crew (map (λ h. (h.handle.promise.job.value.pass.view, A.In.origin h.handle.promise.job.value.input)) running.old.items) pass.old.view count handed (A.returned ears.old)
-        → Going (IsAnswered V.Tool.faults (front_of V.meaning api.now.base (C.told clock.now))) n asked idle v0 h0 g0 crew (map (λ h. (h.handle.promise.job.value.pass.view, A.In.origin h.handle.promise.job.value.input)) running.new.items) pass.new.view count handed (A.returned ears.new) }
+        → Going (IsAnswered V.Tool.faults (sides A.In.left A.In.most A.Out.written A.Out.flushed) (front_of V.meaning api.now.base (C.told clock.now))) n asked idle v0 h0 g0 crew (map (λ h. (h.handle.promise.job.value.pass.view, A.In.origin h.handle.promise.job.value.input)) running.old.items) pass.old.view count handed (A.returned ears.old)
+        → Going (IsAnswered V.Tool.faults (sides A.In.left A.In.most A.Out.written A.Out.flushed) (front_of V.meaning api.now.base (C.told clock.now))) n asked idle v0 h0 g0 crew (map (λ h. (h.handle.promise.job.value.pass.view, A.In.origin h.handle.promise.job.value.input)) running.new.items) pass.new.view count handed (A.returned ears.new) }
 {
     let mut at = 0;
     while at < running.len() {

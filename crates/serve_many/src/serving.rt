@@ -3,11 +3,14 @@ ghost use Rattle.std.specs.Prelude.{◌≡◌, ◌<◌, ◌≤◌, ℕ, false, M
 ghost use Rattle.edge_io.specs.Causes.{Rose};
 ghost use Rattle.shared_api.specs.Passes.{IsOf};
 ghost use Rattle.serve_spans.specs.Served.{ServedAll};
-ghost use Rattle.serve_many.specs.Answered.{IsAnswered, front_of};
+ghost use Rattle.serve_many.specs.Answered.{IsAnswered, front_of, sides};
+ghost use Rattle.serve_many.specs.Helping.{Rounds, turns_between};
+ghost use Rattle.shared_api.specs.Base.{server_of};
 ghost use Rattle.serve_many.specs.Ends.{EndsAt, ServeBlames, UnlessNoMemory};
 
 use crate::accepting::{MOST_RUNNING, accept_all};
 use crate::crew::{HiredHere, disband, dismiss, hire};
+use crate::gates::RestingGate;
 use crate::running::{Link, join_all};
 use api_calls::{Tools, Versions};
 use edge_io::{Clock, Ears};
@@ -64,11 +67,13 @@ where
     A::Ended: 's,
     requires of { IsOf V.meaning api.now pass.old }
     ensures of { IsOf V.meaning api.now pass.new }
+    ensures hears { (place : List ℕ) → A.hears ears.old place → A.hears ears.new place }
     ensures fault { IfOk result (λ done. done.0 ≡ false → Rose (A.faults ears.old) (A.faults ears.new)) }
     ensures memory { IfErr result (λ _. (ears.new ≡ ears.old) × (pass.new ≡ pass.old)) }
     ensures served { IfOk result (λ done. (n : ℕ) → pass.old.view.number ≡ Some n
         → (count : ℕ) × MatchBool done.0 (connections ≡ Some count) (IfSome connections (λ k. count < k))
-        × ServedAll (IsAnswered V.Tool.faults (front_of V.meaning api.now.base (C.told clock.now))) workers done.1 pass.old.view pass.new.view count (A.origins ears.old) (A.origins ears.new) (A.returned ears.old) (A.returned ears.new)) }
+        × Rounds (server_of V.meaning api.now.base) turns_between done.1 pass.old.view count pass.new.view
+        × ServedAll (IsAnswered V.Tool.faults (sides A.In.left A.In.most A.Out.written A.Out.flushed) (front_of V.meaning api.now.base (C.told clock.now))) workers done.1 pass.old.view pass.new.view count (A.origins ears.old) (A.origins ears.new) (A.returned ears.old) (A.returned ears.new)) }
 {
     let mut crew: Vec<HiredHere<'s, V, R>> = Vec::with_capacity(alloc, workers)?;
     let mut running: Vec<Link<'s, V, A, C>> = match Vec::with_capacity(alloc, MOST_RUNNING) {
@@ -78,7 +83,7 @@ where
             return Err(fault);
         }
     };
-    let idle = hire(rt, alloc, scope, api, pass, tools, &mut crew, workers);
+    let idle = hire::<E, V, A, M, R>(rt, alloc, scope, api, pass, tools, &mut crew, workers);
     let done = accept_all(
         rt,
         alloc,
@@ -93,7 +98,7 @@ where
         connections,
     );
     join_all(rt, api, pass, ears, clock, running);
-    dismiss(rt, api, pass, crew);
+    dismiss::<V, A, RestingGate<'s, R>, R>(rt, api, pass, crew);
     Ok((done, idle))
 }
 
@@ -120,11 +125,13 @@ where
     V::Tool: Send,
     requires of { IsOf V.meaning api.now pass.old }
     ensures of { IsOf V.meaning api.now pass.new }
+    ensures hears { (place : List ℕ) → A.hears ears.old place → A.hears ears.new place }
     ensures fault { IfOk result (λ done. done.0 ≡ false → Rose (A.faults ears.old) (A.faults ears.new)) }
     ensures memory { IfErr result (λ _. (ears.new ≡ ears.old) × (pass.new ≡ pass.old)) }
     ensures served { IfOk result (λ done. (n : ℕ) → pass.old.view.number ≡ Some n
         → (count : ℕ) × MatchBool done.0 (connections ≡ Some count) (IfSome connections (λ k. count < k))
-        × ServedAll (IsAnswered V.Tool.faults (front_of V.meaning api.now.base (C.told clock.now))) workers done.1 pass.old.view pass.new.view count (A.origins ears.old) (A.origins ears.new) (A.returned ears.old) (A.returned ears.new)) }
+        × Rounds (server_of V.meaning api.now.base) turns_between done.1 pass.old.view count pass.new.view
+        × ServedAll (IsAnswered V.Tool.faults (sides A.In.left A.In.most A.Out.written A.Out.flushed) (front_of V.meaning api.now.base (C.told clock.now))) workers done.1 pass.old.view pass.new.view count (A.origins ears.old) (A.origins ears.new) (A.returned ears.old) (A.returned ears.new)) }
 {
     let own = &mut *pass;
     let heard = &mut *ears;
@@ -141,11 +148,13 @@ where
             requires { IsOf V.meaning api.now own.now }
             ensures names { (result.1.ghost_name ≡ own.entry.ghost_name) × (result.2.ghost_name ≡ heard.entry.ghost_name) × (result.3.ghost_name ≡ kit.entry.ghost_name) }
             ensures of { IsOf V.meaning api.entry.now result.1.now }
+            ensures hears { (place : List ℕ) → A.hears heard.entry.now place → A.hears result.2.now place }
             ensures fault { IfOk result.0 (λ done. done.0 ≡ false → Rose (A.faults heard.entry.now) (A.faults result.2.now)) }
             ensures memory { IfErr result.0 (λ _. (result.2.now ≡ heard.entry.now) × (result.1.now ≡ own.entry.now)) }
             ensures served { IfOk result.0 (λ done. (n : ℕ) → own.entry.now.view.number ≡ Some n
                 → (count : ℕ) × MatchBool done.0 (connections ≡ Some count) (IfSome connections (λ k. count < k))
-                × ServedAll (IsAnswered V.Tool.faults (front_of V.meaning api.entry.now.base (C.told clock.entry.now))) workers done.1 own.entry.now.view result.1.now.view count (A.origins heard.entry.now) (A.origins result.2.now) (A.returned heard.entry.now) (A.returned result.2.now)) }
+                × Rounds (server_of V.meaning api.entry.now.base) turns_between done.1 own.entry.now.view count result.1.now.view
+                × ServedAll (IsAnswered V.Tool.faults (sides A.In.left A.In.most A.Out.written A.Out.flushed) (front_of V.meaning api.entry.now.base (C.told clock.entry.now))) workers done.1 own.entry.now.view result.1.now.view count (A.origins heard.entry.now) (A.origins result.2.now) (A.returned heard.entry.now) (A.returned result.2.now)) }
         {
             let end = serve_in(
                 rt,
@@ -199,10 +208,14 @@ where
     ensures of { IsOf V.meaning api.now pass.new }
     // Each connection that was handed out was served in a span of the list and given back. `Done` is where they were as many as
     // were asked for, and at `EarsFault` they were fewer. The workers that aren't idle have a pass each, which serves no connection. What no
-    // connection entered is of theirs, or where any are idle of one of as many further passes at most, or of the pass that accepts.
+    // connection entered is of theirs, or where any are idle of one of as many further passes at most, or of the pass that accepts, which takes
+    // 64 turns of each that is idle behind each connection.
     ensures served { UnlessNoMemory result.end ((n : ℕ) → pass.old.view.number ≡ Some n
         → (count : ℕ) × EndsAt result.end connections count
-        × ServedAll (IsAnswered V.Tool.faults (front_of V.meaning api.now.base (C.told clock.now))) workers result.idle pass.old.view pass.new.view count (A.origins ears.old) (A.origins ears.new) (A.returned ears.old) (A.returned ears.new)) }
+        × Rounds (server_of V.meaning api.now.base) turns_between result.idle pass.old.view count pass.new.view
+        × ServedAll (IsAnswered V.Tool.faults (sides A.In.left A.In.most A.Out.written A.Out.flushed) (front_of V.meaning api.now.base (C.told clock.now))) workers result.idle pass.old.view pass.new.view count (A.origins ears.old) (A.origins ears.new) (A.returned ears.old) (A.returned ears.new)) }
+    // It listens where it did.
+    ensures hears { (place : List ℕ) → A.hears ears.old place → A.hears ears.new place }
     // A fault comes only where the ears' count rose, and without memory nothing was done.
     ensures blames { ServeBlames result.end (Rose (A.faults ears.old) (A.faults ears.new)) ((ears.new ≡ ears.old) × (pass.new ≡ pass.old)) }
 {

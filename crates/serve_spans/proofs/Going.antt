@@ -1,17 +1,17 @@
 -- Connections that go on: each step keeps `Going`, and at the end it is `ServedAll`.
-use Rattle.std.proofs.Common.{ℕ, zero, suc, ◌≡◌, ◌<◌, ◌+◌, ◌⊎◌, arith, length, List, [], ◌∷◌, ◌++◌, Option, Some, inl, inr, ⊎_elim, refl, ap, sym, ◌∙◌, subst, map, append_assoc, length-append, take, drop, slice_index_or}
+use Rattle.std.proofs.Common.{ℕ, zero, suc, ◌≡◌, ◌<◌, ◌≤◌, ◌+◌, ◌⊎◌, arith, length, List, [], ◌∷◌, ◌++◌, Option, Some, inl, inr, ⊎_elim, refl, ap, sym, ◌∙◌, subst, map, append_assoc, length-append, take, drop, slice_index_or}
 use Rattle.std.proofs.lemmas.List.{append-nil}
 use mathlib.Core.List.{IsPrefix}
 use Rattle.api_calls.specs.Item.{Logged, items_of}
 use Rattle.edge_io.specs.Connections.{Origin, Ending, AddsOne, HandsOut}
 use Rattle.turn_cell.specs.laws.Laws.{prefix_self}
 use Rattle.turn_cell.specs.Turns.{Meets, IsNew}
-use Rattle.turn_cell.specs.Views.{numbers_of, halved}
+use Rattle.turn_cell.specs.Views.{numbers_of, numbers_or, halved}
 use Rattle.turn_cell.specs.declared.view.View.{View}
-use Rattle.serve_spans.specs.Spans.{Service, Span, Linked, AreNotOf}
+use Rattle.serve_spans.specs.Spans.{IsSameBut, Service, Span, Linked, AreNotOf}
 use Rattle.turn_cell.specs.Numbers.{In, Differ}
 use Rattle.serve_spans.specs.Owners.{IsOfWorker, TakesTurns}
-use Rattle.serve_spans.specs.Served.{Among, origins_of, HandsOutAll, AddsAll, AreWorkers, ServedAll}
+use Rattle.serve_spans.specs.Served.{Among, origins_of, HandsOutAll, AddsAll, AreWorkers, IsOfSpan, AreAll, ServedAll}
 use Rattle.serve_spans.specs.inner.Keeping.{ArePast, IsServing, IsShared, Job, out_of, views_of, IsBegun, AllBegun, Going}
 use Rattle.serve_spans.proofs.Lists.{map_append, map_snoc, in_left, in_right, differ_apart, number_in}
 use Rattle.serve_spans.proofs.Spans.{Grows, numbers_met, linked_grows, span_of, past_of, one_worked, one_joins, one_met, one_begun, one_here}
@@ -117,6 +117,80 @@ workers_more before now later k ss ns m h since on past here new = record {
   serve_none = none_more ns now k m ss h.serve_none past new;
 }
 
+-- ---- all passes
+
+span_left : (m : ℕ) (ss : List Span) (s : Span) → IsOfSpan m ss → IsOfSpan m (ss ++ s ∷ [])
+span_left m [] s h = absurd h
+span_left m (t ∷ ts) s h = ⊎_elim (λ (e : m ≡ t.number). inl e) (λ (a : IsOfSpan m ts). inr (span_left m ts s a)) h
+
+span_last : (m : ℕ) (ss : List Span) (s : Span) → m ≡ s.number → IsOfSpan m (ss ++ s ∷ [])
+span_last m [] s e = inl e
+span_last m (t ∷ ts) s e = inr (span_last m ts s e)
+
+-- the same of equal numbers
+all_now : (before now later : List ℕ) (ss : List Span) (workers spared : List ℕ) → later ≡ now → AreAll before now ss workers spared → AreAll before later ss workers spared
+all_now before now later ss workers spared same h = subst (λ (ns : List ℕ). AreAll before ns ss workers spared) (sym same) h
+
+-- one more span, of one of these passes
+all_span : (before now : List ℕ) (ss : List Span) (s : Span) (workers spared : List ℕ) → AreAll before now ss workers spared → AreAll before now (ss ++ s ∷ []) workers spared
+all_span before now ss s workers spared h = record {
+  passes = h.passes;
+  came = h.came;
+  differ = h.differ;
+  owned = λ m a. ⊎_elim (λ (b : IsOfSpan m ss). inl (span_left m ss s b)) (λ (b : In m workers ⊎ In m spared). inr b) (h.owned m a);
+  few = (let few = h.few in let more = length-append ss (s ∷ []) in omega arith);
+  spare = h.spare;
+}
+
+-- one more pass, which is new
+came_more : (before now passes later : List ℕ) (m : ℕ) → now ≡ before ++ passes → later ≡ now ++ m ∷ [] → later ≡ before ++ (passes ++ m ∷ [])
+came_more before now passes later m came more = more ∙ (ap (λ (ns : List ℕ). ns ++ m ∷ []) came ∙ append_assoc before passes (m ∷ []))
+
+pass_new : (before now passes : List ℕ) (m : ℕ) → now ≡ before ++ passes → ¬ In m now → ¬ In m passes
+pass_new before now passes m came new a = new (subst (λ (ns : List ℕ). In m ns) (sym came) (in_right m before passes a))
+
+all_met_span : (before now later : List ℕ) (ss : List Span) (s : Span) (workers spared : List ℕ) (m : ℕ) → later ≡ now ++ m ∷ [] → ¬ In m now → m ≡ s.number
+    → AreAll before now ss workers spared → AreAll before later (ss ++ s ∷ []) workers spared
+all_met_span before now later ss s workers spared m more new is h = record {
+  passes = h.passes ++ m ∷ [];
+  came = came_more before now h.passes later m h.came more;
+  differ = differ_snoc h.passes m h.differ (pass_new before now h.passes m h.came new);
+  owned = λ k a. ⊎_elim (λ (b : In k h.passes). ⊎_elim (λ (d : IsOfSpan k ss). inl (span_left k ss s d)) (λ (d : In k workers ⊎ In k spared). inr d) (h.owned k b))
+      (λ (e : k ≡ m). inl (span_last k ss s (e ∙ is))) (in_snoc k m h.passes a);
+  few = (let few = h.few in let more = length-append ss (s ∷ []) in let one = length-append h.passes (m ∷ []) in omega arith);
+  spare = λ k a. in_left k h.passes (m ∷ []) (h.spare k a);
+}
+
+all_met_worker : (before now later : List ℕ) (ss : List Span) (workers spared : List ℕ) (m : ℕ) → later ≡ now ++ m ∷ [] → ¬ In m now
+    → AreAll before now ss workers spared → AreAll before later ss (workers ++ m ∷ []) spared
+all_met_worker before now later ss workers spared m more new h = record {
+  passes = h.passes ++ m ∷ [];
+  came = came_more before now h.passes later m h.came more;
+  differ = differ_snoc h.passes m h.differ (pass_new before now h.passes m h.came new);
+  owned = λ k a. ⊎_elim (λ (b : In k h.passes). ⊎_elim (λ (d : IsOfSpan k ss). inl d)
+      (λ (d : In k workers ⊎ In k spared). inr (⊎_elim (λ (w : In k workers). inl (in_left k workers (m ∷ []) w)) (λ (w : In k spared). inr w) d)) (h.owned k b))
+      (λ (e : k ≡ m). inr (inl (in_last k m workers e))) (in_snoc k m h.passes a);
+  few = (let few = h.few in let more = length-append workers (m ∷ []) in let one = length-append h.passes (m ∷ []) in omega arith);
+  spare = λ k a. in_left k h.passes (m ∷ []) (h.spare k a);
+}
+
+all_met_spared : (before now later : List ℕ) (ss : List Span) (workers spared : List ℕ) (m : ℕ) → later ≡ now ++ m ∷ [] → ¬ In m now
+    → AreAll before now ss workers spared → AreAll before later ss workers (spared ++ m ∷ [])
+all_met_spared before now later ss workers spared m more new h = record {
+  passes = h.passes ++ m ∷ [];
+  came = came_more before now h.passes later m h.came more;
+  differ = differ_snoc h.passes m h.differ (pass_new before now h.passes m h.came new);
+  owned = λ k a. ⊎_elim (λ (b : In k h.passes). ⊎_elim (λ (d : IsOfSpan k ss). inl d)
+      (λ (d : In k workers ⊎ In k spared). inr (⊎_elim (λ (w : In k workers). inl w) (λ (w : In k spared). inr (in_left k spared (m ∷ []) w)) d)) (h.owned k b))
+      (λ (e : k ≡ m). inr (inr (in_last k m spared e))) (in_snoc k m h.passes a);
+  few = (let few = h.few in let more = length-append spared (m ∷ []) in let one = length-append h.passes (m ∷ []) in omega arith);
+  spare = λ k a. ⊎_elim (λ (b : In k spared). in_left k h.passes (m ∷ []) (h.spare k b)) (λ (e : k ≡ m). in_last k m h.passes e) (in_snoc k m spared a);
+}
+
+-- the one number of a pass that no other was met into
+alone_number : {B : Type 0} (p w : View B) (m : ℕ) → p.number ≡ Some m → p.met ≡ [] → IsSameBut p w → numbers_of w ≡ m ∷ []
+alone_number {B = B} p w m number none same = ap (λ (q : View B). numbers_of q) same ∙ (λ i. numbers_or (number i) (none i))
+
 -- a list in parts, around the element x at i
 parts_at : {X : Type 0} (xs : List X) (i : ℕ) (x : X) → i < length xs → x ≡ slice_index_or xs i x → xs ≡ take i xs ++ x ∷ drop (suc i) xs
 parts_at [] i x lt e = absurd (omega arith)
@@ -180,6 +254,8 @@ module _ {B : Type 0} where
         let up = linked_grows Serves grows m p o w c l in
         let s : Span = span_of Serves m p o w c l in
         let on : (k : ℕ) → In k (numbers_of v) → In k (numbers_of u) = all_met v w u h.serving.number met in
+        let numbers : numbers_of u ≡ numbers_of v ++ numbers_of w = ap (λ (q : View B). numbers_of q) met.0 ∙ numbers_met v w n h.serving.number in
+        let mine : numbers_of w ≡ m ∷ [] = alone_number p w m own.0.1 own.0.2 l.same in
         let serving : IsServing Serves n v0 (out_of front ++ o ∷ out_of back) v h.hs h.cs h.spans =
         subst (λ (zs : List (Option Origin)). IsServing Serves n v0 zs v h.hs h.cs h.spans) (out_append front ((p, o) ∷ back)) h.serving in
         record {
@@ -199,6 +275,8 @@ module _ {B : Type 0} where
               (λ a. differ_apart (numbers_of v) (numbers_of w) m met.1.2 (h.are_workers.met m a).0 (number_in w m (ap (λ (q : View B). q.number) l.same ∙ own.0.1)));
           hired = h.hired;
           few = h.few;
+          all = all_met_span (numbers_of v0) (numbers_of v) (numbers_of u) h.spans s h.workers h.spared m (numbers ∙ ap (λ (ns : List ℕ). numbers_of v ++ ns) mine)
+              (λ a. differ_apart (numbers_of v) (numbers_of w) m met.1.2 a (number_in w m (ap (λ (q : View B). q.number) l.same ∙ own.0.1))) refl h.all;
           covering = cover_met _ v0 _ v p w u n m h.spans (h.spans ++ s ∷ []) h.covering h.serving.number h.serving.grows own.0.1 own.0.2 own.0.3 l.same up met
               (within_front h.spans s) (λ x theirs. theirs) (λ i x at ge by. inl (within_last h.spans s i x by ge (at_within w.seen i x at)));
           begun = subst (λ (vs : List (View B)). AllBegun v0 vs) (sym after) begun.1;
@@ -254,6 +332,7 @@ module _ {B : Type 0} where
           are_workers = workers_on (numbers_of v0) (numbers_of v) (numbers_of u) h.spans h.workers on h.are_workers;
           hired = h.hired;
           few = h.few;
+          all = all_now (numbers_of v0) (numbers_of v) (numbers_of u) h.spans h.workers h.spared (ap (λ (q : View B). numbers_of q) left) h.all;
           covering = cover_same _ v0 v u h.spans h.covering (ap (λ (q : View B). numbers_of q) left) (ap (λ (q : View B). q.seen) left)
               (shared_two v0 (views_of jobs) crew v u p shared (ap (λ (q : View B). q.share) new.1 ∙ sym (ap (λ (q : View B). q.share) left)));
           begun = subst (λ (vs : List (View B)). AllBegun v0 vs) (sym after) (begun_put v0 (views_of jobs) crew p (is_begun h.spans jobs v p h.hs h.cs s new) h.begun);
@@ -289,6 +368,7 @@ module _ {B : Type 0} where
               (λ a. (h.are_workers.met n a).1 (number_in v0 n h.first));
           hired = h.hired;
           few = h.few;
+          all = all_span (numbers_of v0) (numbers_of z) h.spans (span_of Serves n v o z c l) h.workers h.spared (all_now (numbers_of v0) (numbers_of v) (numbers_of z) h.spans h.workers h.spared (ap (λ (q : View B). numbers_of q) l.same) h.all);
           covering = cover_here _ v0 v z n h.spans (span_of Serves n v o z c l) h.covering s.number l.same up l.quiet refl refl refl;
           begun = h.begun;
           shared = shared_same v0 v z (views_of jobs ++ crew) h.shared (ap (λ (q : View B). q.share) l.same);
@@ -318,6 +398,7 @@ module _ {B : Type 0} where
           are_workers = workers_on (numbers_of v0) (numbers_of v) (numbers_of z) h.spans h.workers on h.are_workers;
           hired = h.hired;
           few = h.few;
+          all = all_now (numbers_of v0) (numbers_of v) (numbers_of z) h.spans h.workers h.spared (ap (λ (q : View B). numbers_of q) l.same) h.all;
           covering = cover_works _ v0 v z n h.spans h.covering s.number l (λ x work by. (work, inr (inr (ap (λ (k : ℕ). let o : Option ℕ = Some k in o) (sym by), some))));
           begun = h.begun;
           shared = shared_same v0 v z (views_of jobs ++ crew) h.shared (ap (λ (q : View B). q.share) l.same);
@@ -359,6 +440,7 @@ module _ {B : Type 0} where
           are_workers = workers_on (numbers_of v0) (numbers_of v) (numbers_of (halved v)) h.spans h.workers (λ k a. a) h.are_workers;
           hired = (let hired = h.hired in omega arith);
           few = h.few;
+          all = h.all;
           covering = cover_same _ v0 v (halved v) h.spans h.covering refl refl (shared_two v0 outs [] v (halved v) p shared (ap (λ (q : View B). q.share) new.1));
           begun = subst (λ (vs : List (View B)). AllBegun v0 vs) (sym after) (begun_put v0 outs [] p (is_begun h.spans jobs v p h.hs h.cs s new) (subst (λ (vs : List (View B)). AllBegun v0 vs) (sym whole) h.begun));
           shared = subst (λ (vs : List (View B)). IsShared v0 (halved v) vs) (sym after) shared;
@@ -382,6 +464,7 @@ module _ {B : Type 0} where
       are_workers = h.are_workers;
       hired = (let hired = h.hired in omega arith);
       few = (let few = h.few in omega arith);
+      all = h.all;
       covering = cover_more _ v0 _ v h.spans h.covering (idle_more (Some n) idle h.workers h.spared);
       begun = h.begun;
       shared = h.shared;
@@ -403,6 +486,7 @@ module _ {B : Type 0} where
         let l = works m own.0.1 in
         let on : (k : ℕ) → In k (numbers_of v) → In k (numbers_of u) = all_met v w u h.serving.number met in
         let here : In m (numbers_of w) = number_in w m (ap (λ (q : View B). q.number) l.same ∙ own.0.1) in
+        let mine : numbers_of w ≡ m ∷ [] = alone_number p w m own.0.1 own.0.2 l.same in
         let numbers : numbers_of u ≡ numbers_of v ++ numbers_of w = ap (λ (q : View B). numbers_of q) met.0 ∙ numbers_met v w n h.serving.number in
         record {
           hs = h.hs;
@@ -420,6 +504,7 @@ module _ {B : Type 0} where
               (subst (λ (ns : List ℕ). In m ns) (sym numbers) (in_right m (numbers_of v) (numbers_of w) here)) (λ a. differ_apart (numbers_of v) (numbers_of w) m met.1.2 a here);
           hired = (let hired = h.hired in let one = length-append crew (p ∷ []) in let other = length-append h.workers (m ∷ []) in omega arith);
           few = h.few;
+          all = all_met_worker (numbers_of v0) (numbers_of v) (numbers_of u) h.spans h.workers h.spared m (numbers ∙ ap (λ (ns : List ℕ). numbers_of v ++ ns) mine) (λ a. differ_apart (numbers_of v) (numbers_of w) m met.1.2 a here) h.all;
           covering = cover_met _ v0 _ v p w u n m h.spans h.spans h.covering h.serving.number h.serving.grows own.0.1 own.0.2 own.0.3 l.same l.grows met (λ i x d. d) (worked_more (Some n) idle h.workers h.spared m)
               (λ i x at ge by. inr (l.work i x at ge by, inl (in_last x.by m h.workers by)));
           begun = subst (λ (vs : List (View B)). AllBegun v0 vs) whole begun.1;
@@ -442,6 +527,9 @@ module _ {B : Type 0} where
         let m : ℕ = own.0.0 in
         let l = works m own.0.1 in
         let on : (k : ℕ) → In k (numbers_of v) → In k (numbers_of u) = all_met v w u h.serving.number met in
+        let here : In m (numbers_of w) = number_in w m (ap (λ (q : View B). q.number) l.same ∙ own.0.1) in
+        let mine : numbers_of w ≡ m ∷ [] = alone_number p w m own.0.1 own.0.2 l.same in
+        let numbers : numbers_of u ≡ numbers_of v ++ numbers_of w = ap (λ (q : View B). numbers_of q) met.0 ∙ numbers_met v w n h.serving.number in
         record {
           hs = h.hs;
           cs = h.cs;
@@ -457,6 +545,7 @@ module _ {B : Type 0} where
           are_workers = workers_on (numbers_of v0) (numbers_of v) (numbers_of u) h.spans h.workers on h.are_workers;
           hired = (let hired = h.hired in let one = length-append crew (p ∷ []) in omega arith);
           few = (let few = h.few in let one = length-append h.spared (m ∷ []) in omega arith);
+          all = all_met_spared (numbers_of v0) (numbers_of v) (numbers_of u) h.spans h.workers h.spared m (numbers ∙ ap (λ (ns : List ℕ). numbers_of v ++ ns) mine) (λ a. differ_apart (numbers_of v) (numbers_of w) m met.1.2 a here) h.all;
           covering = cover_met _ v0 _ v p w u n m h.spans h.spans h.covering h.serving.number h.serving.grows own.0.1 own.0.2 own.0.3 l.same l.grows met (λ i x d. d) (spared_more (Some n) idle h.workers h.spared m)
               (λ i x at ge by. inr (l.work i x at ge by, inr (inl (in_last x.by m h.spared by))));
           begun = subst (λ (vs : List (View B)). AllBegun v0 vs) whole begun.1;
@@ -491,6 +580,14 @@ module _ {B : Type 0} where
       are_workers = record { met = λ m a. absurd a; differ = tt; serve_none = tt };
       hired = refl;
       few = omega arith;
+      all = record {
+        passes = [];
+        came = sym (append-nil (numbers_of v0));
+        differ = tt;
+        owned = λ m a. absurd a;
+        few = omega arith;
+        spare = λ m a. absurd a;
+      };
       covering = cover_starts _ v0;
       begun = tt;
       shared = shared_starts v0;
@@ -521,6 +618,7 @@ module _ {B : Type 0} where
           hired = (let hired = h.hired in omega arith);
           spared = h.spared;
           few = h.few;
+          all = h.all;
           alone = λ a0.
               let a = shared_ends v0 v h.shared a0 in
               (a, cover_all _ v0 v h.spans (cover_more _ v0 (IsOfWorker v0.number idle h.workers h.spared) v h.spans h.covering (renamed idle h.workers h.spared (Some n) v0.number (sym number))) s.grows a0 a);

@@ -35,6 +35,21 @@ pub record AreWorkers (before now : List ℕ) (spans : List Span) (workers : Lis
   pub differ : Differ workers
   pub serve_none : AreNotOf workers spans
 
+-- the number is that of one of these spans
+abbrev pub IsOfSpan : ℕ → List Span → Type 0
+IsOfSpan m [] = ⊥
+IsOfSpan m (s ∷ ss) = (m ≡ s.number) ⊎ IsOfSpan m ss
+
+-- All passes that came to those of `before`, so that they are those of `now`: each served one of these connections, is a worker's, or was made
+-- for one whose thread wasn't started, and they are no more than these are together.
+pub record AreAll (before now : List ℕ) (spans : List Span) (workers spared : List ℕ) : Type 0 where
+  pub passes : List ℕ
+  pub came : now ≡ before ++ passes
+  pub differ : Differ passes
+  pub owned : (m : ℕ) → In m passes → IsOfSpan m spans ⊎ (In m workers ⊎ In m spared)
+  pub few : length passes ≤ (length spans + length workers) + length spared
+  pub spare : (m : ℕ) → In m spared → In m passes
+
 -- So many connections were handed out, and all were given back. So many workers were asked for beside them, of whom so many have no thread. The
 -- pass was v0, and is v.
 pub record ServedAll {B : Type 0} (Serves : Service) (asked idle : ℕ) (v0 v : View B) (count : ℕ) (h0 handed : Option (List Origin)) (g0 given : Option (List Ending)) : Type 0 where
@@ -62,6 +77,8 @@ pub record ServedAll {B : Type 0} (Serves : Service) (asked idle : ℕ) (v0 v : 
   -- and of the passes that were made for workers whose thread wasn't started
   pub spared : List ℕ
   pub few : length spared ≤ idle
+  -- no pass was made besides
+  pub all : AreAll (numbers_of v0) (numbers_of v) spans workers spared
   -- where the pass was alone it is alone again, and all that is new stands in a span of its pass, or is a worker's: of one of these passes, or of
   -- this pass, which takes the turns of workers without a thread
   pub alone : IsAlone v0 → IsAlone v × ((i : ℕ) (x : Logged) → At v.seen i x → length v0.seen ≤ i → Within spans i x ⊎ IsOfWorker v0.number idle workers spared x)

@@ -1,5 +1,6 @@
 //! Where connections come from.
-ghost use Rattle.std.specs.Prelude.{◌≡◌, ℕ, None, IfOk};
+ghost use Rattle.std.specs.Prelude.{◌≡◌, ◌≤◌, ℕ, None, IfOk};
+ghost use Rattle.edge_io.specs.Causes.{Rose};
 
 use crate::Place;
 use crate::parts::{TcpClosed, TcpSink, TcpSource, close};
@@ -47,6 +48,18 @@ where
             listening: None,
             faults: 0,
         }
+    }
+}
+
+impl<'a, R: Net> TcpEars<'a, R> {
+    // A fault, which is counted.
+    fn failed(&mut self) -> Failed
+        ensures rose { Rose self.old.faults self.new.faults }
+        ensures later { self.old.faults ≤ self.new.faults }
+        ensures listening { self.new.listening ≡ self.old.listening }
+    {
+        self.faults = self.faults.saturating_add(1);
+        Failed
     }
 }
 
@@ -133,7 +146,7 @@ where
 
     type Ended = TcpClosed;
 
-    ghost use Rattle.std.specs.Prelude.{None, ⊤};
+    ghost use Rattle.std.specs.Prelude.{None, IsSome};
 
     ghost origins = { λ e. None };
 
@@ -143,7 +156,7 @@ where
 
     ghost ending = { λ c. record { origin = None; read_faults = c.read_faults; write_faults = c.write_faults; written = None; flushed = None } };
 
-    ghost hears = { λ e place. ⊤ };
+    ghost hears = { λ e place. IsSome e.listening };
 
     fn listen(&mut self, place: &str) -> Result<(), Failed> {
         match bound(self.net, self.alloc, place) {
@@ -151,24 +164,17 @@ where
                 self.listening = Some(listening);
                 Ok(())
             }
-            Err(_) => {
-                self.faults = self.faults.saturating_add(1);
-                Err(Failed)
-            }
+            Err(_) => Err(self.failed()),
         }
     }
 
     fn next(&mut self) -> Result<(TcpSource<'a, R::Stream, R>, TcpSink<R::Stream>), Failed> {
         let Some(listening) = &self.listening else {
-            self.faults = self.faults.saturating_add(1);
-            return Err(Failed);
+            return Err(self.failed());
         };
         match next_of(self.net, self.alloc, &listening.count, &listening.listener) {
             Ok(parts) => Ok(parts),
-            Err(_) => {
-                self.faults = self.faults.saturating_add(1);
-                Err(Failed)
-            }
+            Err(_) => Err(self.failed()),
         }
     }
 

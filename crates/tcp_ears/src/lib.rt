@@ -8,6 +8,7 @@
 #![tactic(auto)]
 
 mod ears;
+pub mod laws;
 mod parts;
 mod patience;
 mod place;

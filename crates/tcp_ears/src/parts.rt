@@ -1,6 +1,11 @@
 //! What a connection is read from and written to.
-ghost use Rattle.std.specs.Prelude.{◌≡◌, ℕ, None, IfOk};
-ghost use Rattle.std.specs.Io.{ReadsAtMost};
+ghost use Rattle.std.specs.Prelude.{◌≡◌, ◌<◌, ◌≤◌, ◌↔◌, ℕ, None, [], length, IfOk, IfSome, IsErr, IsTrue, OnOk};
+ghost use Rattle.std.specs.Io.{ReadsAtMost, WritesAtMost};
+ghost use Rattle.std.specs.Io.Buffered.{writer_buffer, writer_contents};
+ghost use Rattle.std.specs.Io.KnownBytes.{IsAtEnd, Keeps, ReadConsumes, WriteAppends};
+ghost use Rattle.edge_io.specs.Causes.{HasCause};
+ghost use Rattle.edge_io.specs.Content.{TakesFront, AddsFront};
+ghost use Rattle.tcp_ears.specs.Streams.{Gives};
 
 use crate::patience::{Counted, IDLE_SECONDS, is_silent, is_slow};
 use edge_io::{Failed, Sink, Source};
@@ -47,13 +52,26 @@ struct Timed<S> {
 }
 
 impl<S: Write> Write for Timed<S> {
-    fn write(&mut self, piece: &[u8]) -> io::Result<usize> {
+    ghost contents = { λ t. S.contents t.stream };
+
+    fn write(&mut self, piece: &[u8]) -> io::Result<usize>
+        ensures bound { WritesAtMost result piece.now }
+        ensures bytes { WriteAppends (S.contents self.old.stream) (S.contents self.new.stream) result piece.now }
+
+        // It waited where it took less than it was given, and nothing is written behind that.
+        ensures waited { IfOk result (λ n. IsTrue self.new.waited ↔ (n < length piece.now)) }
+        ensures once { IsTrue self.old.waited → IsErr result × (self.new ≡ self.old) }
+    {
         if self.waited {
             return Err(io::Error::from(io::ErrorKind::TimedOut));
         }
-        let count = self.stream.write(piece)?;
-        self.waited = count < piece.len();
-        Ok(count)
+        match self.stream.write(piece) {
+            Ok(count) => {
+                self.waited = count < piece.len();
+                Ok(count)
+            }
+            Err(fault) => Err(fault),
+        }
     }
 
     fn flush(&mut self) -> io::Result<()> {
@@ -156,7 +174,8 @@ impl<'a, S, C: Clock> TcpSource<'a, S, C> {
 
     // A read begins: after an answer a new request does, and behind its first bytes its time is counted.
     fn begin(&mut self)
-        ensures { self.new.faults ≡ self.old.faults }
+        ensures faults { self.new.faults ≡ self.old.faults }
+        ensures stream { self.new.stream ≡ self.old.stream }
     {
         if self.answered.swap(false, Ordering::SeqCst) {
             self.bytes = 0;
@@ -188,8 +207,10 @@ fn is_slice(fault: &io::Error) -> bool {
 
 impl<'a, S: Read, C: Clock> TcpSource<'a, S, C> {
     // Reads what comes. It waits in slices, and looks after each whether it is to wait on.
+    #[tactic(auto, using(edge_io::specs::laws::Reading::keeps_reads, edge_io::specs::laws::Reading::keeps_keeps, edge_io::specs::laws::Reading::keeps_same))]
     fn wait(&mut self, into: &mut [u8]) -> io::Result<usize>
         ensures bound { ReadsAtMost result into.new }
+        ensures reads { ReadConsumes (S.remaining self.old.stream) (S.remaining self.new.stream) result into.new }
         ensures faults { self.new.faults ≡ self.old.faults }
     {
         let mut crowded = false;
@@ -211,6 +232,7 @@ impl<'a, S: Read, C: Clock> TcpSource<'a, S, C> {
     // Reads what comes of a request, unless it takes too long.
     fn take(&mut self, into: &mut [u8]) -> io::Result<usize>
         ensures bound { ReadsAtMost result into.new }
+        ensures reads { IfOk result (Gives (S.remaining self.old.stream) (S.remaining self.new.stream) into.new) }
         ensures faults { self.new.faults ≡ self.old.faults }
     {
         self.begin();
@@ -232,7 +254,17 @@ impl<'a, S: Read, C: Clock> Source for TcpSource<'a, S, C> {
 
     ghost most = { λ s. None };
 
-    fn read(&mut self, into: &mut [u8]) -> Result<usize, Failed> {
+    fn read(&mut self, into: &mut [u8]) -> Result<usize, Failed>
+        requires { 0 < length into.old }
+        ensures bound { ReadsAtMost result into.new }
+        ensures bytes { TakesFront None None result into.new }
+        ensures end { IfOk result (λ n. n ≡ 0 → IsAtEnd None) }
+        ensures few { IfOk result (λ n. IfSome {T = ℕ} None (λ m. n ≤ m)) }
+        ensures cause { HasCause self.old.faults self.new.faults result }
+
+        // It gives what the stream gave.
+        ensures reads { IfOk result (Gives (S.remaining self.old.stream) (S.remaining self.new.stream) into.new) }
+    {
         match self.take(into) {
             Ok(count) => Ok(count),
             Err(_) => {
@@ -274,7 +306,16 @@ impl<S: Write + Drop> Sink for TcpSink<S> {
 
     ghost number = { λ s. None };
 
-    fn write(&mut self, piece: &[u8]) -> Result<usize, Failed> {
+    #[tactic(auto, using(edge_io::specs::laws::Reading::keeps_all))]
+    fn write(&mut self, piece: &[u8]) -> Result<usize, Failed>
+        ensures bound { WritesAtMost result piece.now }
+        ensures bytes { AddsFront None None result piece.now }
+        ensures progress { IfOk result (λ n. 0 < length piece.now → 0 < n) }
+        ensures cause { HasCause self.old.faults self.new.faults result }
+
+        // It takes what the buffer takes, and what that holds stands behind what the stream took.
+        ensures writes { WriteAppends (writer_contents (λ t. S.contents t.stream) self.old.stream) (writer_contents (λ t. S.contents t.stream) self.new.stream) result piece.now }
+    {
         match self.stream.write(piece) {
             Ok(0) if !piece.is_empty() => {
                 self.faults = self.faults.saturating_add(1);
@@ -288,7 +329,13 @@ impl<S: Write + Drop> Sink for TcpSink<S> {
         }
     }
 
-    fn flush(&mut self) -> Result<(), Failed> {
+    fn flush(&mut self) -> Result<(), Failed>
+        ensures cause { HasCause self.old.faults self.new.faults result }
+
+        // The buffer is empty behind it: the stream took all that was written.
+        ensures keeps { Keeps (writer_contents (λ t. S.contents t.stream) self.old.stream) (writer_contents (λ t. S.contents t.stream) self.new.stream) }
+        ensures empty { OnOk result (writer_buffer self.new.stream ≡ []) }
+    {
         match self.stream.flush() {
             Ok(()) => {
                 self.answered.store(true, Ordering::SeqCst);

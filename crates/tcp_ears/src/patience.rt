@@ -1,4 +1,7 @@
 //! How long a peer is waited for.
+ghost use Rattle.std.specs.Prelude.{◌↔◌, IsTrue};
+ghost use Rattle.tcp_ears.specs.inner.Patience.{IsSilent, IsSlow};
+
 use std::alloc::Global;
 use std::sync::Arc;
 use std::sync::atomic::{AtomicU64, Ordering};
@@ -52,11 +55,15 @@ impl Drop for Counted {
 }
 
 // Whether a peer is given up that has sent nothing for so many seconds, and has sent so many bytes of a request.
-pub(crate) fn is_silent(seconds: u64, bytes: u64, crowded: bool) -> bool {
+pub(crate) fn is_silent(seconds: u64, bytes: u64, crowded: bool) -> bool
+    ensures { IsTrue result ↔ IsSilent seconds bytes crowded }
+{
     seconds >= IDLE_SECONDS || (crowded && bytes == 0 && seconds >= CROWDED_SECONDS)
 }
 
 // Whether a peer is given up that has sent so many bytes of a request in so many seconds.
-pub(crate) fn is_slow(seconds: u64, bytes: u64, crowded: bool) -> bool {
+pub(crate) fn is_slow(seconds: u64, bytes: u64, crowded: bool) -> bool
+    ensures { IsTrue result ↔ IsSlow seconds bytes crowded }
+{
     seconds >= WHOLE_SECONDS || (crowded && bytes < seconds.saturating_mul(CROWDED_BYTES))
 }

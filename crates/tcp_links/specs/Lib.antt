@@ -1,3 +1,4 @@
 pub mod Links
 pub mod MemoryLinks
 pub mod Returned
+pub mod inner

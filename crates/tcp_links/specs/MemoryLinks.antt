@@ -2,11 +2,12 @@
 use Rattle.std.specs.Prelude.{◌≡◌, ◌⊎◌, List, [], ◌∷◌, ◌++◌, Some}
 use Rattle.edge_io.specs.Exchanges.{Exchange}
 use Rattle.edge_io.specs.MemoryLink.{LinkState}
-use Rattle.tcp_links.specs.Links.{Ending}
+use Rattle.tcp_links.specs.Links.{Ending, Peer}
 
--- the links that are left to be made, and what was given back
+-- the links that are left to be made, the addresses that links were made to, and what was given back
 pub record LinksState : Type 0 where
   pub waiting : List LinkState
+  pub asked : List Peer
   pub returned : List Ending
 
 -- what a link tells that was given back

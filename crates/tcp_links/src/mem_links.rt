@@ -4,11 +4,12 @@ ghost use Rattle.edge_io.specs.Causes.{Rose};
 ghost use Rattle.edge_io.specs.Connections.{AddsOne};
 ghost use Rattle.edge_io.specs.Exchanges.{after_exchange, answer_of, OnBroken};
 ghost use Rattle.edge_io.specs.MemoryLink.{Breaks, GivesNext, after_call};
+ghost use Rattle.tcp_links.specs.Links.{AsksOne, Peer};
 ghost use Rattle.tcp_links.specs.MemoryLinks.{IsUnused, Makes, EndsMade, ending_of, mute};
 
 use crate::Links;
 use edge_io::{Link, LinkFault, MemExchange, MemLink};
-use kj_value::NoMemory;
+use kj_value::{NoMemory, Txt};
 use std::alloc::Global;
 use std::marker::Model;
 use std::mem;
@@ -126,9 +127,48 @@ impl Link for MemLent {
     }
 }
 
+/// The address that a link in memory was made to.
+#[derive(Drop)]
+pub struct MemPeer {
+    host: Txt,
+    port: u16,
+}
+
+impl Model for MemPeer {
+    ghost use Rattle.tcp_links.specs.Links.{Peer};
+
+    ghost Value = { Peer };
+
+    ghost view = { λ p. record { host = p.host.bytes; port = p.port } };
+}
+
+impl MemPeer {
+    fn of(alloc: Global, host: &str, port: u16) -> Result<MemPeer, NoMemory>
+        ensures { IfOk result (λ p. p ≡ record { host = host.now; port = port }) }
+    {
+        let host = Txt::of(alloc, host)?;
+        Ok(MemPeer { host, port })
+    }
+
+    /// The host, as the asker spelt it.
+    pub fn host(&self) -> &str
+        ensures { result.now ≡ self.now.host }
+    {
+        self.host.as_str()
+    }
+
+    /// The port.
+    pub fn port(&self) -> u16
+        ensures { result ≡ self.now.port }
+    {
+        self.port
+    }
+}
+
 /// Links in memory, which are made in order, whatever the host and the port are. Where none is left, one without answers is made.
 pub struct MemLinks {
     waiting: IntoIter<MemReady>,
+    asked: Vec<MemPeer>,
     returned: Returned,
 }
 
@@ -136,6 +176,7 @@ impl Drop for MemLinks {
     fn drop(self) {
         let MemLinks {
             waiting: _,
+            asked: _,
             returned: _,
         } = self;
     }
@@ -147,7 +188,7 @@ impl Model for MemLinks {
 
     ghost Value = { LinksState };
 
-    ghost view = { λ s. record { waiting = into_iter_items s.waiting; returned = s.returned } };
+    ghost view = { λ s. record { waiting = into_iter_items s.waiting; asked = s.asked.items; returned = s.returned } };
 }
 
 // A link that has no answers.
@@ -159,13 +200,21 @@ fn mute(alloc: Global) -> Result<MemReady, NoMemory>
 
 impl MemLinks {
     /// Links that make these, in order.
-    pub fn new(links: Vec<MemReady>) -> MemLinks
-        ensures { result ≡ record { waiting = links.items; returned = [] } }
+    pub fn new(alloc: Global, links: Vec<MemReady>) -> MemLinks
+        ensures { result ≡ record { waiting = links.items; asked = []; returned = [] } }
     {
         MemLinks {
             waiting: links.into_iter(),
+            asked: Vec::new(alloc),
             returned: Returned { chain: Chain::End },
         }
+    }
+
+    /// The addresses that links were made to, in order.
+    pub fn asked(&self) -> &[MemPeer]
+        ensures { result.now ≡ self.now.asked }
+    {
+        &self.asked
     }
 
     /// The exchanges of the link that was given back last.
@@ -182,24 +231,37 @@ impl MemLinks {
 impl Links for MemLinks {
     type One = MemLent;
 
+    ghost use Rattle.std.specs.Prelude.{None, Some};
+
+    ghost asked = { λ s. Some s.asked };
+
+    ghost peer = { λ l. None };
+
     ghost returned = { λ s. Some s.returned };
 
-    fn make(&mut self, alloc: Global, _host: &str, _port: u16) -> Result<MemLent, NoMemory>
+    fn make(&mut self, alloc: Global, host: &str, port: u16) -> Result<MemLent, NoMemory>
         ensures unused { IfOk result (λ l. l.calls.faults ≡ 0) }
         ensures none { IfOk result (λ l. IfSome (Some l.made) (λ es. es ≡ [])) }
+        ensures asked { AsksOne (Some self.old.asked) (Some self.new.asked) (record { host = host.now; port = port }) result }
+        ensures peer { IfOk result (λ l. IfSome {T = Peer} None (λ p. p ≡ record { host = host.now; port = port })) }
         ensures returned { Some self.new.returned ≡ Some self.old.returned }
 
-        // It is the next link, or one without answers where none is left, and then `NoMemory` may come.
+        // It is the next link, or one without answers where none is left.
         ensures made { IfOk result (Makes self.old self.new) }
-        ensures kept { OnErr result ((self.new ≡ self.old) × (self.old.waiting ≡ [])) }
+        ensures kept { OnErr result (self.new ≡ self.old) }
     {
-        match self.waiting.next() {
-            Some(link) => Ok(link.lent()),
-            None => Ok(mute(alloc)?.lent()),
-        }
+        let peer = MemPeer::of(alloc, host, port)?;
+        self.asked.reserve(1)?;
+        let link = match self.waiting.next() {
+            Some(link) => link,
+            None => mute(alloc)?,
+        };
+        self.asked.push_reserved(peer);
+        Ok(link.lent())
     }
 
     fn back(&mut self, link: MemLent)
+        ensures asked { Some self.new.asked ≡ Some self.old.asked }
         ensures returned { AddsOne (Some self.old.returned) (Some self.new.returned) (ending_of link) }
         ensures after { self.new ≡ record self.old { returned = self.old.returned ++ ending_of link ∷ [] } }
     {

@@ -1,5 +1,7 @@
 //! Links over TCP.
-ghost use Rattle.std.specs.Prelude.{None};
+ghost use Rattle.std.specs.Prelude.{◌≡◌, None, Some, IfOk};
+ghost use Rattle.std.specs.IoError.{error_kind};
+ghost use Rattle.tcp_links.specs.inner.Answers.{IsHandedOn};
 
 use crate::Links;
 use crate::exchange::{Peer, answered};
@@ -9,6 +11,7 @@ use edge_io::{Link, LinkFault};
 use kj_value::{NoMemory, Txt};
 use std::alloc::Global;
 use std::io;
+use std::io::ErrorKind;
 use std::net::Net;
 use std::time::Clock;
 
@@ -25,10 +28,23 @@ pub struct TcpLink<'a, R: Net> {
 }
 
 // A fault of the outside, or want of memory.
-fn fault_of(fault: &io::Error) -> LinkFault {
+fn fault_of(fault: &io::Error) -> LinkFault
+    ensures { result ≡ LinkFault.NoMemory → error_kind fault.now ≡ ErrorKind.OutOfMemory }
+{
     match fault.kind() {
-        io::ErrorKind::OutOfMemory => LinkFault::NoMemory,
+        ErrorKind::OutOfMemory => LinkFault::NoMemory,
         _ => LinkFault::Failed,
+    }
+}
+
+// An answer with its length, and of one that is longer than is read its front.
+fn handed_on(alloc: Global, answer: Vec<u8>) -> Result<Vec<u8>, NoMemory>
+    ensures { IfOk result (λ v. IsHandedOn answer.items v.items) }
+{
+    if answer.len() < MOST_ANSWER_BYTES {
+        with_length(alloc, answer)
+    } else {
+        front_with_length(alloc, answer)
     }
 }
 
@@ -41,8 +57,7 @@ fn exchanged<R: Net + Clock>(
     request: &[u8],
 ) -> Result<Vec<u8>, LinkFault> {
     match answered(net, alloc, &Peer { host, port }, request) {
-        Ok(answer) if answer.len() < MOST_ANSWER_BYTES => Ok(with_length(alloc, answer)?),
-        Ok(front) => Ok(front_with_length(alloc, front)?),
+        Ok(answer) => Ok(handed_on(alloc, answer)?),
         Err(fault) => Err(fault_of(&fault)),
     }
 }
@@ -82,7 +97,11 @@ impl<'a, R> TcpLinks<'a, R> {
 impl<'a, R: Net + Clock + Sync> Links for TcpLinks<'a, R> {
     type One = TcpLink<'a, R>;
 
-    ghost use Rattle.std.specs.Prelude.{None};
+    ghost use Rattle.std.specs.Prelude.{None, Some};
+
+    ghost asked = { λ s. None };
+
+    ghost peer = { λ l. Some (record { host = l.host.bytes; port = l.port }) };
 
     ghost returned = { λ s. None };
 

@@ -241,7 +241,7 @@ fn links_of<'a>(alloc: Global, case: &'a Case, outside: Outside) -> Option<CaseL
     } else {
         None
     };
-    Some(CaseLinks::new(MemLinks::new(ready), rules))
+    Some(CaseLinks::new(MemLinks::new(alloc, ready), rules))
 }
 
 /// What a run came to.

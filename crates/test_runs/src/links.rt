@@ -71,6 +71,10 @@ impl<'a> Links for CaseLinks<'a> {
 
     ghost use Rattle.std.specs.Prelude.{None};
 
+    ghost asked = { λ s. None };
+
+    ghost peer = { λ l. None };
+
     ghost returned = { λ s. None };
 
     fn make(&mut self, alloc: Global, host: &str, port: u16) -> Result<CaseLink<'a>, NoMemory> {

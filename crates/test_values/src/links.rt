@@ -54,7 +54,7 @@ fn opened(alloc: Global) -> Option<MemLinks> {
     if add_ready(alloc, &mut waiting, "one,two", 1)
         && add_ready(alloc, &mut waiting, "three", u64::MAX)
     {
-        Some(MemLinks::new(waiting))
+        Some(MemLinks::new(alloc, waiting))
     } else {
         None
     }

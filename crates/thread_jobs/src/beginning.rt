@@ -1,8 +1,8 @@
 //! The beginning of a job.
 ghost use Rattle.std.specs.Prelude.{◌≡◌, IfErr, IfOk};
 
-use crate::flags::{Flag, raise, two_flags};
-use crate::running::{JobDone, Runner, Running};
+use crate::flags::{Flag, Told, raise, two_flags};
+use crate::running::{Done, JobDone, Runner, Running};
 use std::alloc::Global;
 use std::marker::PhantomData;
 use std::snapshot::Snapshot;
@@ -28,29 +28,32 @@ pub fn begin<
 ) -> Result<Running<W, J, D>, D>
     requires ready { W.ready runner.now job }
     ensures begun { IfOk result (λ h. h.handle.promise.job.value ≡ job) }
+    ensures tied { IfOk result (λ h. h.handle.promise.over.value ≡ h.over) }
     ensures done { IfErr result (λ r. W.done job r) }
 {
     let Ok((over, theirs)) = two_flags(alloc) else {
-        raise(shut);
+        let _up = raise(rt, shut);
         return Err(runner.run(rt, job));
     };
     let promise = JobDone {
         job: Snapshot::of(&job),
+        over: Snapshot::of(&over),
         by: PhantomData,
     };
-    let work = move || -> D
+    let work = move || -> Done<D>
         requires { W.ready runner.now job }
-        ensures { W.done job result }
+        ensures done { W.done job result.result }
+        ensures over { result.over ≡ theirs }
     {
-        let done = runner.run(rt, job);
-        theirs.raise();
-        done
+        let result = runner.run(rt, job);
+        let over = Told::of(&theirs, theirs.put_up(rt));
+        Done { result, over }
     };
     match scope.spawn_with(promise, work) {
         Ok(handle) => Ok(Running { handle, over }),
         Err(refused) => {
-            raise(shut);
-            Err((refused.value)())
+            let _up = raise(rt, shut);
+            Err((refused.value)().result)
         }
     }
 }

@@ -1,7 +1,7 @@
 //! A job that a thread does.
 ghost use Rattle.std.specs.Prelude.{◌≡◌, IfSome};
 
-use crate::flags::{Flag, Raised};
+use crate::flags::{Flag, Raised, Told};
 use std::marker::PhantomData;
 use std::snapshot::Snapshot;
 use std::sync::Wait;
@@ -21,21 +21,29 @@ pub trait Runner<J, D> {
         ensures done { done job result };
 }
 
-/// The promise that a job is done.
+/// What a thread hands back: what came of its job, and that it raised the job's flag.
+#[derive(Drop)]
+pub struct Done<D> {
+    pub result: D,
+    pub over: Told,
+}
+
+/// The promise that a job is done, and its flag raised then.
 #[derive(Drop)]
 pub struct JobDone<W, J, D> {
     pub job: Snapshot<J>,
+    pub over: Snapshot<Flag>,
     pub by: PhantomData<(W, D)>,
 }
 
-impl<J, D, W: Runner<J, D>> Promise<D> for JobDone<W, J, D> {
-    ghost kept_by = { λ p r. W.done p.job.value r };
+impl<J, D, W: Runner<J, D>> Promise<Done<D>> for JobDone<W, J, D> {
+    ghost kept_by = { λ p r. W.done p.job.value r.result × (r.over ≡ p.over.value) };
 }
 
 /// A job that a thread does, and whether it is over.
 #[derive(Drop)]
 pub struct Running<W: Runner<J, D>, J, D> {
-    pub handle: PromisedHandle<D, JobDone<W, J, D>>,
+    pub handle: PromisedHandle<Done<D>, JobDone<W, J, D>>,
     pub over: Flag,
 }
 
@@ -53,6 +61,7 @@ impl<J, D, W: Runner<J, D>> Running<W, J, D> {
         ensures { W.done self.handle.promise.job.value result }
     {
         let Running { handle, over: _ } = self;
-        handle.join(rt)
+        let Done { result, over: _ } = handle.join(rt);
+        result
     }
 }

@@ -12,7 +12,7 @@ use Rattle.wire_client.specs.declared.end.WireEnd.TheVariants as wire
 use Rattle.far_migrate.specs.Answered.{Did, expired}
 use Rattle.far_migrate.specs.Pages.{most_objects}
 use Rattle.record_dump.specs.Dumps as dumps
-use Rattle.record_dump.specs.Dumps.{Dumps, FailsList}
+use Rattle.record_dump.specs.Dumps.{Dumps, FailsList, OnBrokenOff}
 use Rattle.record_dump.specs.declared.ends.DumpEnd.{DumpEnd}
 use Rattle.record_dump.specs.declared.ends.DumpEnd.TheVariants as ends
 use Rattle.record_dump.specs.declared.dumping.Turned.{Turned}
@@ -49,14 +49,10 @@ abbrev pub OnEnded : (DumpEnd → Type 0) → Turned → Type 0
 OnEnded P turned.More = ⊤
 OnEnded P (turned.Ended d) = P d
 
--- all was written, and handed on or not
-abbrev pub EndsPage : ℕ → DumpEnd → Type 0
-EndsPage k (ends.Done lines) = lines ≡ k
-EndsPage k ends.LinkFault = ⊥
-EndsPage k ends.WriteFault = ⊤
-EndsPage k (ends.Answer c) = ⊥
-EndsPage k ends.Expired = ⊥
-EndsPage k ends.NoMemory = ⊥
+-- P holds between two pages, and where the dump broke off
+abbrev pub OnTurned : Type 0 → Turned → Type 0
+OnTurned P turned.More = P
+OnTurned P (turned.Ended d) = OnBrokenOff P d
 
 -- the reply that an end of a list tells; want of memory tells none
 abbrev pub OnReply : (Reply → Type 0) → Type 0 → WireEnd → Type 0

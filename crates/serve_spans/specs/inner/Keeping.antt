@@ -9,7 +9,7 @@ use Rattle.turn_cell.specs.Views.{IsAlone, numbers_of}
 use Rattle.turn_cell.specs.declared.view.View.{View}
 use Rattle.serve_spans.specs.Spans.{Service, Span, AllServed, AreApart, AreLate}
 use Rattle.serve_spans.specs.Owners.{At, Within, IsOfWorker}
-use Rattle.serve_spans.specs.Served.{Among, origins_of, HandsOutAll, AddsAll, AreWorkers}
+use Rattle.serve_spans.specs.Served.{Among, origins_of, HandsOutAll, AddsAll, AreWorkers, AreAll}
 
 -- the number of each span is one of these, and each ends by k
 abbrev pub ArePast : List ℕ → ℕ → List Span → Type 0
@@ -91,6 +91,7 @@ pub record Going {B : Type 0} (Serves : Service) (n asked idle : ℕ) (v0 : View
   pub are_workers : AreWorkers (numbers_of v0) (numbers_of v) spans workers
   pub hired : (length workers + length crew) + idle ≡ asked
   pub few : length spared ≤ idle
+  pub all : AreAll (numbers_of v0) (numbers_of v) spans workers spared
   pub covering : IsCovering (IsOfWorker (Some n) idle workers spared) v0 v spans
   pub begun : AllBegun v0 (views_of jobs ++ crew)
   pub shared : IsShared v0 v (views_of jobs ++ crew)

@@ -1,7 +1,7 @@
-use Rattle.std.proofs.Common.{refl, ◌∙◌, arith}
+use Rattle.std.proofs.Common.{refl, ◌∙◌, inl, arith}
 use Rattle.record_dump.specs.Dumps.{at_first}
 use Rattle.record_dump.specs.inner.Seen.{walk_of}
-use Rattle.record_dump.proofs.Taking.{blames_later}
+use Rattle.record_dump.proofs.Taking.{blames_later, broken_maps, handed_more}
 use Rattle.record_dump.proofs.Leading.{goes_start, goes_more, goes_end}
 use Rattle.record_dump.proofs.dumping.dump.Goals as goal
 
@@ -11,6 +11,7 @@ loop-end-init g c = record {
   walking = c.new-walk.ensures.walking;
   base = refl;
   later = omega arith;
+  handed_on = inl refl;
   sink_later = omega arith;
 }
 
@@ -23,6 +24,10 @@ pub returns-in-Ended-clause-cause : goal.returns-in-Ended-clause-cause
 returns-in-Ended-clause-cause g c =
     blames_later _ _ _ _ c.in-Ended.end (λ rose. omega (arith, rose, c.loop-end.invariant.later)) (λ rose. omega (arith, rose, c.loop-end.invariant.sink_later)) c.in-Ended.ensures.cause
 
+pub returns-in-Ended-clause-handed_on : goal.returns-in-Ended-clause-handed_on
+returns-in-Ended-clause-handed_on g c =
+    broken_maps _ _ c.in-Ended.end (λ step. handed_more g.K.Sink.written g.K.Sink.flushed c.args.out.now c.loop-end.out c.turn.new.out c.loop-end.invariant.handed_on step) c.in-Ended.ensures.handed_on
+
 pub loop-end-preserved : goal.loop-end-preserved
 loop-end-preserved g c = record {
   made =
@@ -31,5 +36,6 @@ loop-end-preserved g c = record {
   walking = c.in-More.ensures.walking;
   base = c.turn.ensures.base ∙ c.loop-end.invariant.base;
   later = omega (arith, c.turn.ensures.later.0, c.loop-end.invariant.later);
+  handed_on = handed_more g.K.Sink.written g.K.Sink.flushed c.args.out.now c.loop-end.out c.turn.new.out c.loop-end.invariant.handed_on c.in-More.ensures.handed_on;
   sink_later = omega (arith, c.turn.ensures.later.1, c.loop-end.invariant.sink_later);
 }

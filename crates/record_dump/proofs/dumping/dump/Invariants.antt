@@ -1,4 +1,4 @@
-use Rattle.std.proofs.Common.{◌≡◌, ◌≤◌}
+use Rattle.std.proofs.Common.{◌≡◌, ◌≤◌, ◌⊎◌}
 use Rattle.place.specs.Place.{place_of}
 use Rattle.record_dump.specs.Dumps.{at_first}
 use Rattle.record_dump.specs.inner.Seen.{walk_of, IsWalking, left_in}
@@ -13,6 +13,7 @@ invariant-loop-end g l = record {
   walking : IsWalking l.walk;
   base : g.R.Far.base l.far ≡ g.R.Far.base l.fn.far;
   later : g.R.Link.faults l.fn.far ≤ g.R.Link.faults l.far;
+  handed_on : (l.out ≡ l.fn.out) ⊎ (g.K.Sink.flushed l.out ≡ g.K.Sink.written l.out);
   sink_later : g.K.Sink.faults l.fn.out ≤ g.K.Sink.faults l.out;
 }
 

@@ -1,6 +1,7 @@
+use Rattle.std.proofs.Common.{inl, refl}
 use Rattle.record_dump.specs.inner.Seen.{walk_of}
 use Rattle.record_dump.specs.declared.dumping.Unlisted.TheVariants as unlisted
-use Rattle.record_dump.proofs.Taking.{blames_more}
+use Rattle.record_dump.proofs.Taking.{blames_more, broken_any}
 use Rattle.record_dump.proofs.Listing.{page_turn, list_ended_at, ended_turn, halved_turn, short_turn, list_blames, list_not_done}
 use Rattle.record_dump.proofs.dumping.turn.Goals as goal
 
@@ -29,3 +30,12 @@ returns-in-Ended-clause-flushed g c = list_not_done _ c.in-Err.end c.in-Ended.en
 
 pub returns-in-Ended-clause-cause : goal.returns-in-Ended-clause-cause
 returns-in-Ended-clause-cause g c = list_blames _ _ c.in-Err.end c.in-Ended.end c.in-Err.ensures.cause c.in-Ended.ensures
+
+pub returns-then-halve-clause-handed_on : goal.returns-then-halve-clause-handed_on
+returns-then-halve-clause-handed_on g c = inl refl
+
+pub returns-else-halve-clause-handed_on : goal.returns-else-halve-clause-handed_on
+returns-else-halve-clause-handed_on g c = inl refl
+
+pub returns-in-Ended-clause-handed_on : goal.returns-in-Ended-clause-handed_on
+returns-in-Ended-clause-handed_on g c = broken_any _ c.in-Ended.end (inl refl)

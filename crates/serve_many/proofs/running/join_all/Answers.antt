@@ -5,9 +5,10 @@ use Rattle.serve_spans.specs.inner.Keeping.{Going, Job}
 use Rattle.serve_spans.specs.Spans.{Linked}
 use Rattle.serve_spans.proofs.Going.{going_last}
 use Rattle.serve_spans.proofs.Lists.{map_snoc}
-use Rattle.serve_many.specs.Answered.{IsAnswered, front_of}
+use Rattle.serve_many.specs.Answered.{IsAnswered, front_of, sides}
 use Rattle.serve_many.specs.Jobs.{Serves}
 use Rattle.serve_many.proofs.Answering.{answered_grows}
+use Rattle.serve_many.proofs.Rounds.{goes_on, goes_met}
 use Rattle.serve_many.proofs.Counting.{all_front, all_last}
 use Rattle.serve_many.proofs.running.join_all.Goals as goal
 
@@ -24,6 +25,8 @@ loop-link-preserved g c = record {
   of = c.join_one.ensures.of;
   links = all_front (λ h. IsOf g.V.Versions.meaning c.args.api.now h.handle.promise.job.value.pass × (g.C.Clock.told h.handle.promise.job.value.clock.now ≡ g.C.Clock.told c.args.clock.now)) c.pop.new.self.items (c.in-Some.link ∷ [])
       (subst (All (λ h. IsOf g.V.Versions.meaning c.args.api.now h.handle.promise.job.value.pass × (g.C.Clock.told h.handle.promise.job.value.clock.now ≡ g.C.Clock.told c.args.clock.now))) c.in-Some.ensures.items c.loop-link.invariant.links);
+  goes = goes_on c.args.pass.now.view c.loop-link.pass.view c.join_one.new.pass.view c.loop-link.invariant.goes (goes_met c.loop-link.pass.view c.join_one.ensures.joined.0.view c.join_one.new.pass.view c.join_one.ensures.joined.3);
+  hears = λ place h. c.join_one.ensures.hears place (c.loop-link.invariant.hears place h);
   faults = c.join_one.ensures.faults ∙ c.loop-link.invariant.faults;
   origins = c.join_one.ensures.origins ∙ c.loop-link.invariant.origins;
   going = λ n asked idle v0 h0 g0 crew count handed start.
@@ -43,9 +46,9 @@ loop-link-preserved g c = record {
       let told : g.C.Clock.told c.in-Some.link.handle.promise.job.value.clock.now ≡ g.C.Clock.told c.args.clock.now =
       (all_last (λ h. IsOf g.V.Versions.meaning c.args.api.now h.handle.promise.job.value.pass × (g.C.Clock.told h.handle.promise.job.value.clock.now ≡ g.C.Clock.told c.args.clock.now)) c.pop.new.self.items c.in-Some.link
       (subst (All (λ h. IsOf g.V.Versions.meaning c.args.api.now h.handle.promise.job.value.pass × (g.C.Clock.told h.handle.promise.job.value.clock.now ≡ g.C.Clock.told c.args.clock.now))) c.in-Some.ensures.items c.loop-link.invariant.links)).1 in
-      let all : Going (IsAnswered g.V.Tool.Tool.faults f) n asked idle v0 h0 g0 crew (rest ++ (p, o) ∷ []) v count handed given = subst (λ (js : List (Job (CoreBase g.row.V.Denot))). Going (IsAnswered g.V.Tool.Tool.faults f) n asked idle v0 h0 g0 crew js v count handed given) parts now in
-      going_last (IsAnswered g.V.Tool.Tool.faults f) (answered_grows g.V.Tool.Tool.faults f) n asked idle v0 h0 g0 crew rest p o v j.0.view u count handed given later j.1 all
-      (subst (λ (t : Option (List ℕ)). Serves g.V.Tool.Tool.faults g.V.Versions.meaning c.args.api.now.base t p o j.0.view j.1) told j.2) j.3 j.4;
+      let all : Going (IsAnswered g.V.Tool.Tool.faults (sides g.A.In.Source.left g.A.In.Source.most g.A.Out.Sink.written g.A.Out.Sink.flushed) f) n asked idle v0 h0 g0 crew (rest ++ (p, o) ∷ []) v count handed given = subst (λ (js : List (Job (CoreBase g.row.V.Denot))). Going (IsAnswered g.V.Tool.Tool.faults (sides g.A.In.Source.left g.A.In.Source.most g.A.Out.Sink.written g.A.Out.Sink.flushed) f) n asked idle v0 h0 g0 crew js v count handed given) parts now in
+      going_last (IsAnswered g.V.Tool.Tool.faults (sides g.A.In.Source.left g.A.In.Source.most g.A.Out.Sink.written g.A.Out.Sink.flushed) f) (answered_grows g.V.Tool.Tool.faults (sides g.A.In.Source.left g.A.In.Source.most g.A.Out.Sink.written g.A.Out.Sink.flushed) f) n asked idle v0 h0 g0 crew rest p o v j.0.view u count handed given later j.1 all
+      (subst (λ (t : Option (List ℕ)). Serves g.V.Tool.Tool.faults (sides g.A.In.Source.left g.A.In.Source.most g.A.Out.Sink.written g.A.Out.Sink.flushed) g.V.Versions.meaning c.args.api.now.base t p o j.0.view j.1) told j.2) j.3 j.4;
 }
 
 pub returns-clause-going : goal.returns-clause-going
@@ -53,5 +56,5 @@ returns-clause-going g c n asked idle v0 h0 g0 crew count handed start =
     let f = front_of g.V.Versions.meaning c.args.api.now.base (g.C.Clock.told c.args.clock.now) in
     let now = c.loop-link.invariant.going n asked idle v0 h0 g0 crew count handed start in
     let none : c.loop-link.running.items ≡ [] = search rules in
-    subst (λ (js : List (Job (CoreBase g.row.V.Denot))). Going (IsAnswered g.V.Tool.Tool.faults f) n asked idle v0 h0 g0 crew js c.loop-link.pass.view count handed (g.A.Ears.returned c.loop-link.ears))
+    subst (λ (js : List (Job (CoreBase g.row.V.Denot))). Going (IsAnswered g.V.Tool.Tool.faults (sides g.A.In.Source.left g.A.In.Source.most g.A.Out.Sink.written g.A.Out.Sink.flushed) f) n asked idle v0 h0 g0 crew js c.loop-link.pass.view count handed (g.A.Ears.returned c.loop-link.ears))
     (ap (λ xs. map (λ h. (h.handle.promise.job.value.pass.view, g.A.In.Source.origin h.handle.promise.job.value.input)) xs) none) now

@@ -1,0 +1,75 @@
+#!/usr/bin/env python3
+"""A conversion webhook that loses three things on purpose, for ./rehearse to find.
+
+    lossy.py PORT
+
+At v1alpha1 a backup has spec.target, spec.timeoutSeconds and no spec.owner; at v1 it has spec.targets, spec.timeoutMillis and spec.owner.
+What is lost of an object at v1: its owner, all targets but the first, and the part of its timeout below a second. spec.priority, which
+v1alpha1 doesn't have either, is kept in an annotation, as it should be. At port 0 the system chooses one; the first line tells which.
+"""
+import http.server
+import json
+import sys
+
+KEPT = "backups.example.com/priority"
+
+
+def to_v1alpha1(spec, notes):
+    spec.pop("owner", None)  # lost: nobody keeps it
+    targets = spec.pop("targets", [])
+    if targets:
+        spec["target"] = targets[0]  # lost: the others
+    if "timeoutMillis" in spec:
+        spec["timeoutSeconds"] = spec.pop("timeoutMillis") // 1000  # lost: the rest
+    if "priority" in spec:
+        notes[KEPT] = json.dumps(spec.pop("priority"))
+
+
+def to_v1(spec, notes):
+    if "target" in spec:
+        spec["targets"] = [spec.pop("target")]
+    if "timeoutSeconds" in spec:
+        spec["timeoutMillis"] = spec.pop("timeoutSeconds") * 1000
+    if KEPT in notes:
+        spec["priority"] = json.loads(notes.pop(KEPT))
+
+
+def converted(item, wanted):
+    """The object at the version that is wanted."""
+    if item["apiVersion"] != wanted:
+        notes = item["metadata"].setdefault("annotations", {})
+        {"example.com/v1": to_v1, "example.com/v1alpha1": to_v1alpha1}[wanted](item.setdefault("spec", {}), notes)
+        if not notes:
+            del item["metadata"]["annotations"]
+    return {**item, "apiVersion": wanted}
+
+
+class Webhook(http.server.BaseHTTPRequestHandler):
+    protocol_version = "HTTP/1.1"
+
+    def do_POST(self):
+        review = json.loads(self.rfile.read(int(self.headers["Content-Length"])))
+        asked = review.pop("request")
+        objects = [converted(item, asked["desiredAPIVersion"]) for item in asked["objects"]]
+        review["response"] = {"uid": asked["uid"], "convertedObjects": objects, "result": {"status": "Success"}}
+        text = json.dumps(review).encode()
+        self.send_response(200)
+        self.send_header("Content-Type", "application/json")
+        self.send_header("Content-Length", str(len(text)))
+        self.end_headers()
+        self.wfile.write(text)
+
+    def log_message(self, *_words):
+        pass
+
+
+if __name__ == "__main__":
+    if len(sys.argv) != 2:
+        sys.exit(__doc__)
+    with http.server.ThreadingHTTPServer(("127.0.0.1", int(sys.argv[1])), Webhook) as server:
+        server.daemon_threads = True
+        print(f"listening on http://127.0.0.1:{server.server_address[1]}", flush=True)
+        try:
+            server.serve_forever()
+        except KeyboardInterrupt:
+            pass

@@ -1,0 +1,274 @@
+"""A schema of a definition as kubeconv takes it: what is left out, set or opened, each told. It is no command: tools/prepare_crd.py is."""
+import collections
+import copy
+
+import rule_fields
+
+ALLOWED_TYPES = {"object", "array", "string", "integer", "boolean"}
+PASSED_OVER = {"description", "title", "example", "externalDocs"}
+OPEN, MIXED = "x-kubernetes-preserve-unknown-fields", "x-kubernetes-int-or-string"
+EMBEDDED = "x-kubernetes-embedded-resource"
+# Keywords by the type at whose nodes they may stand.
+OF_TYPE = {
+    "boolean": set(),
+    "integer": {"minimum", "maximum", "format"},
+    "string": {"minLength", "maxLength"},
+    "array": {"minItems", "maxItems", "items"},
+    "object": {"required", "properties", "additionalProperties", OPEN},
+    None: {MIXED, OPEN},
+}
+ANYWHERE = {"type", "nullable", "enum", "default"} | PASSED_OVER
+WHOLE = {"minimum", "maximum", "minLength", "maxLength", "minItems", "maxItems"}
+# Of these a webhook needs none but the bounds of what a rule scales.
+CHECKS_ALONE = WHOLE | {"format", "enum", "required"}
+BOUNDS = {"minimum", "maximum", "format"}
+INT_OR_STRING = [{"type": "integer"}, {"type": "string"}]
+OWN_NAMES = {"apiVersion": "string", "kind": "string", "metadata": "object"}
+# What tells a type that is missing.
+TELLING = (("properties", "object"), ("additionalProperties", "object"), ("items", "array"))
+# What is lost with a thing that is left out. What stands in none of these had no effect on objects.
+CHECKED = {
+    "pattern", "multipleOf", "exclusiveMinimum", "exclusiveMaximum", "uniqueItems", "minProperties", "maxProperties", "oneOf", "anyOf",
+    "allOf", "not", "x-kubernetes-validations", "x-kubernetes-list-type", "x-kubernetes-list-map-keys", EMBEDDED,
+} | CHECKS_ALONE  # fmt: skip
+FILLED = {"default"}
+SERVED = {"subresources", "selectableFields", "deprecated", "deprecationWarning"}
+LOST = ("isn't checked any more", "isn't filled in any more", "isn't served", "goes without effect")
+# What is taken over, and no object is ever touched by.
+SHOWN = PASSED_OVER | {"conversion", "additionalPrinterColumns", "shortNames", "categories", "singular"}
+KINDS = {dict: "an object", list: "a list", str: "a text", int: "a whole number", bool: "a truth value"}
+
+
+class Prepared:
+    """What was left out and put in so far, and what the definition can't be prepared for."""
+
+    def __init__(self, for_webhook=False, rules=None):
+        self.for_webhook = for_webhook
+        self.left_out = []
+        self.put_in = []
+        self.impossible = []
+        self.counts = {what: collections.Counter() for what in LOST}
+        self.shown = collections.Counter()
+        self.version = ""
+        named = list(rule_fields.of_rules(rules or {}))
+        self.scaled = {(version, path) for word, version, _, path in named if word == "scale"}
+        self.named = {(version, path) for _, version, _, path in named}
+
+    def leave(self, path, why=None):
+        """Leaves out what stands at a path."""
+        self.left_out.append(path if why is None else f"{path} ({why})")
+        word = path.rsplit(".", 1)[-1]
+        if path.startswith("metadata."):
+            word = "fields of metadata"
+        place = 0 if word in CHECKED and why not in ("false", "atomic") else 1 if word in FILLED else 2 if word in SERVED else 3
+        self.counts[LOST[place]][word] += 1
+
+    def put(self, what, path, why):
+        """Tells what stands at a path that wasn't said there: `set`, `opened` or `added`."""
+        self.put_in.append(f"{what}: {path} ({why})")
+
+    def cannot(self, why):
+        self.impossible.append(why)
+
+    def expect(self, value, kind, path):
+        """The value where it is of that kind. Else this is told, and an empty one stands for it."""
+        if isinstance(value, kind) and not (kind is int and isinstance(value, bool)):
+            return value
+        self.cannot(f"{path or 'the document'} isn't {KINDS[kind]}")
+        return kind()
+
+    def fields(self, value, allowed, path):
+        """The fields of an object that may stand there."""
+        kept = {}
+        for name, field in self.expect(value, dict, path).items():
+            if name in allowed:
+                kept[name] = field
+                self.shown[name] += name in SHOWN
+            else:
+                self.leave(join(path, name))
+        return kept
+
+    def summary(self):
+        for what, counts in [*self.counts.items(), ("is shown with the definition, and has no effect", self.shown)]:
+            counted = ", ".join(f"{count} {word}" for word, count in sorted((+counts).items()))
+            if counted:
+                yield f"{what}: {counted}"
+
+
+def join(path, name):
+    return f"{path}.{name}" if path else name
+
+
+def is_whole(number):
+    return isinstance(number, int) and not isinstance(number, bool) and -(2**63) <= number < 2**63
+
+
+def is_readable(value):
+    """Whether each number inside is a whole number of 64 bits, which are the only numbers that kubeconv reads."""
+    if isinstance(value, dict):
+        return all(isinstance(name, str) and is_readable(field) for name, field in value.items())
+    if isinstance(value, list):
+        return all(is_readable(item) for item in value)
+    return value is None or isinstance(value, (str, bool)) or is_whole(value)
+
+
+def whole(value):
+    """The whole number that a bound is, written as one; None where it isn't one."""
+    if is_whole(value):
+        return value
+    if isinstance(value, float) and value.is_integer() and is_whole(int(value)):
+        return int(value)
+    return None
+
+
+def keyword(prepared, name, value, path):
+    """The value of a keyword that holds no schema, or None where it is left out."""
+    if name in WHOLE:
+        bound = whole(value)
+        if bound is None:
+            prepared.leave(path, "not a whole number")
+        return bound
+    if name == "format" and value not in ("int32", "int64"):
+        prepared.leave(path, f"{value}")
+        return None
+    if name in (OPEN, MIXED) and value is not True:
+        prepared.leave(path, "false")
+        return None
+    if not is_readable(value):
+        prepared.leave(path, "holds a number that isn't whole")
+        return None
+    prepared.shown[name] += name in SHOWN
+    return value
+
+
+def unsaid(value, kind):
+    """What a node says that no keyword of kubeconv can: the keyword, and why."""
+    if kind is not None and kind not in ALLOWED_TYPES:
+        yield "type", f"is {kind!r}, whose values kubeconv doesn't keep"
+    if value.get(EMBEDDED) is True and value.get(OPEN) is not True:
+        yield EMBEDDED, "keeps fields that no other keyword names"
+    if kind == "array" and value.get(OPEN) is True:
+        yield OPEN, "keeps fields of the list's items"
+    if kind == "array" and "items" not in value:
+        yield "items", "isn't there"
+    if value.get("additionalProperties") is True:
+        yield "additionalProperties", "is true, and keeps fields that no other keyword names"
+
+
+def try_node(prepared, value, kind, path):
+    """Tells what a node can't be prepared for."""
+    if value.get(MIXED) is True and kind is not None:
+        prepared.cannot(f"{join(path, MIXED)} stands beside a type")
+    if kind is None and value.get(MIXED) is not True and value.get(OPEN) is not True:
+        prepared.cannot(f"{join(path, 'type')} isn't there")
+    for name, why in unsaid(value, kind):
+        prepared.cannot(f"{join(path, name)} {why}")
+    if value.get("additionalProperties") is not True and "properties" in value and value.get("additionalProperties", False) is not False:
+        prepared.cannot(f"{join(path, 'additionalProperties')} stands beside properties")
+
+
+def typed(prepared, value, path):
+    """A node with its type, where that is missing and another keyword tells it; and for a webhook what keeps all that it may hold."""
+    kinds = {kind for name, kind in TELLING if name in value}
+    if "type" not in value and value.get(MIXED) is not True and len(kinds) == 1:
+        value = {**value, "type": kinds.pop()}
+        prepared.put("set", join(path, "type"), value["type"])
+    why = next((f"{name} {why}" for name, why in unsaid(value, value.get("type"))), None) if prepared.for_webhook else None
+    if why is None:
+        return value
+    prepared.put("opened", path, why)
+    return opened(value)
+
+
+def opened(value):
+    """A node that takes any fields, any items, or any value in place of what it took. What it has beside its form stays."""
+    rest = {name: field for name, field in value.items() if name in {"nullable", "default"} | PASSED_OVER}
+    kind = value.get("type")
+    if kind == "array":
+        return {**rest, "type": "array", "items": {OPEN: True}}
+    return {**rest, **({"type": "object"} if kind == "object" else {}), OPEN: True}
+
+
+def why_left(name, field):
+    return "atomic" if name == "x-kubernetes-list-type" and field == "atomic" else "false" if field is False else None
+
+
+def is_needed(prepared, name, place):
+    """Whether a keyword that the schema may have stays: for a webhook what only checks goes, but for bounds that a rule scales by."""
+    return not prepared.for_webhook or name not in CHECKS_ALONE or (name in BOUNDS and (prepared.version, place) in prepared.scaled)
+
+
+def node(prepared, value, path, place=()):
+    """A node of a schema, at a place: the names of the fields that lead to it."""
+    value = typed(prepared, prepared.expect(value, dict, path), path)
+    kind = value.get("type")
+    try_node(prepared, value, kind, path)
+    allowed = ANYWHERE | OF_TYPE.get(kind if isinstance(kind, str) else None, set())
+    if not place:
+        allowed = allowed - {"default"}
+    kept = {}
+    for name, field in value.items():
+        here = join(path, name)
+        if name == "anyOf" and value.get(MIXED) is True and field == INT_OR_STRING:
+            kept[name] = field
+        elif name not in allowed or not is_needed(prepared, name, place):
+            prepared.leave(here, why_left(name, field))
+        elif name == "properties":
+            kept[name] = properties(prepared, field, here, place)
+        elif name == "items" or (name == "additionalProperties" and not isinstance(field, bool)):
+            kept[name] = node(prepared, field, here, (*place, "[*]" if name == "items" else "*"))
+        elif name == "additionalProperties":
+            prepared.leave(here, "false")
+        else:
+            said = keyword(prepared, name, field, here)
+            if said is not None or field is None:
+                kept[name] = said
+    return filled_default(prepared, kept, path)
+
+
+def filled_default(prepared, kept, path):
+    """A node whose default has the defaults inside of it, as an API server fills it."""
+    if "default" in kept:
+        value = copy.deepcopy(kept["default"])
+        if fill(kept, value):
+            kept["default"] = value
+            prepared.put("set", join(path, "default"), "with the defaults inside")
+    return kept
+
+
+def fill(schema, value):
+    """Puts the defaults of a schema into a value, and tells whether there were any."""
+    is_new = False
+    if isinstance(value, dict):
+        for name, inner in schema.get("properties", {}).items():
+            if name not in value and "default" in inner:
+                value[name], is_new = copy.deepcopy(inner["default"]), True
+        known, other = schema.get("properties", {}), schema.get("additionalProperties", {})
+        return any([is_new, *(fill(known.get(name, other), field) for name, field in value.items())])
+    return isinstance(value, list) and any([fill(schema.get("items", {}), item) for item in value])
+
+
+def properties(prepared, value, path, place):
+    kept = {}
+    for name, field in prepared.expect(value, dict, path).items():
+        here = join(path, name)
+        if not place and name in OWN_NAMES:
+            kept[name] = own_name(prepared, OWN_NAMES[name], field, here)
+        else:
+            kept[name] = node(prepared, field, here, (*place, name))
+    return kept
+
+
+def own_name(prepared, kind, value, path):
+    """One of the root's three names, which every object has: its type alone, beside what is passed over."""
+    value = prepared.expect(value, dict, path)
+    if "type" not in value:
+        value = {**value, "type": kind}
+        prepared.put("set", join(path, "type"), kind)
+    if value["type"] != kind:
+        prepared.cannot(f"{join(path, 'type')} isn't {kind!r}")
+    kept = prepared.fields(value, {"type"} | PASSED_OVER, path)
+    for name in [name for name, field in kept.items() if not is_readable(field)]:
+        prepared.leave(join(path, name), "holds a number that isn't whole")
+        del kept[name]
+    return kept
