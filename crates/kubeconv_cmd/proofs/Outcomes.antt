@@ -12,7 +12,7 @@ use Rattle.output_lines.specs.Listening.{NamesPlace}
 use Rattle.place.specs.Place.{IsPlace, OnBadPlace, PlaceView}
 use Rattle.place.specs.declared.PlaceFault.{PlaceFault}
 use Rattle.place.specs.declared.PlaceFault.TheVariants as places
-use Rattle.record_dump.specs.Dumps.{OnDone, OnFaults as OnDumpFaults}
+use Rattle.record_dump.specs.Dumps.{OnBrokenOff, OnDone, OnFaults as OnDumpFaults}
 use Rattle.record_dump.specs.Restores.{OnEnd, OnFaults as OnRestoreFaults}
 use Rattle.record_dump.specs.declared.ends.DumpEnd.{DumpEnd}
 use Rattle.record_dump.specs.declared.ends.DumpEnd.TheVariants as dumps
@@ -26,6 +26,7 @@ use Rattle.far_lines.specs.Dumped.{DumpedAt}
 use Rattle.far_lines.specs.Loaded.{LoadedAt, WroteOf, IfUndone, IfUnwritten, restored_to}
 use Rattle.far_lines.specs.declared.end.LoadEnd.{LoadEnd}
 use Rattle.far_lines.specs.declared.end.LoadEnd.TheVariants as loads
+use Rattle.serve_many.specs.Answered.{Sides}
 use Rattle.serve_input.specs.Conversed.{MayRise, Start}
 use Rattle.serve_input.specs.declared.conversing.PipeEnd.{PipeEnd}
 use Rattle.serve_input.specs.declared.conversing.PipeEnd.TheVariants.{Closed, Torn, Refused, Spent, ReadFault, WriteFault}
@@ -56,7 +57,7 @@ told_line (of_answer code) s is file bad answer = absurd (answer is)
 
 -- ---- no definition
 
-pub stopped_so : {F S K E A L : Type 0} (w : World F S K E A L) (source : Source) (stop : Stop) (s : ℕ) → Stops (FilesFail w) (held w) source (FilesStay w × LinksStay w) stop
+pub stopped_so : {F S K E A L I O : Type 0} (w : World F S K E A L I O) (source : Source) (stop : Stop) (s : ℕ) → Stops (FilesFail w) (held w) source (FilesStay w × LinksStay w) stop
     → s ≡ status_told (stop_told stop) → Says w (line_told (stop_told stop)) → Stopped w source s
 stopped_so w source stops.ReadFailed s h is says = unreadable is h
 stopped_so w source (stops.Refused file why) s h is says = refused file.now (why_text why) is h says
@@ -65,7 +66,7 @@ stopped_so w source stops.NoMemory s h is says = wanting is
 
 -- ---- `pipe`
 
-pub pipe_outcome : {F S K E A L : Type 0} (w : World F S K E A L) (source : Source) (turns : ℕ) (came : Result PipeEnd Stop) (s : ℕ)
+pub pipe_outcome : {F S K E A L I O : Type 0} (w : World F S K E A L I O) (source : Source) (turns : ℕ) (came : Result PipeEnd Stop) (s : ℕ)
     → IfOk came (λ end. (l : Loaded) × Means (held w) source l × Conversation (meaning_in l) (MayRise (faults_in l)) w.start turns (streams w) (InputFails w) (OutputFails w) end)
     → IfErr came (Stops (FilesFail w) (held w) source (FilesStay w × LinksStay w)) → OnErr came (InputStays w × OutputStays w)
     → s ≡ status_told (pipe_told came) → Says w (line_told (pipe_told came)) → PipeOutcome w source turns s
@@ -74,7 +75,7 @@ pipe_outcome w source turns (Err stop) s talk stops stays is says = unserved (st
 
 -- ---- `convert` and `review`
 
-task_end : {F S K E A L : Type 0} (w : World F S K E A L) (d : Definition) (t : Task) (came : Result Unit Halt) (s : ℕ)
+task_end : {F S K E A L I O : Type 0} (w : World F S K E A L I O) (d : Definition) (t : Task) (came : Result Unit Halt) (s : ℕ)
     → OfInput w (λ b. OnOk came (Wrote (AnswersDocument d t b) (written_before w) (written w)))
     → OfInput w (λ b. IfErr came (OnHalt (record { reads = InputFails w; writes = Broke (AnswersDocument d t b) (written_before w) (written w); input = RefusesDocument d b t })))
     → IfErr came (OnHalt (record { reads = InputFails w; writes = OutputFails w; input = λ _. Unit {0} })) → IfErr came (Unwritten (OutputStays w))
@@ -85,7 +86,7 @@ task_end w d t (Err halts.WriteFailed) s wrote failed cause silent end handed is
 task_end w d t (Err (halts.Input why)) s wrote failed cause silent end handed is says = refused_input why.bytes is failed says silent
 task_end w d t (Err halts.NoMemory) s wrote failed cause silent end handed is says = wanting_task is silent
 
-targetless_so : {F S K E A L : Type 0} (w : World F S K E A L) (source : Source) (d : Definition) (t : Task) (halt : Halt) (s : ℕ) → Means (held w) source (with_rules d) → InputStays w
+targetless_so : {F S K E A L I O : Type 0} (w : World F S K E A L I O) (source : Source) (d : Definition) (t : Task) (halt : Halt) (s : ℕ) → Means (held w) source (with_rules d) → InputStays w
     → OnHalt (record { reads = ⊥; writes = ⊥; input = LacksTarget d t }) halt → Unwritten (OutputStays w) halt → s ≡ status_told (task_told (Err halt)) → Says w (line_told (task_told (Err halt)))
     → TaskOutcome w source t s
 targetless_so w source d t halts.ReadFailed s means stays lacks silent is says = absurd lacks
@@ -93,7 +94,7 @@ targetless_so w source d t halts.WriteFailed s means stays lacks silent is says 
 targetless_so w source d t (halts.Input why) s means stays lacks silent is says = targetless d why.bytes means lacks is says stays silent
 targetless_so w source d t halts.NoMemory s means stays lacks silent is says = unloaded_task (wanting is) stays silent
 
-pub task_outcome : {F S K E A L : Type 0} (w : World F S K E A L) (source : Source) (d : Definition) (t : Task) (came : Result Unit Halt) (s : ℕ) → Means (held w) source (with_rules d)
+pub task_outcome : {F S K E A L I O : Type 0} (w : World F S K E A L I O) (source : Source) (d : Definition) (t : Task) (came : Result Unit Halt) (s : ℕ) → Means (held w) source (with_rules d)
     → Asked (KnowsTarget d t) (InputStays w) (LacksTarget d t) came
     → OfInput w (λ b. OnOk came (Wrote (AnswersDocument d t b) (written_before w) (written w)))
     → ((b : List ℕ) → input w ≡ Some b → KnowsTarget d t → IfErr came (OnHalt (record { reads = InputFails w; writes = Broke (AnswersDocument d t b) (written_before w) (written w); input = RefusesDocument d b t })))
@@ -106,7 +107,7 @@ task_outcome w source d t (Err halt) s means (inr lacks) wrote failed cause sile
 
 -- ---- `drill`
 
-pub drill_outcome : {F S K E A L : Type 0} (w : World F S K E A L) (start count : ℕ) (came : Result Unit Halt) (s : ℕ)
+pub drill_outcome : {F S K E A L I O : Type 0} (w : World F S K E A L I O) (start count : ℕ) (came : Result Unit Halt) (s : ℕ)
     → OnOk came (Wrote (DrillsExample start count) (written_before w) (written w))
     → IfErr came (OnHalt (record { reads = ⊥; writes = Broke (DrillsExample start count) (written_before w) (written w); input = λ _. ⊥ }))
     → IfErr came (OnHalt (record { reads = ⊥; writes = OutputFails w; input = λ _. ⊥ })) → IfErr came (Unwritten (OutputStays w)) → OnOk came (flushed w ≡ written w)
@@ -119,28 +120,28 @@ drill_outcome w start count (Err halts.NoMemory) s wrote failed cause silent han
 
 -- ---- `serve`
 
-pub serve_outcome : {F S K E A L : Type 0} (w : World F S K E A L) (source : Source) (l : Listening) (came : Result Unit Unmet) (s : ℕ)
-    → Serves (held w) source w.start l (hearing w) (FilesFail w) (FilesStay w × LinksStay w) (OutputStays w × EarsStay w) came
+pub serve_outcome : {F S K E A L I O : Type 0} (w : World F S K E A L I O) (source : Source) (l : Listening) (came : Result Unit Unmet) (s : ℕ)
+    → Serves w.tells.sides (held w) source w.start l (hearing w) (FilesFail w) (FilesStay w × LinksStay w) (OutputStays w × EarsStay w) came
     → s ≡ status_told (serve_told came) → Says w (line_told (serve_told came)) → ServeOutcome w source l s
-serve_outcome w source l (Ok u) s h is says = served h.0 h.1 (subst (λ (x : ℕ). Service (faults_in h.0) (meaning_in h.0) w.start l (hearing w) x) (sym is) h.2)
-serve_outcome w source l (Err (unmet.Unserved why)) s h is says = served h.0 h.1 (subst (λ (x : ℕ). Service (faults_in h.0) (meaning_in h.0) w.start l (hearing w) x) (sym is) h.2)
+serve_outcome w source l (Ok u) s h is says = served h.0 h.1 (subst (λ (x : ℕ). Service (faults_in h.0) w.tells.sides (meaning_in h.0) w.start l (hearing w) x) (sym is) h.2)
+serve_outcome w source l (Err (unmet.Unserved why)) s h is says = served h.0 h.1 (subst (λ (x : ℕ). Service (faults_in h.0) w.tells.sides (meaning_in h.0) w.start l (hearing w) x) (sym is) h.2)
 serve_outcome w source l (Err (unmet.Stopped stop)) s h is says = unloaded_service (stopped_so w source stop s h.0 is says) h.1.0 h.1.1
 
 -- ---- servers from outside
 
-pub migrate_outcome : {F S K E A L : Type 0} (w : World F S K E A L) (url : List ℕ) (came : MigrateEnd) (s : ℕ) → CameOf url (linked_before w) (linked w) (written_before w) (written w) (flushed w) came
+pub migrate_outcome : {F S K E A L I O : Type 0} (w : World F S K E A L I O) (url : List ℕ) (came : MigrateEnd) (s : ℕ) → CameOf url (linked_before w) (linked w) (written_before w) (written w) (flushed w) came
     → OnUnwritten (OutputFails w) came → IfSilent (OutputStays w) came → s ≡ status_told (migration_told came) → Says w (line_told (migration_told came)) → MigrateOutcome w url s
 migrate_outcome w url came s at cause silent is says = record { end = came; is_told = record { status_is = is; says = says }; came = at; cause = cause; silent = silent }
 
-pub dump_outcome : {F S K E A L : Type 0} (w : World F S K E A L) (url : List ℕ) (came : Result DumpEnd PlaceFault) (s : ℕ)
-    → IfOk came (DumpedAt url (linked_before w) (linked w) (written_before w) (written w)) → IfOk came (OnDone (flushed w ≡ written w)) → IfOk came (OnDumpFaults ⊤ (OutputFails w))
+pub dump_outcome : {F S K E A L I O : Type 0} (w : World F S K E A L I O) (url : List ℕ) (came : Result DumpEnd PlaceFault) (s : ℕ)
+    → IfOk came (DumpedAt url (linked_before w) (linked w) (written_before w) (written w)) → IfOk came (OnDone (flushed w ≡ written w)) → IfOk came (OnBrokenOff (OutputStays w ⊎ (flushed w ≡ written w))) → IfOk came (OnDumpFaults ⊤ (OutputFails w))
     → IfErr came (OnBadPlace ((p : PlaceView) → IsPlace url p → ⊥)) → OnErr came ((linked w ≡ linked_before w) × OutputStays w) → InputStays w
     → s ≡ status_told (dumped_told came) → Says w (line_told (dumped_told came)) → DumpOutcome w url s
-dump_outcome w url (Ok d) s at handed cause none stays unread is says = dumped d (record { status_is = is; says = says }) at cause handed
-dump_outcome w url (Err fault) s at handed cause none stays unread is says =
+dump_outcome w url (Ok d) s at handed broken cause none stays unread is says = dumped d (record { status_is = is; says = says }) at cause handed broken
+dump_outcome w url (Err fault) s at handed broken cause none stays unread is says =
     undumped (record { fault = fault; is_told = record { status_is = is; says = says }; none = none; unlinked = stays.0; untouched = unread; silent = stays.1 })
 
-pub load_outcome : {F S K E A L : Type 0} (w : World F S K E A L) (url : List ℕ) (came : Result LoadEnd PlaceFault) (s : ℕ)
+pub load_outcome : {F S K E A L I O : Type 0} (w : World F S K E A L I O) (url : List ℕ) (came : Result LoadEnd PlaceFault) (s : ℕ)
     → IfOk came (λ e. LoadedAt url (linked_before w) (linked w) (input w) (left w) (restored_to e)) → IfOk came (WroteOf (written_before w) (written w) (flushed w))
     → IfOk came (λ e. IfUndone (OutputStays w) (restored_to e)) → IfOk came (λ e. OnEnd (IsAtEnd (left w)) (restored_to e))
     → IfOk came (λ e. OnRestoreFaults ⊤ (InputFails w) (restored_to e)) → IfOk came (IfUnwritten (OutputFails w))
@@ -152,7 +153,7 @@ load_outcome w url (Err fault) s at wrote silent end cause unwritten none stays 
 
 -- ---- where words are told to be bad
 
-only_stopped : {F S K E A L : Type 0} (w : World F S K E A L) (source : Source) (s : ℕ) → Stopped w source s → s ≡ BAD_WORDS → IsAddressless source × FilesStay w × LinksStay w
+only_stopped : {F S K E A L I O : Type 0} (w : World F S K E A L I O) (source : Source) (s : ℕ) → Stopped w source s → s ≡ BAD_WORDS → IsAddressless source × FilesStay w × LinksStay w
 only_stopped w source s (unreadable is fails) e = absurd (omega (arith, is, e))
 only_stopped w source s (refused name why is bad says) e = absurd (omega (arith, is, e))
 only_stopped w source s (wanting is) e = absurd (omega (arith, is, e))
@@ -166,24 +167,24 @@ never_conversed Spent s is e = omega (arith, is, e)
 never_conversed ReadFault s is e = omega (arith, is, e)
 never_conversed WriteFault s is e = omega (arith, is, e)
 
-never_done : {F S K E A L : Type 0} (w : World F S K E A L) (d : Definition) (t : Task) (s : ℕ) → TaskEnd w d t s → s ≡ BAD_WORDS → ⊥
+never_done : {F S K E A L I O : Type 0} (w : World F S K E A L I O) (d : Definition) (t : Task) (s : ℕ) → TaskEnd w d t s → s ≡ BAD_WORDS → ⊥
 never_done w d t s (wrote_line is wrote end handed) e = omega (arith, is, e)
 never_done w d t s (broke_line is fails broke) e = omega (arith, is, e)
 never_done w d t s (refused_input why is bad says silent) e = omega (arith, is, e)
 never_done w d t s (unread_input is fails silent) e = omega (arith, is, e)
 never_done w d t s (wanting_task is silent) e = omega (arith, is, e)
 
-never_tasked : {F S K E A L : Type 0} (w : World F S K E A L) (crd rules : List ℕ) (t : Task) (s : ℕ) → TaskOutcome w (by_rules crd rules) t s → s ≡ BAD_WORDS → ⊥
+never_tasked : {F S K E A L I O : Type 0} (w : World F S K E A L I O) (crd rules : List ℕ) (t : Task) (s : ℕ) → TaskOutcome w (by_rules crd rules) t s → s ≡ BAD_WORDS → ⊥
 never_tasked w crd rules t s (did_task d means known ends) e = never_done w d t s ends e
 never_tasked w crd rules t s (targetless d why means lacks is says unread output) e = omega (arith, is, e)
 never_tasked w crd rules t s (unloaded_task stopped unread output) e = (only_stopped w (by_rules crd rules) s stopped e).0
 
-never_drilled : {F S K E A L : Type 0} (w : World F S K E A L) (start count s : ℕ) → DrillOutcome w start count s → s ≡ BAD_WORDS → ⊥
+never_drilled : {F S K E A L I O : Type 0} (w : World F S K E A L I O) (start count s : ℕ) → DrillOutcome w start count s → s ≡ BAD_WORDS → ⊥
 never_drilled w start count s (wrote_drill is wrote handed) e = omega (arith, is, e)
 never_drilled w start count s (broke_drill is fails broke) e = omega (arith, is, e)
 never_drilled w start count s (wanting_drill is silent) e = omega (arith, is, e)
 
-never_served : {F S K E A L : Type 0} (w : World F S K E A L) (m : Loaded) (l : Listening) (s : ℕ) → Service (faults_in m) (meaning_in m) w.start l (hearing w) s → s ≡ BAD_WORDS → ⊥
+never_served : {F S K E A L I O : Type 0} (w : World F S K E A L I O) (m : Loaded) (l : Listening) (s : ℕ) → Service (faults_in m) w.tells.sides (meaning_in m) w.start l (hearing w) s → s ≡ BAD_WORDS → ⊥
 never_served w m l s (answered count is all answers) e = omega (arith, is, e)
 never_served w m l s (answered_fewer count is fails few answers) e = omega (arith, is, e)
 never_served w m l s (unheard is fails told nobody) e = omega (arith, is, e)
@@ -207,14 +208,14 @@ good_fault (faults.Answer code) e = cc
 good_fault faults.Restarted e = cc
 good_fault faults.NoMemory e = cc
 
-none_at : {F S K E A L : Type 0} (w : World F S K E A L) (url : List ℕ) → CameOf url (linked_before w) (linked w) (written_before w) (written w) (flushed w) migrated.BadPlace → (p : PlaceView) → IsPlace url p → ⊥
+none_at : {F S K E A L I O : Type 0} (w : World F S K E A L I O) (url : List ℕ) → CameOf url (linked_before w) (linked w) (written_before w) (written w) (flushed w) migrated.BadPlace → (p : PlaceView) → IsPlace url p → ⊥
 none_at w url (at_place q is (put_back t m told)) = absurd told
 none_at w url (at_place q is (broke_so fault same m)) = absurd (good_fault fault same)
 none_at w url (at_place q is (unmade same stays)) = absurd cc
 none_at w url (no_place same none stays) = none
 none_at w url (unread_place same stays) = absurd cc
 
-only_unmigrated : {F S K E A L : Type 0} (w : World F S K E A L) (url : List ℕ) (s : ℕ) → MigrateOutcome w url s → s ≡ BAD_WORDS → ((p : PlaceView) → IsPlace url p → ⊥) × OutputStays w
+only_unmigrated : {F S K E A L I O : Type 0} (w : World F S K E A L I O) (url : List ℕ) (s : ℕ) → MigrateOutcome w url s → s ≡ BAD_WORDS → ((p : PlaceView) → IsPlace url p → ⊥) × OutputStays w
 only_unmigrated w url s out e =
     let is = bad_migration out.end s out.is_told.status_is e in (
       none_at w url (subst (λ (x : MigrateEnd). CameOf url (linked_before w) (linked w) (written_before w) (written w) (flushed w) x) is out.came),
@@ -225,7 +226,7 @@ bad_place : (fault : PlaceFault) (s : ℕ) → s ≡ status_told (place_told fau
 bad_place places.BadPlace s is e = refl
 bad_place places.NoMemory s is e = absurd (omega (arith, is, e))
 
-only_unplaced : {F S K E A L : Type 0} (w : World F S K E A L) (url : List ℕ) (s : ℕ) → Unplaced w url s → s ≡ BAD_WORDS → ((p : PlaceView) → IsPlace url p → ⊥) × InputStays w × OutputStays w
+only_unplaced : {F S K E A L I O : Type 0} (w : World F S K E A L I O) (url : List ℕ) (s : ℕ) → Unplaced w url s → s ≡ BAD_WORDS → ((p : PlaceView) → IsPlace url p → ⊥) × InputStays w × OutputStays w
 only_unplaced w url s u e =
     (subst (λ (x : PlaceFault). OnBadPlace ((p : PlaceView) → IsPlace url p → ⊥) x) (bad_place u.fault s u.is_told.status_is e) u.none, u.untouched, u.silent)
 
@@ -275,13 +276,13 @@ never_met (Err (unmet.Stopped (stops.Refused name why))) s is e = absurd (omega 
 never_met (Err (unmet.Stopped stops.BadAddress)) s is e = refl
 never_met (Err (unmet.Stopped stops.NoMemory)) s is e = absurd (omega (arith, is, e))
 
-pub bad_serve : (came : Result Unit Unmet) (file : List ℕ → Option (List ℕ)) (source : Source) (start : Start) (l : Listening) (h : Hearing) (fails files links silent : Type 0) (s : ℕ)
-    → Serves file source start l h fails (files × links) silent came → s ≡ status_told (serve_told came) → s ≡ BAD_WORDS → links
-bad_serve came file source start l h fails files links silent s serves is e =
-    (subst (λ (c : Result Unit Unmet). Serves file source start l h fails (files × links) silent c) (never_met came s is e) serves).0.1.1
+pub bad_serve : {I O : Type 0} (k : Sides I O) (came : Result Unit Unmet) (file : List ℕ → Option (List ℕ)) (source : Source) (start : Start) (l : Listening) (h : Hearing) (fails files links silent : Type 0) (s : ℕ)
+    → Serves k file source start l h fails (files × links) silent came → s ≡ status_told (serve_told came) → s ≡ BAD_WORDS → links
+bad_serve k came file source start l h fails files links silent s serves is e =
+    (subst (λ (c : Result Unit Unmet). Serves k file source start l h fails (files × links) silent c) (never_met came s is e) serves).0.1.1
 
 -- a line whose words are told to be bad has a place or a converter's address that is none, and touches nothing
-pub bad_words : {F S K E A L : Type 0} (w : World F S K E A L) (line : Line) (s : ℕ) → Outcome w line s → s ≡ BAD_WORDS → IsPlaceless line × FilesStay w × InputStays w × OutputStays w × EarsStay w
+pub bad_words : {F S K E A L I O : Type 0} (w : World F S K E A L I O) (line : Line) (s : ℕ) → Outcome w line s → s ≡ BAD_WORDS → IsPlaceless line × FilesStay w × InputStays w × OutputStays w × EarsStay w
 bad_words w (pipe source turns) s (conversed l end means talk is, ears, ruled) e = absurd (never_conversed end s is e)
 bad_words w (pipe source turns) s (unserved stopped unread output, ears, ruled) e = let found = only_stopped w source s stopped e in (found.0, found.1, unread, output, ears)
 bad_words w (task crd rules t) s out e = absurd (never_tasked w crd rules t s out.0 e)
@@ -289,7 +290,7 @@ bad_words w (drill start count) s out e = absurd (never_drilled w start count s 
 bad_words w (serve source l) s (served m means ends, unread, ruled) e = absurd (never_served w m l s ends e)
 bad_words w (serve source l) s (unloaded_service stopped output ears, unread, ruled) e = let found = only_stopped w source s stopped e in (found.0, found.1, unread, output, ears)
 bad_words w (remote migrate url) s out e = let found = only_unmigrated w url s out.0 e in (found.0, out.1, out.2, found.1, out.3)
-bad_words w (remote dump url) s (dumped d told at cause handed, files, unread, ears) e = absurd (never_dumped d s told.status_is e)
+bad_words w (remote dump url) s (dumped d told at cause handed broken, files, unread, ears) e = absurd (never_dumped d s told.status_is e)
 bad_words w (remote dump url) s (undumped u, files, unread, ears) e = let found = only_unplaced w url s u e in (found.0, files, unread, found.2, ears)
 bad_words w (remote load url) s (restored d told at cause end unwritten wrote silent, files, ears) e = absurd (never_restored d s told.status_is e)
 bad_words w (remote load url) s (unloaded u, files, ears) e = let found = only_unplaced w url s u e in (found.0, files, found.1, found.2, ears)
@@ -302,7 +303,7 @@ if_ruled (by_rules crd rules) is = is
 if_ruled (by_converter crd hub url) is = tt
 
 -- memory was wanted before anything was touched
-pub wanted : {F S K E A L : Type 0} (w : World F S K E A L) (line : Line) (s : ℕ) → s ≡ NO_MEMORY → Says w (error_line NO_MEMORY) → FilesStay w → InputStays w → OutputStays w → EarsStay w → LinksStay w
+pub wanted : {F S K E A L I O : Type 0} (w : World F S K E A L I O) (line : Line) (s : ℕ) → s ≡ NO_MEMORY → Says w (error_line NO_MEMORY) → FilesStay w → InputStays w → OutputStays w → EarsStay w → LinksStay w
     → Outcome w line s
 wanted w (pipe source turns) s is says files unread output ears links = (unserved (wanting is) unread output, ears, if_ruled source links)
 wanted w (task crd rules t) s is says files unread output ears links = (unloaded_task (wanting is) unread output, ears, links)

@@ -18,7 +18,7 @@ use Rattle.kubeconv_cmd.specs.declared.status.TheConstants.{DONE, BAD_WORDS, REF
 
 -- Why the line did nothing: a file couldn't be read; something of one is refused, and the error line names the file and says why; memory was
 -- wanted, for the definition or for what works by it; or its converter has no address, and nothing was touched.
-pub data Stopped {F S K E A L : Type 0} (w : World F S K E A L) (source : Source) (status : ℕ) : Type 0 where
+pub data Stopped {F S K E A L I O : Type 0} (w : World F S K E A L I O) (source : Source) (status : ℕ) : Type 0 where
   unreadable : status ≡ READ_FAILED → FilesFail w → Stopped w source status
   refused : (name why : List ℕ) → status ≡ REFUSED → Refuses (held w) source name why → Says w (refusal_line name why) → Stopped w source status
   wanting : status ≡ NO_MEMORY → Stopped w source status
@@ -26,7 +26,7 @@ pub data Stopped {F S K E A L : Type 0} (w : World F S K E A L) (source : Source
 
 -- ---- `pipe`
 
-pub data PipeOutcome {F S K E A L : Type 0} (w : World F S K E A L) (source : Source) (turns status : ℕ) : Type 0 where
+pub data PipeOutcome {F S K E A L I O : Type 0} (w : World F S K E A L I O) (source : Source) (turns status : ℕ) : Type 0 where
   -- a conversation was held to some end, and the status is that of the end
   conversed : (l : Loaded) (end : PipeEnd) → Means (held w) source l
       → Conversation (meaning_in l) (MayRise (faults_in l)) w.start turns (streams w) (InputFails w) (OutputFails w) end → status ≡ pipe_status end → PipeOutcome w source turns status
@@ -36,7 +36,7 @@ pub data PipeOutcome {F S K E A L : Type 0} (w : World F S K E A L) (source : So
 -- ---- `convert` and `review`
 
 -- What a definition made of the input. That there is no version of the name is told before anything is read.
-pub data TaskEnd {F S K E A L : Type 0} (w : World F S K E A L) (d : Definition) (t : Task) (status : ℕ) : Type 0 where
+pub data TaskEnd {F S K E A L I O : Type 0} (w : World F S K E A L I O) (d : Definition) (t : Task) (status : ℕ) : Type 0 where
   -- the whole input was read, and its line was written and handed on
   wrote_line : status ≡ DONE → OfInput w (λ b. Wrote (AnswersDocument d t b) (written_before w) (written w)) → IsAtEnd (left w) → flushed w ≡ written w → TaskEnd w d t status
   -- a front of its line was written, and then the output failed
@@ -48,7 +48,7 @@ pub data TaskEnd {F S K E A L : Type 0} (w : World F S K E A L) (d : Definition)
   -- memory was wanted for the input or for its line
   wanting_task : status ≡ NO_MEMORY → OutputStays w → TaskEnd w d t status
 
-pub data TaskOutcome {F S K E A L : Type 0} (w : World F S K E A L) (source : Source) (t : Task) (status : ℕ) : Type 0 where
+pub data TaskOutcome {F S K E A L I O : Type 0} (w : World F S K E A L I O) (source : Source) (t : Task) (status : ℕ) : Type 0 where
   did_task : (d : Definition) → Means (held w) source (with_rules d) → KnowsTarget d t → TaskEnd w d t status → TaskOutcome w source t status
   -- nothing was read of the input
   targetless : (d : Definition) (why : List ℕ) → Means (held w) source (with_rules d) → LacksTarget d t why → status ≡ BAD_INPUT → Says w (line_saying why)
@@ -57,7 +57,7 @@ pub data TaskOutcome {F S K E A L : Type 0} (w : World F S K E A L) (source : So
 
 -- ---- `drill`
 
-pub data DrillOutcome {F S K E A L : Type 0} (w : World F S K E A L) (start count status : ℕ) : Type 0 where
+pub data DrillOutcome {F S K E A L I O : Type 0} (w : World F S K E A L I O) (start count status : ℕ) : Type 0 where
   -- what is told of the drill was written and handed on
   wrote_drill : status ≡ DONE → Wrote (DrillsExample start count) (written_before w) (written w) → flushed w ≡ written w → DrillOutcome w start count status
   -- a front of that was written, and then the output failed
@@ -66,8 +66,8 @@ pub data DrillOutcome {F S K E A L : Type 0} (w : World F S K E A L) (start coun
 
 -- ---- `serve`
 
-pub data ServeOutcome {F S K E A L : Type 0} (w : World F S K E A L) (source : Source) (s : Listening) (status : ℕ) : Type 0 where
-  served : (l : Loaded) → Means (held w) source l → Service (faults_in l) (meaning_in l) w.start s (hearing w) status → ServeOutcome w source s status
+pub data ServeOutcome {F S K E A L I O : Type 0} (w : World F S K E A L I O) (source : Source) (s : Listening) (status : ℕ) : Type 0 where
+  served : (l : Loaded) → Means (held w) source l → Service (faults_in l) w.tells.sides (meaning_in l) w.start s (hearing w) status → ServeOutcome w source s status
   unloaded_service : Stopped w source status → OutputStays w → EarsStay w → ServeOutcome w source s status
 
 -- ---- any line
@@ -81,7 +81,7 @@ IfRuled (by_converter crd hub url) P = Unit {0}
 -- The run of the line came to this status. `serve` reads no input, and the other lines ask nothing of the ears; a drill reads no file either, and no
 -- input, nor does a line that works on a server from outside, of which `load` alone reads the input. Without a converter or such a server nothing
 -- is asked of the links.
-abbrev pub Outcome : {F S K E A L : Type 0} → World F S K E A L → Line → ℕ → Type 0
+abbrev pub Outcome : {F S K E A L I O : Type 0} → World F S K E A L I O → Line → ℕ → Type 0
 Outcome w (pipe source turns) status = PipeOutcome w source turns status × EarsStay w × IfRuled source (LinksStay w)
 Outcome w (task crd rules t) status = TaskOutcome w (by_rules crd rules) t status × EarsStay w × LinksStay w
 Outcome w (drill start count) status = DrillOutcome w start count status × FilesStay w × InputStays w × EarsStay w × LinksStay w

@@ -8,9 +8,9 @@ use Rattle.edge_io.specs.Causes.{Rose}
 use Rattle.edge_io.specs.Connections.{Origin, Ending}
 use Rattle.http_front.specs.Link.{UnlessUnwritten}
 use Rattle.serve_spans.specs.Owners.{At, Within, IsOfWorker}
-use Rattle.serve_spans.specs.Served.{Among, origins_of, HandsOutAll, AddsAll, AreWorkers}
+use Rattle.serve_spans.specs.Served.{Among, origins_of, HandsOutAll, AddsAll, AreAll, AreWorkers}
 use Rattle.serve_spans.specs.Spans.{Span, AllServed, AreApart}
-use Rattle.serve_many.specs.Answered.{IsAnswered}
+use Rattle.serve_many.specs.Answered.{IsAnswered, Sides}
 use Rattle.serve_input.specs.Conversed.{Blames, Conversed, IsPaced, Start, Streams, front_of, link_end}
 use Rattle.serve_input.specs.declared.conversing.PipeEnd.{PipeEnd}
 use Rattle.output_lines.specs.Listening.{Told, ToldSome, Announced}
@@ -31,7 +31,7 @@ pub record Conversation {I O : Type 0} (m : Meaning) (fails : Type 0) (start : S
 -- So many connections were handed out, and as many were given back, with so many workers asked for beside them. One list tells what they were
 -- answered: it is legal, begins with nothing entered, and has for each connection a span in which one pass served it. No two share an item, and
 -- each item is one of a connection's or a worker's. Each pass has a tool, whose faults are counted so.
-pub record AnsweredAll {A : Type 0} (faults : A → ℕ) (m : Meaning) (start : Start) (asked count : ℕ) (h0 handed : Option (List Origin)) (g0 given : Option (List Ending)) : Type 0 where
+pub record AnsweredAll {A I O : Type 0} (faults : A → ℕ) (k : Sides I O) (m : Meaning) (start : Start) (asked count : ℕ) (h0 handed : Option (List Origin)) (g0 given : Option (List Ending)) : Type 0 where
   pub log : List Logged
   pub legal : IsLegal m STANDING log
   pub origins : List (Option Origin)
@@ -41,7 +41,7 @@ pub record AnsweredAll {A : Type 0} (faults : A → ℕ) (m : Meaning) (start : 
   pub given_back : AddsAll g0 endings given
   pub counted : (length origins ≡ count) × (length endings ≡ count)
   pub each : (o : Option Origin) → Among o origins → Among o (origins_of endings)
-  pub served : AllServed (IsAnswered faults (front_of m start)) log endings spans
+  pub served : AllServed (IsAnswered faults k (front_of m start)) log endings spans
   pub apart : AreApart spans
   -- The pass of the number 0 accepts, and these are all that there were. So many workers have no thread, and each of the others has a pass of its own.
   pub passes : List ℕ
@@ -52,6 +52,8 @@ pub record AnsweredAll {A : Type 0} (faults : A → ℕ) (m : Meaning) (start : 
   -- the passes that were made for workers whose thread wasn't started
   pub spared : List ℕ
   pub few : length spared ≤ idle
+  -- each pass is one of these
+  pub all : AreAll (0 ∷ []) passes spans workers spared
   -- the first pass takes the turns of workers without a thread
   pub owned : (i : ℕ) (x : Logged) → At log i x → Within spans i x ⊎ IsOfWorker (Some 0) idle workers spared x
 
@@ -70,8 +72,8 @@ pub record Hearing : Type 0 where
   pub output_faults : ℕ
 
 -- so many connections were answered, behind the line that names the place where they come, which was handed on
-abbrev pub Answers : {A : Type 0} → (A → ℕ) → Meaning → Start → Listening → Hearing → ℕ → Type 0
-Answers faults m start s h count = Announced h.written_before h.written h.flushed × AnsweredAll faults m start s.workers count h.handed_before h.handed h.returned_before h.returned
+abbrev pub Answers : {A I O : Type 0} → (A → ℕ) → Sides I O → Meaning → Start → Listening → Hearing → ℕ → Type 0
+Answers faults k m start s h count = Announced h.written_before h.written h.flushed × AnsweredAll faults k m start s.workers count h.handed_before h.handed h.returned_before h.returned
 
 -- none was handed out, and none was given back
 abbrev pub IsUnheard : Hearing → Type 0
@@ -82,15 +84,15 @@ abbrev pub MayHaveTold : Hearing → Type 0
 MayHaveTold h = (h.written ≡ h.written_before) ⊎ Told h.written_before h.written
 
 -- how serving connections ends
-pub data Service {A : Type 0} (faults : A → ℕ) (m : Meaning) (start : Start) (s : Listening) (h : Hearing) (status : ℕ) : Type 0 where
+pub data Service {A I O : Type 0} (faults : A → ℕ) (k : Sides I O) (m : Meaning) (start : Start) (s : Listening) (h : Hearing) (status : ℕ) : Type 0 where
   -- as many were answered as were asked for
-  answered : (count : ℕ) → status ≡ DONE → s.connections ≡ Some count → Answers faults m start s h count → Service faults m start s h status
+  answered : (count : ℕ) → status ≡ DONE → s.connections ≡ Some count → Answers faults k m start s h count → Service faults k m start s h status
   -- or fewer, as no further one could be had
-  answered_fewer : (count : ℕ) → status ≡ LISTEN_FAILED → Rose h.faults_before h.faults → IfSome s.connections (λ n. count < n) → Answers faults m start s h count
-      → Service faults m start s h status
+  answered_fewer : (count : ℕ) → status ≡ LISTEN_FAILED → Rose h.faults_before h.faults → IfSome s.connections (λ n. count < n) → Answers faults k m start s h count
+      → Service faults k m start s h status
   -- nobody can listen at the place, or no connection could be had
-  unheard : status ≡ LISTEN_FAILED → Rose h.faults_before h.faults → MayHaveTold h → IsUnheard h → Service faults m start s h status
+  unheard : status ≡ LISTEN_FAILED → Rose h.faults_before h.faults → MayHaveTold h → IsUnheard h → Service faults k m start s h status
   -- a front of the line was written, and then the output failed
-  untold : status ≡ WRITE_FAILED → Rose h.output_faults_before h.output_faults → ToldSome h.written_before h.written → IsUnheard h → Service faults m start s h status
+  untold : status ≡ WRITE_FAILED → Rose h.output_faults_before h.output_faults → ToldSome h.written_before h.written → IsUnheard h → Service faults k m start s h status
   -- memory was wanted before any connection came
-  wanting_service : status ≡ NO_MEMORY → MayHaveTold h → IsUnheard h → Service faults m start s h status
+  wanting_service : status ≡ NO_MEMORY → MayHaveTold h → IsUnheard h → Service faults k m start s h status

@@ -4,6 +4,7 @@ use Rattle.std.specs.Io.KnownBytes.{append_known}
 use Rattle.edge_io.specs.Causes.{Rose}
 use Rattle.edge_io.specs.Connections.{Origin, Ending}
 use Rattle.tcp_links.specs.Links.{Ending as LinkEnding}
+use Rattle.serve_many.specs.Answered.{Sides}
 use Rattle.serve_input.specs.Conversed.{Start, Streams}
 use Rattle.kubeconv_cmd.specs.Serving.{Hearing}
 
@@ -18,7 +19,7 @@ pub record Moment (F S K E A L : Type 0) : Type 0 where
 
 -- What these tell in each of their states, and how often each has failed. Where one doesn't tell what a file holds, or bytes, or connections,
 -- there is none.
-pub record Tells (F S K E A L : Type 0) : Type 0 where
+pub record Tells (F S K E A L I O : Type 0) : Type 0 where
   -- what the file of a name holds
   pub file : F → List ℕ → Option (List ℕ)
   pub files_faults : F → ℕ
@@ -36,19 +37,21 @@ pub record Tells (F S K E A L : Type 0) : Type 0 where
   pub handed : A → Option (List Origin)
   pub returned : A → Option (List Ending)
   pub ears_faults : A → ℕ
+  -- what the two sides of a connection tell
+  pub sides : Sides I O
   -- the links that were given back
   pub linked : L → Option (List LinkEnding)
 
 -- a moment before the run and one after it
-pub record World (F S K E A L : Type 0) : Type 0 where
-  pub tells : Tells F S K E A L
+pub record World (F S K E A L I O : Type 0) : Type 0 where
+  pub tells : Tells F S K E A L I O
   pub start : Start
   pub before : Moment F S K E A L
   pub after : Moment F S K E A L
 
 -- ---- in short
 
-module _ {F S K E A L : Type 0} (w : World F S K E A L) where
+module _ {F S K E A L I O : Type 0} (w : World F S K E A L I O) where
   -- what a file holds, which no run changes
   abbrev pub held : List ℕ → Option (List ℕ)
   held name = w.tells.file w.before.files name

@@ -6,6 +6,7 @@ ghost use Rattle.shared_api.specs.Passes.{IsOf};
 ghost use Rattle.edge_io.specs.Causes.{Rose};
 ghost use Rattle.output_lines.specs.Listening.{NamesPlace};
 ghost use Rattle.command_lines.specs.Given.{listening_of, source_of};
+ghost use Rattle.serve_many.specs.Answered.{sides};
 ghost use Rattle.kubeconv_cmd.specs.Outcome.{IfRuled};
 ghost use Rattle.kubeconv_cmd.specs.Serving.{Service};
 ghost use Rattle.kubeconv_cmd.specs.inner.Ends.{Serves, met_of, service_status};
@@ -51,7 +52,7 @@ where
     requires of { IsOf V.meaning api.now pass.old }
     requires new { pass.old.view ≡ opening_view api.now.base }
     requires limits { api.now.base.limits ≡ STANDING }
-    ensures came { Service V.Tool.faults (V.meaning api.now.base.versions) (record { boot = api.now.base.boot; told = C.told clock.now }) (listening_of listening.entry) (record {
+    ensures came { Service V.Tool.faults (sides A.In.left A.In.most A.Out.written A.Out.flushed) (V.meaning api.now.base.versions) (record { boot = api.now.base.boot; told = C.told clock.now }) (listening_of listening.entry) (record {
       handed_before = A.origins ears.old;
       handed = A.origins ears.new;
       returned_before = A.returned ears.old;
@@ -109,7 +110,7 @@ fn serve_by<
 ) -> Result<(), Unserved>
 where
     V::Tool: Send,
-    ensures came { Service V.Tool.faults (V.meaning versions) (record { boot = boot; told = C.told clock.now }) (listening_of listening.entry) (record {
+    ensures came { Service V.Tool.faults (sides A.In.left A.In.most A.Out.written A.Out.flushed) (V.meaning versions) (record { boot = boot; told = C.told clock.now }) (listening_of listening.entry) (record {
       handed_before = A.origins ears.old;
       handed = A.origins ears.new;
       returned_before = A.returned ears.old;
@@ -168,7 +169,7 @@ pub(crate) fn serve<
 ) -> Result<(), Unmet<'a>>
 where
     L::One: Sync,
-    ensures came { Serves (F.file files.old) (source_of source.entry) (record { boot = boot; told = C.told clock.now }) (listening_of listening.entry) (record {
+    ensures came { Serves (sides A.In.left A.In.most A.Out.written A.Out.flushed) (F.file files.old) (source_of source.entry) (record { boot = boot; told = C.told clock.now }) (listening_of listening.entry) (record {
       handed_before = A.origins ears.old;
       handed = A.origins ears.new;
       returned_before = A.returned ears.old;

@@ -5,6 +5,7 @@ ghost use Rattle.edge_io.specs.Causes.{Rose};
 ghost use Rattle.output_lines.specs.Listening.{NamesPlace};
 ghost use Rattle.command_lines.specs.Given.{line_of};
 ghost use Rattle.command_lines.specs.Lines.{Line, IsLine};
+ghost use Rattle.serve_many.specs.Answered.{sides};
 ghost use Rattle.kubeconv_cmd.specs.Outcome.{IfServes, IsPlaceless, Outcome};
 ghost use Rattle.kubeconv_cmd.specs.Status.{error_line};
 

@@ -29,11 +29,11 @@ never n d l r i c t a m f (loads.Restored restores.NoMemory) = m
 never n d l r i c t a m f (loads.WriteFault created present) = f
 
 pub load_never : (n : ℕ) → n ≢ DONE → n ≢ LINK_FAILED → n ≢ READ_FAILED → n ≢ BAD_INPUT → n ≢ CUT → n ≢ TOO_MANY → n ≢ BAD_ANSWER → n ≢ NO_MEMORY → n ≢ WRITE_FAILED → n ≢ BAD_WORDS
-    → {F S K E A L : Type 0} (w : World F S K E A L) (url : List ℕ) (s : ℕ) → LoadOutcome w url s → s ≡ n → ⊥
+    → {F S K E A L I O : Type 0} (w : World F S K E A L I O) (url : List ℕ) (s : ℕ) → LoadOutcome w url s → s ≡ n → ⊥
 load_never n d l r i c t a m f b w url s (restored end told at cause ended unwritten wrote silent) e = never n d l r i c t a m f end (sym e ∙ told.status_is)
 load_never n d l r i c t a m f b w url s (unloaded u) e = unplaced_never n m b w url s u e
 
-pub load_reading : {F S K E A L : Type 0} (w : World F S K E A L) (url : List ℕ) (s : ℕ) → LoadOutcome w url s → s ≡ READ_FAILED → InputFails w
+pub load_reading : {F S K E A L I O : Type 0} (w : World F S K E A L I O) (url : List ℕ) (s : ℕ) → LoadOutcome w url s → s ≡ READ_FAILED → InputFails w
 load_reading w url s (restored (loads.Restored (restores.Done created present)) told at cause ended unwritten wrote silent) e = absurd (omega (arith, told.status_is, e))
 load_reading w url s (restored (loads.Restored restores.LinkFault) told at cause ended unwritten wrote silent) e = absurd (omega (arith, told.status_is, e))
 load_reading w url s (restored (loads.Restored restores.ReadFault) told at cause ended unwritten wrote silent) e = cause
@@ -45,7 +45,7 @@ load_reading w url s (restored (loads.Restored restores.NoMemory) told at cause 
 load_reading w url s (restored (loads.WriteFault created present) told at cause ended unwritten wrote silent) e = absurd (omega (arith, told.status_is, e))
 load_reading w url s (unloaded u) e = absurd (unplaced_never READ_FAILED (λ e. omega (arith, e)) (λ e. omega (arith, e)) w url s u e)
 
-pub load_writing : {F S K E A L : Type 0} (w : World F S K E A L) (url : List ℕ) (s : ℕ) → LoadOutcome w url s → s ≡ WRITE_FAILED → OutputFails w
+pub load_writing : {F S K E A L I O : Type 0} (w : World F S K E A L I O) (url : List ℕ) (s : ℕ) → LoadOutcome w url s → s ≡ WRITE_FAILED → OutputFails w
 load_writing w url s (restored (loads.Restored (restores.Done created present)) told at cause ended unwritten wrote silent) e = absurd (omega (arith, told.status_is, e))
 load_writing w url s (restored (loads.Restored restores.LinkFault) told at cause ended unwritten wrote silent) e = absurd (omega (arith, told.status_is, e))
 load_writing w url s (restored (loads.Restored restores.ReadFault) told at cause ended unwritten wrote silent) e = absurd (omega (arith, told.status_is, e))
@@ -58,7 +58,7 @@ load_writing w url s (restored (loads.WriteFault created present) told at cause 
 load_writing w url s (unloaded u) e = absurd (unplaced_never WRITE_FAILED (λ e. omega (arith, e)) (λ e. omega (arith, e)) w url s u e)
 
 -- the status of a link that failed has a link whose count rose
-pub load_linking : {F S K E A L : Type 0} (w : World F S K E A L) (url : List ℕ) (s : ℕ) → LoadOutcome w url s → s ≡ LINK_FAILED → (e : Ending) × AddsOne (linked_before w) (linked w) e × (0 < e.faults)
+pub load_linking : {F S K E A L I O : Type 0} (w : World F S K E A L I O) (url : List ℕ) (s : ℕ) → LoadOutcome w url s → s ≡ LINK_FAILED → (e : Ending) × AddsOne (linked_before w) (linked w) e × (0 < e.faults)
 load_linking w url s (restored (loads.Restored (restores.Done created present)) told at cause ended unwritten wrote silent) e = absurd (omega (arith, told.status_is, e))
 load_linking w url s (restored (loads.Restored restores.LinkFault) told at cause ended unwritten wrote silent) e = (at.loaded.ending, at.loaded.back, at.loaded.broke refl)
 load_linking w url s (restored (loads.Restored restores.ReadFault) told at cause ended unwritten wrote silent) e = absurd (omega (arith, told.status_is, e))
@@ -71,7 +71,7 @@ load_linking w url s (restored (loads.WriteFault created present) told at cause 
 load_linking w url s (unloaded u) e = absurd (unplaced_never LINK_FAILED (λ e. omega (arith, e)) (λ e. omega (arith, e)) w url s u e)
 
 -- with a status that stands for no numbers it writes nothing
-pub load_silent : {F S K E A L : Type 0} (w : World F S K E A L) (url : List ℕ) (s : ℕ) → LoadOutcome w url s → s ≢ DONE → s ≢ WRITE_FAILED → OutputStays w
+pub load_silent : {F S K E A L I O : Type 0} (w : World F S K E A L I O) (url : List ℕ) (s : ℕ) → LoadOutcome w url s → s ≢ DONE → s ≢ WRITE_FAILED → OutputStays w
 load_silent w url s (restored (loads.Restored (restores.Done created present)) told at cause ended unwritten wrote silent) d f = absurd (d told.status_is)
 load_silent w url s (restored (loads.Restored restores.LinkFault) told at cause ended unwritten wrote silent) d f = silent
 load_silent w url s (restored (loads.Restored restores.ReadFault) told at cause ended unwritten wrote silent) d f = silent
@@ -85,7 +85,7 @@ load_silent w url s (unloaded u) d f = u.silent
 
 -- a restoring that is done read the whole input and posted each line, and its numbers were written
 pub load_done : ((n : Names) (bytes : List ℕ) (es : List Exchange) (c p : ℕ) → Restores n none_yet bytes es (restores.Done c p) → IsPosted n bytes es c p)
-    → {F S K E A L : Type 0} (w : World F S K E A L) (url : List ℕ) (s : ℕ) → LoadOutcome w url s → s ≡ DONE → LoadedWhole w url
+    → {F S K E A L I O : Type 0} (w : World F S K E A L I O) (url : List ℕ) (s : ℕ) → LoadOutcome w url s → s ≡ DONE → LoadedWhole w url
 load_done all w url s (restored (loads.Restored (restores.Done created present)) told at cause ended unwritten wrote silent) e =
     record {
       place = at.place;
@@ -114,7 +114,7 @@ load_done all w url s (restored (loads.WriteFault created present) told at cause
 load_done all w url s (unloaded u) e = absurd (unplaced_never DONE (λ e. omega (arith, e)) (λ e. omega (arith, e)) w url s u e)
 
 -- a line that is refused has its number on the error stream
-pub load_refused : {F S K E A L : Type 0} (w : World F S K E A L) (url : List ℕ) (s : ℕ) → LoadOutcome w url s → s ≡ BAD_INPUT → (number : ℕ) × Says w (bad_line number)
+pub load_refused : {F S K E A L I O : Type 0} (w : World F S K E A L I O) (url : List ℕ) (s : ℕ) → LoadOutcome w url s → s ≡ BAD_INPUT → (number : ℕ) × Says w (bad_line number)
 load_refused w url s (restored (loads.Restored (restores.Done created present)) told at cause ended unwritten wrote silent) e = absurd (omega (arith, told.status_is, e))
 load_refused w url s (restored (loads.Restored restores.LinkFault) told at cause ended unwritten wrote silent) e = absurd (omega (arith, told.status_is, e))
 load_refused w url s (restored (loads.Restored restores.ReadFault) told at cause ended unwritten wrote silent) e = absurd (omega (arith, told.status_is, e))

@@ -27,7 +27,7 @@ never n d u f a l m b migrated.WriteFault = f
 never n d u f a l m b migrated.NoMemory = m
 
 pub migrate_never : (n : ℕ) → n ≢ DONE → n ≢ UNSETTLED → n ≢ WRITE_FAILED → n ≢ BAD_ANSWER → n ≢ LINK_FAILED → n ≢ NO_MEMORY → n ≢ BAD_WORDS
-    → {F S K E A L : Type 0} (w : World F S K E A L) (url : List ℕ) (s : ℕ) → MigrateOutcome w url s → s ≡ n → ⊥
+    → {F S K E A L I O : Type 0} (w : World F S K E A L I O) (url : List ℕ) (s : ℕ) → MigrateOutcome w url s → s ≡ n → ⊥
 migrate_never n d u f a l m b w url s out e = never n d u f a l m b out.end (sym e ∙ out.is_told.status_is)
 
 -- with a status that stands for no tally it writes nothing
@@ -41,7 +41,7 @@ silent_end migrated.Restarted s P is silent d u f = silent
 silent_end migrated.WriteFault s P is silent d u f = absurd (f is)
 silent_end migrated.NoMemory s P is silent d u f = silent
 
-pub migrate_silent : {F S K E A L : Type 0} (w : World F S K E A L) (url : List ℕ) (s : ℕ) → MigrateOutcome w url s → s ≢ DONE → s ≢ UNSETTLED → s ≢ WRITE_FAILED → OutputStays w
+pub migrate_silent : {F S K E A L I O : Type 0} (w : World F S K E A L I O) (url : List ℕ) (s : ℕ) → MigrateOutcome w url s → s ≢ DONE → s ≢ UNSETTLED → s ≢ WRITE_FAILED → OutputStays w
 migrate_silent w url s out d u f = silent_end out.end s (OutputStays w) out.is_told.status_is out.silent d u f
 
 writing_end : (end : MigrateEnd) (s : ℕ) (P : Type 0) → s ≡ status_told (migration_told end) → OnUnwritten P end → s ≡ WRITE_FAILED → P
@@ -54,7 +54,7 @@ writing_end migrated.Restarted s P is cause e = absurd (omega (arith, is, e))
 writing_end migrated.WriteFault s P is cause e = cause
 writing_end migrated.NoMemory s P is cause e = absurd (omega (arith, is, e))
 
-pub migrate_writing : {F S K E A L : Type 0} (w : World F S K E A L) (url : List ℕ) (s : ℕ) → MigrateOutcome w url s → s ≡ WRITE_FAILED → OutputFails w
+pub migrate_writing : {F S K E A L I O : Type 0} (w : World F S K E A L I O) (url : List ℕ) (s : ℕ) → MigrateOutcome w url s → s ≡ WRITE_FAILED → OutputFails w
 migrate_writing w url s out e = writing_end out.end s (OutputFails w) out.is_told.status_is out.cause e
 
 linking_end : (end : MigrateEnd) (s : ℕ) → s ≡ status_told (migration_told end) → s ≡ LINK_FAILED → end ≡ migrated.LinkFault
@@ -83,5 +83,5 @@ link_of url b n before written flushed (placeless same none stays) = absurd cc
 link_of url b n before written flushed (unread same stays) = absurd cc
 
 -- the status of a link that failed has a link whose count rose
-pub migrate_linking : {F S K E A L : Type 0} (w : World F S K E A L) (url : List ℕ) (s : ℕ) → MigrateOutcome w url s → s ≡ LINK_FAILED → (e : Ending) × AddsOne (linked_before w) (linked w) e × (0 < e.faults)
+pub migrate_linking : {F S K E A L I O : Type 0} (w : World F S K E A L I O) (url : List ℕ) (s : ℕ) → MigrateOutcome w url s → s ≡ LINK_FAILED → (e : Ending) × AddsOne (linked_before w) (linked w) e × (0 < e.faults)
 migrate_linking w url s out e = link_of url _ _ _ _ _ (subst (λ (x : MigrateEnd). CameOf url (linked_before w) (linked w) (written_before w) (written w) (flushed w) x) (linking_end out.end s out.is_told.status_is e) out.came)

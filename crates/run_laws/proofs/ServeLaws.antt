@@ -14,7 +14,7 @@ use Rattle.run_laws.proofs.PipeLaws.{Unloaded, unloaded_status}
 
 -- ---- where nothing fails
 
-pub serve_talk : {F S K E A L : Type 0} (w : World F S K E A L) (source : Source) (v : Listening) (s : ℕ) → ServeOutcome w source v s → ¬ FilesFail w → ¬ OutputFails w → RanService (written_before w) (written w) s ⊎ Unloaded w source s
+pub serve_talk : {F S K E A L I O : Type 0} (w : World F S K E A L I O) (source : Source) (v : Listening) (s : ℕ) → ServeOutcome w source v s → ¬ FilesFail w → ¬ OutputFails w → RanService (written_before w) (written w) s ⊎ Unloaded w source s
 serve_talk w source v s (served l means (answered count is all answers)) nf nw = inl (ran_served is answers.0.0)
 serve_talk w source v s (served l means (answered_fewer count is fails few answers)) nf nw = inl (failed is (inr answers.0.0))
 serve_talk w source v s (served l means (unheard is fails told nobody)) nf nw = inl (failed is told)
@@ -22,7 +22,7 @@ serve_talk w source v s (served l means (untold is fails told nobody)) nf nw = a
 serve_talk w source v s (served l means (wanting_service is told nobody)) nf nw = inr (inr (inl is))
 serve_talk w source v s (unloaded_service stopped output ears) nf nw = inr (stopped_talk w source s stopped nf)
 
-pub serve_complete : {F S K E A L : Type 0} (w : World F S K E A L) (source : Source) (v : Listening) (s : ℕ) → ServeOutcome w source v s → IsServed (held w) source → ¬ FilesFail w → ¬ OutputFails w → ¬ EarsFail w → (s ≡ DONE) ⊎ (s ≡ NO_MEMORY)
+pub serve_complete : {F S K E A L I O : Type 0} (w : World F S K E A L I O) (source : Source) (v : Listening) (s : ℕ) → ServeOutcome w source v s → IsServed (held w) source → ¬ FilesFail w → ¬ OutputFails w → ¬ EarsFail w → (s ≡ DONE) ⊎ (s ≡ NO_MEMORY)
 serve_complete w source v s (served l means (answered count is all answers)) told nf nw ne = inl is
 serve_complete w source v s (served l means (answered_fewer count is fails few answers)) told nf nw ne = absurd (ne fails)
 serve_complete w source v s (served l means (unheard is fails says nobody)) told nf nw ne = absurd (ne fails)
@@ -32,12 +32,12 @@ serve_complete w source v s (unloaded_service stopped output ears) told nf nw ne
 
 -- ---- whatever fails
 
-pub serve_refuses : {F S K E A L : Type 0} (w : World F S K E A L) (source : Source) (v : Listening) (s : ℕ) → ServeOutcome w source v s → IsToldBy (held w) source → ¬ FilesFail w → (name why : List ℕ) → Refuses (held w) source name why
+pub serve_refuses : {F S K E A L I O : Type 0} (w : World F S K E A L I O) (source : Source) (v : Listening) (s : ℕ) → ServeOutcome w source v s → IsToldBy (held w) source → ¬ FilesFail w → (name why : List ℕ) → Refuses (held w) source name why
     → (s ≡ REFUSED) ⊎ ((s ≡ NO_MEMORY) ⊎ ((s ≡ BAD_WORDS) × IsAddressless source))
 serve_refuses w source v s (served l means ends) told nf name why bad = absurd (not_both (held w) source name why (means_served (held w) source l told means) bad)
 serve_refuses w source v s (unloaded_service stopped output ears) told nf name why bad = unloaded_status w source s (stopped_talk w source s stopped nf)
 
-serve_done : {F S K E A L : Type 0} (w : World F S K E A L) (source : Source) (v : Listening) (s : ℕ) → ServeOutcome w source v s → s ≡ DONE → (count : ℕ) × (v.connections ≡ Some count) × ((l : Loaded) × Means (held w) source l × Answers (faults_in l) (meaning_in l) w.start v (hearing w) count)
+serve_done : {F S K E A L I O : Type 0} (w : World F S K E A L I O) (source : Source) (v : Listening) (s : ℕ) → ServeOutcome w source v s → s ≡ DONE → (count : ℕ) × (v.connections ≡ Some count) × ((l : Loaded) × Means (held w) source l × Answers (faults_in l) w.tells.sides (meaning_in l) w.start v (hearing w) count)
 serve_done w source v s (served l means (answered count is all answers)) e = (count, all, (l, means, answers))
 serve_done w source v s (served l means (answered_fewer count is fails few answers)) e = absurd (omega (arith, is, e))
 serve_done w source v s (served l means (unheard is fails told nobody)) e = absurd (omega (arith, is, e))
@@ -45,7 +45,7 @@ serve_done w source v s (served l means (untold is fails told nobody)) e = absur
 serve_done w source v s (served l means (wanting_service is told nobody)) e = absurd (omega (arith, is, e))
 serve_done w source v s (unloaded_service stopped output ears) e = absurd (stopped_never DONE (λ e. omega (arith, e)) (λ e. omega (arith, e)) (λ e. omega (arith, e)) (λ e. omega (arith, e)) w source s stopped e)
 
-pub serve_failed : {F S K E A L : Type 0} (w : World F S K E A L) (source : Source) (v : Listening) (s : ℕ) → ServeOutcome w source v s → s ≡ LISTEN_FAILED → EarsFail w × (HearsNobody w ⊎ ((count : ℕ) × IfSome v.connections (λ n. count < n) × ((l : Loaded) × Means (held w) source l × Answers (faults_in l) (meaning_in l) w.start v (hearing w) count)))
+pub serve_failed : {F S K E A L I O : Type 0} (w : World F S K E A L I O) (source : Source) (v : Listening) (s : ℕ) → ServeOutcome w source v s → s ≡ LISTEN_FAILED → EarsFail w × (HearsNobody w ⊎ ((count : ℕ) × IfSome v.connections (λ n. count < n) × ((l : Loaded) × Means (held w) source l × Answers (faults_in l) w.tells.sides (meaning_in l) w.start v (hearing w) count)))
 serve_failed w source v s (served l means (answered count is all answers)) e = absurd (omega (arith, is, e))
 serve_failed w source v s (served l means (answered_fewer count is fails few answers)) e = (fails, inr (count, few, (l, means, answers)))
 serve_failed w source v s (served l means (unheard is fails told nobody)) e = (fails, inl nobody)
@@ -53,10 +53,10 @@ serve_failed w source v s (served l means (untold is fails told nobody)) e = abs
 serve_failed w source v s (served l means (wanting_service is told nobody)) e = absurd (omega (arith, is, e))
 serve_failed w source v s (unloaded_service stopped output ears) e = absurd (stopped_never LISTEN_FAILED (λ e. omega (arith, e)) (λ e. omega (arith, e)) (λ e. omega (arith, e)) (λ e. omega (arith, e)) w source s stopped e)
 
-hears_nobody : {F S K E A L : Type 0} (w : World F S K E A L) → w.after.ears ≡ w.before.ears → HearsNobody w
+hears_nobody : {F S K E A L I O : Type 0} (w : World F S K E A L I O) → w.after.ears ≡ w.before.ears → HearsNobody w
 hears_nobody w same = (ap w.tells.handed same, ap w.tells.returned same)
 
-serve_others : {F S K E A L : Type 0} (w : World F S K E A L) (source : Source) (v : Listening) (s : ℕ) → ServeOutcome w source v s → s ≢ DONE → s ≢ LISTEN_FAILED → HearsNobody w
+serve_others : {F S K E A L I O : Type 0} (w : World F S K E A L I O) (source : Source) (v : Listening) (s : ℕ) → ServeOutcome w source v s → s ≢ DONE → s ≢ LISTEN_FAILED → HearsNobody w
 serve_others w source v s (served l means (answered count is all answers)) d f = absurd (d is)
 serve_others w source v s (served l means (answered_fewer count is fails few answers)) d f = absurd (f is)
 serve_others w source v s (served l means (unheard is fails told nobody)) d f = absurd (f is)
@@ -64,21 +64,21 @@ serve_others w source v s (served l means (untold is fails told nobody)) d f = n
 serve_others w source v s (served l means (wanting_service is told nobody)) d f = nobody
 serve_others w source v s (unloaded_service stopped output ears) d f = hears_nobody w ears
 
-pub serve_runs : {F S K E A L : Type 0} (w : World F S K E A L) (source : Source) (v : Listening) (s : ℕ) → ServeOutcome w source v s
-    → RunsService v.connections (λ count. (l : Loaded) × Means (held w) source l × Answers (faults_in l) (meaning_in l) w.start v (hearing w) count) (EarsFail w) (HearsNobody w) s
+pub serve_runs : {F S K E A L I O : Type 0} (w : World F S K E A L I O) (source : Source) (v : Listening) (s : ℕ) → ServeOutcome w source v s
+    → RunsService v.connections (λ count. (l : Loaded) × Means (held w) source l × Answers (faults_in l) w.tells.sides (meaning_in l) w.start v (hearing w) count) (EarsFail w) (HearsNobody w) s
 serve_runs w source v s out = record {
   done = λ e. serve_done w source v s out e;
   failed = λ e. serve_failed w source v s out e;
   others = λ d f. serve_others w source v s out d f;
 }
 
-says_none : {F S K E A L : Type 0} (w : World F S K E A L) (source : Source) (s : ℕ) → IsUnheld (FilesFail w) (IsAddressless source) s → OutputStays w → SaysOfService (written_before w) (written w) s
+says_none : {F S K E A L I O : Type 0} (w : World F S K E A L I O) (source : Source) (s : ℕ) → IsUnheld (FilesFail w) (IsAddressless source) s → OutputStays w → SaysOfService (written_before w) (written w) s
 says_none w source s (inl is) output = told_none (inl is) (ap w.tells.written output)
 says_none w source s (inr (inl is)) output = told_or_not (inr is) (inl (ap w.tells.written output))
 says_none w source s (inr (inr (inl is))) output = told_none (inr (inl is.0)) (ap w.tells.written output)
 says_none w source s (inr (inr (inr is))) output = told_none (inr (inr is.0)) (ap w.tells.written output)
 
-pub serve_says : {F S K E A L : Type 0} (w : World F S K E A L) (source : Source) (v : Listening) (s : ℕ) → ServeOutcome w source v s → SaysOfService (written_before w) (written w) s
+pub serve_says : {F S K E A L I O : Type 0} (w : World F S K E A L I O) (source : Source) (v : Listening) (s : ℕ) → ServeOutcome w source v s → SaysOfService (written_before w) (written w) s
 serve_says w source v s (served l means (answered count is all answers)) = told_all is answers.0.0
 serve_says w source v s (served l means (answered_fewer count is fails few answers)) = told_or_not (inl is) (inr answers.0.0)
 serve_says w source v s (served l means (unheard is fails told nobody)) = told_or_not (inl is) told
@@ -86,7 +86,7 @@ serve_says w source v s (served l means (untold is fails told nobody)) = told_fr
 serve_says w source v s (served l means (wanting_service is told nobody)) = told_or_not (inr is) told
 serve_says w source v s (unloaded_service stopped output ears) = says_none w source s (stopped_unheld w source s stopped) output
 
-pub serve_blames : {F S K E A L : Type 0} (w : World F S K E A L) (source : Source) (v : Listening) (s : ℕ) → ServeOutcome w source v s → s ≡ REFUSED → Blames w source × OutputStays w
+pub serve_blames : {F S K E A L I O : Type 0} (w : World F S K E A L I O) (source : Source) (v : Listening) (s : ℕ) → ServeOutcome w source v s → s ≡ REFUSED → Blames w source × OutputStays w
 serve_blames w source v s (served l means (answered count is all answers)) e = absurd (omega (arith, is, e))
 serve_blames w source v s (served l means (answered_fewer count is fails few answers)) e = absurd (omega (arith, is, e))
 serve_blames w source v s (served l means (unheard is fails told nobody)) e = absurd (omega (arith, is, e))
@@ -94,7 +94,7 @@ serve_blames w source v s (served l means (untold is fails told nobody)) e = abs
 serve_blames w source v s (served l means (wanting_service is told nobody)) e = absurd (omega (arith, is, e))
 serve_blames w source v s (unloaded_service stopped output ears) e = (stopped_blames w source s stopped e, output)
 
-pub serve_reading : {F S K E A L : Type 0} (w : World F S K E A L) (source : Source) (v : Listening) (s : ℕ) → ServeOutcome w source v s → s ≡ READ_FAILED → FilesFail w
+pub serve_reading : {F S K E A L I O : Type 0} (w : World F S K E A L I O) (source : Source) (v : Listening) (s : ℕ) → ServeOutcome w source v s → s ≡ READ_FAILED → FilesFail w
 serve_reading w source v s (served l means (answered count is all answers)) e = absurd (omega (arith, is, e))
 serve_reading w source v s (served l means (answered_fewer count is fails few answers)) e = absurd (omega (arith, is, e))
 serve_reading w source v s (served l means (unheard is fails told nobody)) e = absurd (omega (arith, is, e))
@@ -102,7 +102,7 @@ serve_reading w source v s (served l means (untold is fails told nobody)) e = ab
 serve_reading w source v s (served l means (wanting_service is told nobody)) e = absurd (omega (arith, is, e))
 serve_reading w source v s (unloaded_service stopped output ears) e = stopped_reading w source s stopped e
 
-pub serve_writing : {F S K E A L : Type 0} (w : World F S K E A L) (source : Source) (v : Listening) (s : ℕ) → ServeOutcome w source v s → s ≡ WRITE_FAILED → OutputFails w
+pub serve_writing : {F S K E A L I O : Type 0} (w : World F S K E A L I O) (source : Source) (v : Listening) (s : ℕ) → ServeOutcome w source v s → s ≡ WRITE_FAILED → OutputFails w
 serve_writing w source v s (served l means (answered count is all answers)) e = absurd (omega (arith, is, e))
 serve_writing w source v s (served l means (answered_fewer count is fails few answers)) e = absurd (omega (arith, is, e))
 serve_writing w source v s (served l means (unheard is fails told nobody)) e = absurd (omega (arith, is, e))
@@ -110,7 +110,7 @@ serve_writing w source v s (served l means (untold is fails told nobody)) e = fa
 serve_writing w source v s (served l means (wanting_service is told nobody)) e = absurd (omega (arith, is, e))
 serve_writing w source v s (unloaded_service stopped output ears) e = absurd (stopped_never WRITE_FAILED (λ e. omega (arith, e)) (λ e. omega (arith, e)) (λ e. omega (arith, e)) (λ e. omega (arith, e)) w source s stopped e)
 
-pub serve_words : {F S K E A L : Type 0} (w : World F S K E A L) (source : Source) (v : Listening) (s : ℕ) → ServeOutcome w source v s → s ≡ BAD_WORDS → IsAddressless source
+pub serve_words : {F S K E A L I O : Type 0} (w : World F S K E A L I O) (source : Source) (v : Listening) (s : ℕ) → ServeOutcome w source v s → s ≡ BAD_WORDS → IsAddressless source
 serve_words w source v s (served l means (answered count is all answers)) e = absurd (omega (arith, is, e))
 serve_words w source v s (served l means (answered_fewer count is fails few answers)) e = absurd (omega (arith, is, e))
 serve_words w source v s (served l means (unheard is fails told nobody)) e = absurd (omega (arith, is, e))
@@ -120,7 +120,7 @@ serve_words w source v s (unloaded_service stopped output ears) e = stopped_word
 
 -- it ends with no other status
 pub serve_never : (n : ℕ) → n ≢ DONE → n ≢ LISTEN_FAILED → n ≢ WRITE_FAILED → n ≢ NO_MEMORY → n ≢ READ_FAILED → n ≢ REFUSED → n ≢ BAD_WORDS
-    → {F S K E A L : Type 0} (w : World F S K E A L) (source : Source) (v : Listening) (s : ℕ) → ServeOutcome w source v s → s ≡ n → ⊥
+    → {F S K E A L I O : Type 0} (w : World F S K E A L I O) (source : Source) (v : Listening) (s : ℕ) → ServeOutcome w source v s → s ≡ n → ⊥
 serve_never n d h f m r u b w source v s (served l means (answered count is all answers)) e = d (sym e ∙ is)
 serve_never n d h f m r u b w source v s (served l means (answered_fewer count is fails few answers)) e = h (sym e ∙ is)
 serve_never n d h f m r u b w source v s (served l means (unheard is fails told nobody)) e = h (sym e ∙ is)

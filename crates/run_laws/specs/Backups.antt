@@ -11,7 +11,7 @@ use Rattle.kubeconv_cmd.specs.World.{World, flushed, input, left, linked, linked
 
 -- The exchanges of the one link, where they are told, are one whole list of the objects of the place, each page asked for with the token of
 -- the one before. What was written, and handed on, is the line of each object, in order.
-pub record DumpedWhole {F S K E A L : Type 0} (w : World F S K E A L) (url : List ℕ) : Type 0 where
+pub record DumpedWhole {F S K E A L I O : Type 0} (w : World F S K E A L I O) (url : List ℕ) : Type 0 where
   pub place : PlaceView
   pub is : IsPlace url place
   pub ending : Ending
@@ -26,7 +26,7 @@ pub record DumpedWhole {F S K E A L : Type 0} (w : World F S K E A L) (url : Lis
 
 -- The input was read to its end. The exchanges of the one link, where they are told, are one post for each of its lines, in order: so many
 -- were created, and so many were there already. Both numbers were written, and handed on.
-pub record LoadedWhole {F S K E A L : Type 0} (w : World F S K E A L) (url : List ℕ) : Type 0 where
+pub record LoadedWhole {F S K E A L I O : Type 0} (w : World F S K E A L I O) (url : List ℕ) : Type 0 where
   pub place : PlaceView
   pub is : IsPlace url place
   pub ending : Ending

@@ -53,7 +53,7 @@ OfSource (serve source l) P = P source
 OfSource (remote work url) P = ⊥
 
 -- something of the files is refused, and the error line names the file and says why
-pub record Blames {F S K E A L : Type 0} (w : World F S K E A L) (source : Source) : Type 0 where
+pub record Blames {F S K E A L I O : Type 0} (w : World F S K E A L I O) (source : Source) : Type 0 where
   pub name : List ℕ
   pub why : List ℕ
   pub refuses : Refuses (held w) source name why
@@ -133,7 +133,7 @@ pub record RunsService (connections : Option ℕ) (answered : ℕ → Type 0) (r
 -- ---- any line
 
 -- What a line with a definition does with an input, where nothing fails: what is written behind what was, and the status.
-abbrev pub Ran : {F S K E A L : Type 0} → World F S K E A L → Line → List ℕ → ℕ → Type 0
+abbrev pub Ran : {F S K E A L I O : Type 0} → World F S K E A L I O → Line → List ℕ → ℕ → Type 0
 Ran w (pipe source turns) input status = (l : Loaded) × Means (held w) source l × Answered (front_of (meaning_in l) w.start) (MayRise (faults_in l)) turns input (written_before w) (written w) status
 Ran w (task crd rules t) input status = (d : Definition) × Means (held w) (by_rules crd rules) (with_rules d) × RanTask d t input (written_before w) (written w) status
 Ran w (drill start count) input status = (status ≡ DONE) × Wrote (DrillsExample start count) (written_before w) (written w)

@@ -11,12 +11,12 @@ ghost use Rattle.run_laws.specs.Backups.{DumpedWhole};
 use record_dump::laws::one_list;
 
 /// Whatever fails.
-pub fn whatever_fails<F, S, K, E, A, L>()
+pub fn whatever_fails<F, S, K, E, A, L, I, O>()
     // The status of a link that failed comes only where the count of faults of the one link rose that was made and given back.
-    ensures link_fault { (w : World F S K E A L) (url : List ℕ) (status : ℕ) → Outcome w (remote dump url) status → status ≡ LINK_FAILED
+    ensures link_fault { (w : World F S K E A L I O) (url : List ℕ) (status : ℕ) → Outcome w (remote dump url) status → status ≡ LINK_FAILED
         → (e : Ending) × AddsOne (linked_before w) (linked w) e × (0 < e.faults) }
     // A line that is done wrote each object of one whole list.
-    ensures whole { (w : World F S K E A L) (url : List ℕ) (status : ℕ) → Outcome w (remote dump url) status → status ≡ DONE → DumpedWhole w url }
+    ensures whole { (w : World F S K E A L I O) (url : List ℕ) (status : ℕ) → Outcome w (remote dump url) status → status ≡ DONE → DumpedWhole w url }
 {
     one_list();
 }

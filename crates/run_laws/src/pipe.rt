@@ -18,30 +18,30 @@ ghost use Rattle.run_laws.specs.Ran.{IsServed, IsUnheld};
 use http_wire::laws::one_reading;
 
 /// Whatever fails.
-pub fn whatever_fails<F, S, K, E, A, L>()
+pub fn whatever_fails<F, S, K, E, A, L, I, O>()
     // A conversation was held by a definition to some end, and the status is that of the end: each request was answered and its answer handed on before
     // anything was read but what came with it. Or none was held, and nothing was read of the input or written. So a converter that fails ends nothing.
-    ensures held { (w : World F S K E A L) (source : Source) (turns status : ℕ) → Outcome w (pipe source turns) status
+    ensures held { (w : World F S K E A L I O) (source : Source) (turns status : ℕ) → Outcome w (pipe source turns) status
         → ((l : Loaded) × (end : PipeEnd) × Means (held w) source l × Conversation (meaning_in l) (MayRise (faults_in l)) w.start turns (streams w) (InputFails w) (OutputFails w) end × (status ≡ pipe_status end))
         ⊎ (IsUnheld (FilesFail w) (IsAddressless source) status × InputStays w × OutputStays w) }
     // A fault of reading is one of the files, with nothing read or written, or comes behind the answers to the first requests;
     // one of writing comes behind those and a front of one more response.
-    ensures unread { (w : World F S K E A L) (source : Source) (turns status : ℕ) → Outcome w (pipe source turns) status → status ≡ READ_FAILED
+    ensures unread { (w : World F S K E A L I O) (source : Source) (turns status : ℕ) → Outcome w (pipe source turns) status → status ≡ READ_FAILED
         → (FilesFail w × InputStays w × OutputStays w)
         ⊎ (InputFails w × (l : Loaded) × Means (held w) source l × Conversation (meaning_in l) (MayRise (faults_in l)) w.start turns (streams w) (InputFails w) (OutputFails w) ReadFaulted) }
-    ensures unwritten { (w : World F S K E A L) (source : Source) (turns status : ℕ) → Outcome w (pipe source turns) status → status ≡ WRITE_FAILED
+    ensures unwritten { (w : World F S K E A L I O) (source : Source) (turns status : ℕ) → Outcome w (pipe source turns) status → status ≡ WRITE_FAILED
         → (l : Loaded) × Means (held w) source l × Conversation (meaning_in l) (MayRise (faults_in l)) w.start turns (streams w) (InputFails w) (OutputFails w) WriteFaulted }
     // Unless the output failed, what is written is handed on, also where the input failed.
-    ensures handed_on { (w : World F S K E A L) (source : Source) (turns status : ℕ) → Outcome w (pipe source turns) status → status ≢ WRITE_FAILED → HasHandedOn w }
+    ensures handed_on { (w : World F S K E A L I O) (source : Source) (turns status : ℕ) → Outcome w (pipe source turns) status → status ≢ WRITE_FAILED → HasHandedOn w }
     // Memory is wanted only before anything was read, 4 never comes, and 2 only where the address of a converter is none.
-    ensures unread_memory { (w : World F S K E A L) (source : Source) (turns status : ℕ) → Outcome w (pipe source turns) status → status ≡ NO_MEMORY → InputStays w }
-    ensures no_task { (w : World F S K E A L) (source : Source) (turns status : ℕ) → Outcome w (pipe source turns) status → status ≢ BAD_INPUT }
-    ensures addressless { (w : World F S K E A L) (source : Source) (turns status : ℕ) → Outcome w (pipe source turns) status → status ≡ BAD_WORDS → IsAddressless source }
+    ensures unread_memory { (w : World F S K E A L I O) (source : Source) (turns status : ℕ) → Outcome w (pipe source turns) status → status ≡ NO_MEMORY → InputStays w }
+    ensures no_task { (w : World F S K E A L I O) (source : Source) (turns status : ℕ) → Outcome w (pipe source turns) status → status ≢ BAD_INPUT }
+    ensures addressless { (w : World F S K E A L I O) (source : Source) (turns status : ℕ) → Outcome w (pipe source turns) status → status ≡ BAD_WORDS → IsAddressless source }
 {}
 
 /// Where nothing fails and the texts load, the status is that of the one end of the input, whatever was written.
-pub fn the_end_of_the_input<F, S, K, E, A, L>()
-    ensures { (w : World F S K E A L) (source : Source) (turns status : ℕ) (b : List ℕ) (requests : List Request) (end : End) → Outcome w (pipe source turns) status
+pub fn the_end_of_the_input<F, S, K, E, A, L, I, O>()
+    ensures { (w : World F S K E A L I O) (source : Source) (turns status : ℕ) (b : List ℕ) (requests : List Request) (end : End) → Outcome w (pipe source turns) status
         → input w ≡ Some b → ¬ FilesFail w → ¬ InputFails w → ¬ OutputFails w
         → IsServed (held w) source → Asks MOST_REQUESTS b requests end → (status ≡ status_of end) ⊎ (status ≡ NO_MEMORY) }
 {

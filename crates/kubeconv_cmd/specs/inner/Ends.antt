@@ -8,6 +8,7 @@ use Rattle.review_batch.specs.Answer.{IsNoRequest}
 use Rattle.place.specs.declared.PlaceFault.{PlaceFault}
 use Rattle.record_dump.specs.declared.ends.DumpEnd.{DumpEnd}
 use Rattle.far_lines.specs.declared.end.LoadEnd.{LoadEnd}
+use Rattle.serve_many.specs.Answered.{Sides}
 use Rattle.serve_input.specs.Conversed.{Start}
 use Rattle.serve_input.specs.declared.conversing.PipeEnd.{PipeEnd}
 use Rattle.output_lines.specs.declared.listening.Unserved.{Unserved}
@@ -84,10 +85,10 @@ serve_told (Err (unmet.Unserved why)) = plainly (service_status (Err why))
 serve_told (Err (unmet.Stopped stop)) = stop_told stop
 
 -- how a line of `serve` ends: by its definition it was served, or there is none
-abbrev pub Serves : (List ℕ → Option (List ℕ)) → Source → Start → Listening → Hearing → Type 0 → Type 0 → Type 0 → Result Unit Unmet → Type 0
-Serves file source start s h fails untouched silent (Ok u) = (l : Loaded) × Means file source l × Service (faults_in l) (meaning_in l) start s h DONE
-Serves file source start s h fails untouched silent (Err (unmet.Unserved why)) = (l : Loaded) × Means file source l × Service (faults_in l) (meaning_in l) start s h (service_status (Err why))
-Serves file source start s h fails untouched silent (Err (unmet.Stopped stop)) = Stops fails file source untouched stop × silent
+abbrev pub Serves : {I O : Type 0} → Sides I O → (List ℕ → Option (List ℕ)) → Source → Start → Listening → Hearing → Type 0 → Type 0 → Type 0 → Result Unit Unmet → Type 0
+Serves k file source start s h fails untouched silent (Ok u) = (l : Loaded) × Means file source l × Service (faults_in l) k (meaning_in l) start s h DONE
+Serves k file source start s h fails untouched silent (Err (unmet.Unserved why)) = (l : Loaded) × Means file source l × Service (faults_in l) k (meaning_in l) start s h (service_status (Err why))
+Serves k file source start s h fails untouched silent (Err (unmet.Stopped stop)) = Stops fails file source untouched stop × silent
 
 abbrev pub dumped_told : Result DumpEnd PlaceFault → Told
 dumped_told (Ok d) = dump_told d

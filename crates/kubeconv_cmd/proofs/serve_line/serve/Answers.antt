@@ -28,12 +28,12 @@ serve_by-requires-in-Ok-load_converted-sync-V g c κs within = search (definitio
 
 pub returns-in-Ok-clause-came : goal.returns-in-Ok-clause-came
 returns-in-Ok-clause-came g c =
-    rw c.in-BuiltIn.is (met_so (g.F.Files.file c.args.files.now) built_in _ _ _ _ _ _ (with_rules (definition_of c.in-Ok.versions)) c.serve_by.result c.met.result c.met.ensures c.in-Ok.ensures c.serve_by.ensures.came)
+    rw c.in-BuiltIn.is (met_so _ (g.F.Files.file c.args.files.now) built_in _ _ _ _ _ _ (with_rules (definition_of c.in-Ok.versions)) c.serve_by.result c.met.result c.met.ensures c.in-Ok.ensures c.serve_by.ensures.came)
 
 pub returns-in-Ok-load_files-clause-came : goal.returns-in-Ok-load_files-clause-came
 returns-in-Ok-load_files-clause-came g c =
-    rw c.in-Rules.is (met_so (g.F.Files.file c.args.files.now) (by_rules c.in-Rules.crd.now c.in-Rules.rules.now) _ _ _ _ _ _ (with_rules (definition_of c.in-Ok-load_files.versions)) c.serve_by-in-Ok-load_files.result c.met-in-Ok-load_files.result c.met-in-Ok-load_files.ensures c.in-Ok-load_files.ensures.loaded c.serve_by-in-Ok-load_files.ensures.came)
+    rw c.in-Rules.is (met_so _ (g.F.Files.file c.args.files.now) (by_rules c.in-Rules.crd.now c.in-Rules.rules.now) _ _ _ _ _ _ (with_rules (definition_of c.in-Ok-load_files.versions)) c.serve_by-in-Ok-load_files.result c.met-in-Ok-load_files.result c.met-in-Ok-load_files.ensures c.in-Ok-load_files.ensures.loaded c.serve_by-in-Ok-load_files.ensures.came)
 
 pub returns-in-Ok-load_converted-clause-came : goal.returns-in-Ok-load_converted-clause-came
 returns-in-Ok-load_converted-clause-came g c =
-    rw c.in-Converter.is (met_so (g.F.Files.file c.args.files.now) (by_converter c.in-Converter.crd.now c.in-Converter.hub.now c.in-Converter.url.now) _ _ _ _ _ _ (with_converter c.in-Ok-load_converted.found.versions.set) c.serve_by-in-Ok-load_converted.result c.met-in-Ok-load_converted.result c.met-in-Ok-load_converted.ensures c.in-Ok-load_converted.ensures.loaded c.serve_by-in-Ok-load_converted.ensures.came)
+    rw c.in-Converter.is (met_so _ (g.F.Files.file c.args.files.now) (by_converter c.in-Converter.crd.now c.in-Converter.hub.now c.in-Converter.url.now) _ _ _ _ _ _ (with_converter c.in-Ok-load_converted.found.versions.set) c.serve_by-in-Ok-load_converted.result c.met-in-Ok-load_converted.result c.met-in-Ok-load_converted.ensures c.in-Ok-load_converted.ensures.loaded c.serve_by-in-Ok-load_converted.ensures.came)

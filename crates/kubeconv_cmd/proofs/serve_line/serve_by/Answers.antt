@@ -7,4 +7,4 @@ pub serve_opened-requires-clause-limits : goal.serve_opened-requires-clause-limi
 serve_opened-requires-clause-limits g c κs within = ap (λ (b : CoreBase g.row.V.Denot). b.limits) c.in-Ok-open.ensures.base
 
 pub returns-clause-came : goal.returns-clause-came
-returns-clause-came g c = service_as g.V.Tool.Tool.faults g.V.Versions.meaning _ _ _ _ _ _ c.in-Ok-open.ensures.base c.serve_opened.ensures.came
+returns-clause-came g c = service_as g.V.Tool.Tool.faults _ g.V.Versions.meaning _ _ _ _ _ _ c.in-Ok-open.ensures.base c.serve_opened.ensures.came

@@ -98,7 +98,7 @@ returns-in-Serve-clause-place g c = rw c.in-Serve.is c.serve-came.ensures.place
 
 pub returns-in-Serve-clause-unused : goal.returns-in-Serve-clause-unused
 returns-in-Serve-clause-unused g c = λ bad.
-    bad_serve c.serve-came.result (g.F.Files.file c.args.files.now) (source_of c.in-Serve.source) _ (listening_of c.in-Serve.listening) _ (Rose (g.F.Files.faults c.args.files.now) (g.F.Files.faults c.serve-came.new.files))
+    bad_serve _ c.serve-came.result (g.F.Files.file c.args.files.now) (source_of c.in-Serve.source) _ (listening_of c.in-Serve.listening) _ (Rose (g.F.Files.faults c.args.files.now) (g.F.Files.faults c.serve-came.new.files))
     (c.serve-came.new.files ≡ c.args.files.now) (c.serve-came.new.links ≡ c.args.links.now) _ c.tell_served.result c.serve-came.ensures.came c.tell_served.ensures.status bad
 
 pub returns-in-Migrate-clause-outcome : goal.returns-in-Migrate-clause-outcome
@@ -126,7 +126,7 @@ pub returns-in-Dump-clause-outcome : goal.returns-in-Dump-clause-outcome
 returns-in-Dump-clause-outcome g c =
     let e = c.dump_line-came.ensures in
     rw c.in-Dump.is (
-      dump_outcome _ c.in-Dump.url.now c.dump_line-came.result c.tell_dumped.result e.dumped e.flushed e.cause e.placeless e.untouched refl c.tell_dumped.ensures.status c.tell_dumped.ensures.line,
+      dump_outcome _ c.in-Dump.url.now c.dump_line-came.result c.tell_dumped.result e.dumped e.flushed e.handed_on e.cause e.placeless e.untouched refl c.tell_dumped.ensures.status c.tell_dumped.ensures.line,
       refl,
       refl,
       refl,
