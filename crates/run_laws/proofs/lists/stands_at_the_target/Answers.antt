@@ -5,5 +5,5 @@ use Rattle.run_laws.proofs.Moving.{stands-in}
 use Rattle.run_laws.proofs.lists.stands_at_the_target.Goals as goal
 
 pub returns : goal.returns
-returns g = λ k l start asked count h0 handed g0 given s before after later is.
+returns g c = λ k l start asked count h0 handed g0 given s before after later is.
     stands-in (meaning_in l) STANDING (items s.log) before after later s.legal.guards is
