@@ -89,17 +89,17 @@ service_as {A} {V} faults k meaning b c told l h s same is = subst (λ (x : Core
 -- ---- how serving ended
 
 -- as many as were asked for, or fewer since a fault rose
-pub served_done : (end : ServeEnd) (number connections : Option ℕ) (P : ℕ → Type 0) → end ≡ Done
-    → UnlessNoMemory end ((n : ℕ) → number ≡ Some n → (count : ℕ) × EndsAt end connections count × P count)
-    → (n : ℕ) → number ≡ Some n → (count : ℕ) × (connections ≡ Some count) × P count
-served_done end number connections P is h =
-    subst (λ (e : ServeEnd). UnlessNoMemory e ((n : ℕ) → number ≡ Some n → (count : ℕ) × EndsAt e connections count × P count)) is h
+pub served_done : (end : ServeEnd) (number connections : Option ℕ) (R P : ℕ → Type 0) → end ≡ Done
+    → UnlessNoMemory end ((n : ℕ) → number ≡ Some n → (count : ℕ) × EndsAt end connections count × R count × P count)
+    → (n : ℕ) → number ≡ Some n → (count : ℕ) × (connections ≡ Some count) × R count × P count
+served_done end number connections R P is h =
+    subst (λ (e : ServeEnd). UnlessNoMemory e ((n : ℕ) → number ≡ Some n → (count : ℕ) × EndsAt e connections count × R count × P count)) is h
 
-pub served_fewer : (end : ServeEnd) (number connections : Option ℕ) (P : ℕ → Type 0) → end ≡ EarsFault
-    → UnlessNoMemory end ((n : ℕ) → number ≡ Some n → (count : ℕ) × EndsAt end connections count × P count)
-    → (n : ℕ) → number ≡ Some n → (count : ℕ) × IfSome connections (λ k. count < k) × P count
-served_fewer end number connections P is h =
-    subst (λ (e : ServeEnd). UnlessNoMemory e ((n : ℕ) → number ≡ Some n → (count : ℕ) × EndsAt e connections count × P count)) is h
+pub served_fewer : (end : ServeEnd) (number connections : Option ℕ) (R P : ℕ → Type 0) → end ≡ EarsFault
+    → UnlessNoMemory end ((n : ℕ) → number ≡ Some n → (count : ℕ) × EndsAt end connections count × R count × P count)
+    → (n : ℕ) → number ≡ Some n → (count : ℕ) × IfSome connections (λ k. count < k) × R count × P count
+served_fewer end number connections R P is h =
+    subst (λ (e : ServeEnd). UnlessNoMemory e ((n : ℕ) → number ≡ Some n → (count : ℕ) × EndsAt e connections count × R count × P count)) is h
 
 pub fault_rose : (end : ServeEnd) (rose same : Type 0) → end ≡ EarsFault → ServeBlames end rose same → rose
 fault_rose end rose same is h = subst (λ (e : ServeEnd). ServeBlames e rose same) is h

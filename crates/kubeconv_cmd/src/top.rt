@@ -68,6 +68,7 @@ where
         handed = A.origins;
         returned = A.returned;
         ears_faults = A.faults;
+        sides = sides A.In.left A.In.most A.Out.written A.Out.flushed;
         linked = L.returned;
       };
       start = record { boot = boot; told = C.told clock.now };
@@ -223,6 +224,7 @@ where
         handed = A.origins;
         returned = A.returned;
         ears_faults = A.faults;
+        sides = sides A.In.left A.In.most A.Out.written A.Out.flushed;
         linked = L.returned;
       };
       start = record { boot = boot; told = C.told clock.now };

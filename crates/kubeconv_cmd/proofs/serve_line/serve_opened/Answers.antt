@@ -13,7 +13,7 @@ returns-in-Err-clause-came g c =
 
 pub returns-in-Done-clause-came : goal.returns-in-Done-clause-came
 returns-in-Done-clause-came g c =
-    let all = served_done _ _ _ _ c.in-Done.is c.serve_all-served.ensures.served 0 (first_number _ _ c.requires.new) in
+    let all = served_done _ _ _ _ _ c.in-Done.is c.serve_all-served.ensures.served 0 (first_number _ _ c.requires.new) in
     answered all.0 refl all.1 (
       c.in-Ok.ensures.told,
       hired_as _ _ _ _ _ _ _ _ _ _ _ c.workers.ensures.is (answered_all g.V.Tool.Tool.faults (sides g.A.In.Source.left g.A.In.Source.most g.A.Out.Sink.written g.A.Out.Sink.flushed) g.V.Versions.meaning c.args.api.now.base c.args.api.now.base.versions (record { boot = c.args.api.now.base.boot; told = g.C.Clock.told c.args.clock.now }) _ _ _ _ all.0 _ _ _ _ _ _
@@ -22,7 +22,7 @@ returns-in-Done-clause-came g c =
 
 pub returns-in-EarsFault-clause-came : goal.returns-in-EarsFault-clause-came
 returns-in-EarsFault-clause-came g c =
-    let all = served_fewer _ _ _ _ c.in-EarsFault.is c.serve_all-served.ensures.served 0 (first_number _ _ c.requires.new) in
+    let all = served_fewer _ _ _ _ _ c.in-EarsFault.is c.serve_all-served.ensures.served 0 (first_number _ _ c.requires.new) in
     answered_fewer all.0 refl (rose_since _ _ _ c.listen_at.ensures.later (fault_rose _ _ _ c.in-EarsFault.is c.serve_all-served.ensures.blames)) all.1 (
       c.in-Ok.ensures.told,
       hired_as _ _ _ _ _ _ _ _ _ _ _ c.workers.ensures.is (answered_all g.V.Tool.Tool.faults (sides g.A.In.Source.left g.A.In.Source.most g.A.Out.Sink.written g.A.Out.Sink.flushed) g.V.Versions.meaning c.args.api.now.base c.args.api.now.base.versions (record { boot = c.args.api.now.base.boot; told = g.C.Clock.told c.args.clock.now }) _ _ _ _ all.0 _ _ _ _ _ _
