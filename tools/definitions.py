@@ -67,8 +67,7 @@ OWN_WORDS = {
     "call_texts/specs/Listing": "What is shown of a page, item by item, and the place behind it.",
     "http_routes/specs/Views": "What resources, actions, rows, pages and calls of the code are seen as.",
     "output_lines/specs/Listening": "What is told of where a server listens: the line that names a place (`Announced`).",
-    "kubeconv_cmd/specs/Serving": "What it is to serve the definition that two texts are (`Converses`), and to drill it.",
-    "kubeconv_cmd/specs/Beside": "What connections beside each other were answered, by one legal list (`ServesAll`).",
+    "kubeconv_cmd/specs/Serving": "What an input was answered (`Conversation`), and connections beside each other by one legal list (`AnsweredAll`).",
 }
 
 

@@ -12,7 +12,7 @@ use Rattle.clap.specs.declared.parser.matches.ArgMatches.{ArgMatches}
 use Rattle.clap.specs.Faults.{fault_of, level_fault}
 use Rattle.command_lines.specs.declared.words.Command.{Command}
 use Rattle.command_lines.specs.Given.{IsCommand, line_of}
-use Rattle.command_lines.specs.Lines.{Line, Remote, Values, convert, review, drill, dump, load, migrate, pipe, pipe_by, remote, serve, serve_by, task, Gives, HasAddress, HasNumbers, HasValues, IsLine, IsValue, command_word, no_values, remote_word}
+use Rattle.command_lines.specs.Lines.{Line, Remote, Values, convert, review, drill, dump, load, migrate, pipe, remote, serve, task, Gives, HasAddress, HasNumbers, HasValues, IsLine, IsValue, command_word, no_values, remote_word}
 use Rattle.command_lines.specs.inner.Parsing.{Fills, Finds, long_options, program, values_of}
 use Rattle.command_lines.proofs.LineWords.{line_found, low_fifth, no_drill, no_within, one_end, only_drill, only_remote, same_address}
 use Rattle.command_lines.proofs.Walking.{R, S}
@@ -27,14 +27,12 @@ use Rattle.command_lines.proofs.Drill.{drill_passes}
 enters : (line : Line) (values : Values) (rest : List Text) → HasValues line values
     → (fault_of program (command_word line ∷ rest) ≡ level_fault (S (command_word line) long_options) [] nothing_held rest false [])
     × (subcommand_of program (command_word line ∷ rest) ≡ Some (command_word line, rows_after (R (command_word line) long_options) [] rest))
-enters (pipe named turns) values rest has = (enters_fault (codes "pipe") _ refl refl refl rest, enters_rows (codes "pipe") _ refl refl refl rest)
+enters (pipe source turns) values rest has = (enters_fault (codes "pipe") _ refl refl refl rest, enters_rows (codes "pipe") _ refl refl refl rest)
 enters (task c r (convert to)) values rest has = (enters_fault (codes "convert") _ refl refl refl rest, enters_rows (codes "convert") _ refl refl refl rest)
 enters (task c r review) values rest has = (enters_fault (codes "review") _ refl refl refl rest, enters_rows (codes "review") _ refl refl refl rest)
 enters (drill start count) values rest has = absurd has
-enters (serve s) values rest has = (enters_fault (codes "serve") _ refl refl refl rest, enters_rows (codes "serve") _ refl refl refl rest)
+enters (serve source l) values rest has = (enters_fault (codes "serve") _ refl refl refl rest, enters_rows (codes "serve") _ refl refl refl rest)
 enters (remote work url) values rest has = absurd has
-enters (pipe_by c turns) values rest has = (enters_fault (codes "pipe") _ refl refl refl rest, enters_rows (codes "pipe") _ refl refl refl rest)
-enters (serve_by c l) values rest has = (enters_fault (codes "serve") _ refl refl refl rest, enters_rows (codes "serve") _ refl refl refl rest)
 
 enters_address : (work : Remote) (rest : List Text) → (fault_of program (remote_word work ∷ rest) ≡ level_fault (address_leaf (remote_word work)) [] nothing_held rest false [])
     × (subcommand_of program (remote_word work ∷ rest) ≡ Some (remote_word work, rows_after places [] rest))

@@ -9,7 +9,7 @@ use Rattle.command_lines.specs.declared.words.Given.{Given}
 use Rattle.command_lines.specs.declared.words.Command.{Command}
 use Rattle.command_lines.specs.declared.numbers.TheConstants.{MOST_STEPS}
 use Rattle.command_lines.specs.Given.{Within, line_of, values_in, TakesFirst, GivesOne, IsCommand}
-use Rattle.command_lines.specs.Lines.{built_in, from_files, example, no_definition, Conversion, convert, review, Line, Service, Listening, pipe, task, drill, serve, Remote, migrate, dump, load, remote, pipe_by, serve_by, Flag, crd_flag, rules_flag, hub_flag, converter_flag, to_flag, turns_flag, listen_flag, workers_flag, connections_flag, flag_text, IsValue, IsUnserved, BeginsWithOption, apart, joined, Values, no_values, value_at, with_value, Gives, no_more, one_more, remote_word, command_word, SpellsTurns, SpellsWorkers, SpellsConnections, HasConversion, HasValues, HasOptions, HasNumbers, HasAddress, IsLine}
+use Rattle.command_lines.specs.Lines.{Source, built_in, by_rules, by_converter, Task, convert, review, Line, Listening, pipe, task, drill, serve, Remote, migrate, dump, load, remote, Flag, crd_flag, rules_flag, hub_flag, converter_flag, to_flag, turns_flag, listen_flag, workers_flag, connections_flag, flag_text, IsValue, IsUnserved, BeginsWithOption, apart, joined, Values, no_values, value_at, with_value, Gives, no_more, one_more, remote_word, task_word, command_word, SpellsTurns, SpellsWorkers, SpellsConnections, HasSource, HasTarget, HasValues, HasOptions, HasNumbers, HasAddress, IsLine}
 
 -- ---- one option
 
@@ -157,29 +157,6 @@ one_connections (Some text) c d one other =
     let same : one.0 ≡ other.0 = decimal_injective one.0 other.0 (omega (arith, one.4)) (omega (arith, other.4)) (sym one.2 ∙ other.2) in
     one.1 ∙ ap (λ (n : ℕ). Some n) same ∙ sym other.1
 
-one_service : (s t : Service) → Some s.crd ≡ Some t.crd → Some s.rules ≡ Some t.rules → Some s.place ≡ Some t.place → s.workers ≡ t.workers → s.connections ≡ t.connections → s ≡ t
-one_service s t crd rules place workers connections =
-    let c : s.crd ≡ t.crd = cc in
-    let r : s.rules ≡ t.rules = cc in
-    let p : s.place ≡ t.place = cc in
-    ap (λ (x : List ℕ). record s { crd = x }) c
-    ∙ ap (λ (x : List ℕ). record { crd = t.crd; rules = x; place = s.place; workers = s.workers; connections = s.connections }) r
-    ∙ ap (λ (x : List ℕ). record { crd = t.crd; rules = t.rules; place = x; workers = s.workers; connections = s.connections }) p
-    ∙ ap (λ (n : ℕ). record { crd = t.crd; rules = t.rules; place = t.place; workers = n; connections = s.connections }) workers
-    ∙ ap (λ (o : Option ℕ). record t { connections = o }) connections
-
-one_conversion : (c d : Conversion) (v : Values) → HasConversion c v → HasConversion d v → c ≡ d
-one_conversion c d v one other =
-    let file : Some c.crd ≡ Some d.crd = sym one.0 ∙ other.0 in
-    let version : Some c.hub ≡ Some d.hub = sym one.2 ∙ other.2 in
-    let address : Some c.url ≡ Some d.url = sym one.3 ∙ other.3 in
-    let k : c.crd ≡ d.crd = cc in
-    let h : c.hub ≡ d.hub = cc in
-    let u : c.url ≡ d.url = cc in
-    ap (λ (x : List ℕ). record c { crd = x }) k
-    ∙ ap (λ (x : List ℕ). record { crd = d.crd; hub = x; url = c.url }) h
-    ∙ ap (λ (x : List ℕ). record d { url = x }) u
-
 one_listening : (l k : Listening) → Some l.place ≡ Some k.place → l.workers ≡ k.workers → l.connections ≡ k.connections → l ≡ k
 one_listening l k place workers connections =
     let p : l.place ≡ k.place = cc in
@@ -187,118 +164,81 @@ one_listening l k place workers connections =
     ∙ ap (λ (n : ℕ). record { place = k.place; workers = n; connections = l.connections }) workers
     ∙ ap (λ (o : Option ℕ). record k { connections = o }) connections
 
+-- values name one definition
+pub one_source : (a b : Source) (v : Values) → HasSource a v → HasSource b v → a ≡ b
+one_source built_in built_in v one other = refl
+one_source built_in (by_rules d s) v one other = let file : None ≡ Some d = sym one.0 ∙ other.0 in cc
+one_source built_in (by_converter d h u) v one other = let file : None ≡ Some d = sym one.0 ∙ other.0 in cc
+one_source (by_rules c r) built_in v one other = let file : Some c ≡ None = sym one.0 ∙ other.0 in cc
+one_source (by_rules c r) (by_rules d s) v one other =
+    let file : Some c ≡ Some d = sym one.0 ∙ other.0 in
+    let second : Some r ≡ Some s = sym one.1 ∙ other.1 in
+    cc
+one_source (by_rules c r) (by_converter d h u) v one other = let second : Some r ≡ None = sym one.1 ∙ other.1 in cc
+one_source (by_converter c g t) built_in v one other = let file : Some c ≡ None = sym one.0 ∙ other.0 in cc
+one_source (by_converter c g t) (by_rules d s) v one other = let second : None ≡ Some s = sym one.1 ∙ other.1 in cc
+one_source (by_converter c g t) (by_converter d h u) v one other =
+    let file : Some c ≡ Some d = sym one.0 ∙ other.0 in
+    let version : Some g ≡ Some h = sym one.2 ∙ other.2 in
+    let address : Some t ≡ Some u = sym one.3 ∙ other.3 in
+    cc
+
+-- and a word and values one task
+one_task : (t u : Task) (v : Values) → task_word t ≡ task_word u → HasTarget t v → HasTarget u v → t ≡ u
+one_task (convert a) (convert b) v e one other = let to_is : Some a ≡ Some b = sym one ∙ other in cc
+one_task (convert a) review v e one other = let to_is : Some a ≡ None = sym one ∙ other in cc
+one_task review (convert b) v e one other = let to_is : None ≡ Some b = sym one ∙ other in cc
+one_task review review v e one other = refl
+
+one_document : (c r d s : List ℕ) (t u : Task) → by_rules c r ≡ by_rules d s → t ≡ u → task c r t ≡ task d s u
+one_document c r d s t u source same = cc
+
+-- the words of a task are longer than `pipe` and `serve`
+long_task : (t : Task) → 5 < length (task_word t)
+long_task (convert to) = omega arith
+long_task review = omega arith
+
+no_task : (t : Task) (w : List ℕ) → length w ≤ 5 → w ≡ task_word t → ⊥
+no_task t w short e = let same : length w ≡ length (task_word t) = ap (λ (x : List ℕ). length x) e in omega (arith, short, same, long_task t)
+
 pub one_line : (a b : Line) (v : Values) → command_word a ≡ command_word b → HasValues a v → HasValues b v → a ≡ b
-one_line (pipe built_in m) (pipe built_in n) v e one other = ap (λ (k : ℕ). pipe built_in k) (one_number v.turns m n one.3 other.3)
-one_line (pipe built_in m) (pipe (from_files d s) n) v e one other = let crd_is : None ≡ Some d = sym one.0 ∙ other.0 in cc
-one_line (pipe built_in m) (task d s (convert w)) v e one other = let first : 112 ≡ 99 = ap (λ (s : List ℕ). get_or s 0 0) e in absurd (omega (arith, first))
-one_line (pipe built_in m) (task d s review) v e one other = let first : 112 ≡ 114 = ap (λ (s : List ℕ). get_or s 0 0) e in absurd (omega (arith, first))
-one_line (pipe built_in m) (pipe example n) v e one other = absurd other
-one_line (pipe built_in m) (pipe no_definition n) v e one other = absurd other
-one_line (pipe built_in m) (remote k u) v e one other = absurd other
-one_line (pipe built_in m) (drill a b) v e one other = absurd other
-one_line (pipe built_in m) (serve s) v e one other = let listen : None ≡ Some s.place = sym one.4.0 ∙ other.4 in cc
-one_line (pipe example m) b v e one other = absurd one
-one_line (pipe no_definition m) b v e one other = absurd one
-one_line (remote k u) b v e one other = absurd one
+one_line (pipe s m) (pipe t n) v e one other =
+    ap (λ (x : Source). pipe x m) (one_source s t v one.0 other.0) ∙ ap (λ (k : ℕ). pipe t k) (one_number v.turns m n one.2 other.2)
+one_line (pipe s m) (task d r t) v e one other = absurd (no_task t (codes "pipe") (omega arith) e)
+one_line (pipe s m) (drill x n) v e one other = absurd other
+one_line (pipe s m) (serve t l) v e one other = let listen : None ≡ Some l.place = sym one.3.0 ∙ other.4 in cc
+one_line (pipe s m) (remote k u) v e one other = absurd other
+one_line (task c r t) (pipe s n) v e one other = absurd (no_task t (codes "pipe") (omega arith) (sym e))
+one_line (task c r t) (task d s u) v e one other =
+    one_document c r d s t u (one_source (by_rules c r) (by_rules d s) v one.0 other.0) (one_task t u v e one.1 other.1)
+one_line (task c r t) (drill x n) v e one other = absurd other
+one_line (task c r t) (serve s l) v e one other = absurd (no_task t (codes "serve") (omega arith) (sym e))
+one_line (task c r t) (remote k u) v e one other = absurd other
 one_line (drill x n) b v e one other = absurd one
-one_line (pipe (from_files c r) m) (pipe built_in n) v e one other = let crd_is : Some c ≡ None = sym one.0 ∙ other.0 in cc
-one_line (pipe (from_files c r) m) (pipe (from_files d s) n) v e one other =
-    let crd_is : Some c ≡ Some d = sym one.0 ∙ other.0 in
-    let rules_is : Some r ≡ Some s = sym one.1 ∙ other.1 in
-    let turns_are : m ≡ n = one_number v.turns m n one.3 other.3 in
-    cc
-one_line (pipe (from_files c r) m) (task d s (convert w)) v e one other = let first : 112 ≡ 99 = ap (λ (s : List ℕ). get_or s 0 0) e in absurd (omega (arith, first))
-one_line (pipe (from_files c r) m) (task d s review) v e one other = let first : 112 ≡ 114 = ap (λ (s : List ℕ). get_or s 0 0) e in absurd (omega (arith, first))
-one_line (pipe (from_files c r) m) (pipe example n) v e one other = absurd other
-one_line (pipe (from_files c r) m) (pipe no_definition n) v e one other = absurd other
-one_line (pipe (from_files c r) m) (remote k u) v e one other = absurd other
-one_line (pipe (from_files c r) m) (drill a b) v e one other = absurd other
-one_line (pipe (from_files c r) m) (serve s) v e one other = let listen : None ≡ Some s.place = sym one.4.0 ∙ other.4 in cc
-one_line (task c r (convert v2)) (pipe built_in n) v e one other = let first : 99 ≡ 112 = ap (λ (s : List ℕ). get_or s 0 0) e in absurd (omega (arith, first))
-one_line (task c r (convert v2)) (pipe (from_files d s) n) v e one other = let first : 99 ≡ 112 = ap (λ (s : List ℕ). get_or s 0 0) e in absurd (omega (arith, first))
-one_line (task c r (convert v2)) (task d s (convert w)) v e one other =
-    let crd_is : Some c ≡ Some d = sym one.0 ∙ other.0 in
-    let rules_is : Some r ≡ Some s = sym one.1 ∙ other.1 in
-    let to_is : Some v2 ≡ Some w = sym one.2 ∙ other.2 in
-    cc
-one_line (task c r (convert v2)) (task d s review) v e one other = let first : 99 ≡ 114 = ap (λ (s : List ℕ). get_or s 0 0) e in absurd (omega (arith, first))
-one_line (task c r (convert v2)) (pipe example n) v e one other = absurd other
-one_line (task c r (convert v2)) (pipe no_definition n) v e one other = absurd other
-one_line (task c r (convert v2)) (remote k u) v e one other = absurd other
-one_line (task c r (convert v2)) (drill a b) v e one other = absurd other
-one_line (task c r (convert v2)) (serve s) v e one other = let listen : None ≡ Some s.place = sym one.4.0 ∙ other.4 in cc
-one_line (task c r review) (pipe built_in n) v e one other = let first : 114 ≡ 112 = ap (λ (s : List ℕ). get_or s 0 0) e in absurd (omega (arith, first))
-one_line (task c r review) (pipe (from_files d s) n) v e one other = let first : 114 ≡ 112 = ap (λ (s : List ℕ). get_or s 0 0) e in absurd (omega (arith, first))
-one_line (task c r review) (task d s (convert w)) v e one other = let first : 114 ≡ 99 = ap (λ (s : List ℕ). get_or s 0 0) e in absurd (omega (arith, first))
-one_line (task c r review) (task d s review) v e one other =
-    let crd_is : Some c ≡ Some d = sym one.0 ∙ other.0 in
-    let rules_is : Some r ≡ Some s = sym one.1 ∙ other.1 in
-    cc
-one_line (task c r review) (pipe example n) v e one other = absurd other
-one_line (task c r review) (pipe no_definition n) v e one other = absurd other
-one_line (task c r review) (remote k u) v e one other = absurd other
-one_line (task c r review) (drill a b) v e one other = absurd other
-one_line (task c r review) (serve s) v e one other = let listen : None ≡ Some s.place = sym one.4.0 ∙ other.4 in cc
-one_line (serve s) (pipe built_in n) v e one other = let listen : Some s.place ≡ None = sym one.4 ∙ other.4.0 in cc
-one_line (serve s) (pipe (from_files c r) n) v e one other = let listen : Some s.place ≡ None = sym one.4 ∙ other.4.0 in cc
-one_line (serve s) (pipe example n) v e one other = absurd other
-one_line (serve s) (pipe no_definition n) v e one other = absurd other
-one_line (serve s) (remote k u) v e one other = absurd other
-one_line (serve s) (task c r (convert w)) v e one other = let listen : Some s.place ≡ None = sym one.4 ∙ other.4.0 in cc
-one_line (serve s) (task c r review) v e one other = let listen : Some s.place ≡ None = sym one.4 ∙ other.4.0 in cc
-one_line (serve s) (drill a b) v e one other = absurd other
-one_line (serve s) (serve t) v e one other =
-    ap (λ (x : Service). serve x) (one_service s t (sym one.0 ∙ other.0) (sym one.1 ∙ other.1) (sym one.4 ∙ other.4)
-    (one_workers v.workers s.workers t.workers one.5 other.5) (one_connections v.connections s.connections t.connections one.6 other.6))
-one_line (pipe built_in m) (pipe_by k n) v e one other = let hub : None ≡ Some k.hub = sym one.5.0 ∙ other.0.2 in cc
-one_line (pipe built_in m) (serve_by k l) v e one other = let hub : None ≡ Some k.hub = sym one.5.0 ∙ other.0.2 in cc
-one_line (pipe (from_files c r) m) (pipe_by k n) v e one other = let hub : None ≡ Some k.hub = sym one.5.0 ∙ other.0.2 in cc
-one_line (pipe (from_files c r) m) (serve_by k l) v e one other = let hub : None ≡ Some k.hub = sym one.5.0 ∙ other.0.2 in cc
-one_line (task c r (convert v2)) (pipe_by k n) v e one other = let hub : None ≡ Some k.hub = sym one.5.0 ∙ other.0.2 in cc
-one_line (task c r (convert v2)) (serve_by k l) v e one other = let hub : None ≡ Some k.hub = sym one.5.0 ∙ other.0.2 in cc
-one_line (task c r review) (pipe_by k n) v e one other = let hub : None ≡ Some k.hub = sym one.5.0 ∙ other.0.2 in cc
-one_line (task c r review) (serve_by k l) v e one other = let hub : None ≡ Some k.hub = sym one.5.0 ∙ other.0.2 in cc
-one_line (serve s) (pipe_by k n) v e one other = let hub : None ≡ Some k.hub = sym one.7.0 ∙ other.0.2 in cc
-one_line (serve s) (serve_by k l) v e one other = let hub : None ≡ Some k.hub = sym one.7.0 ∙ other.0.2 in cc
-one_line (pipe_by k m) (pipe built_in n) v e one other = let hub : Some k.hub ≡ None = sym one.0.2 ∙ other.5.0 in cc
-one_line (pipe_by k m) (pipe (from_files d s) n) v e one other = let hub : Some k.hub ≡ None = sym one.0.2 ∙ other.5.0 in cc
-one_line (pipe_by k m) (task d s (convert w)) v e one other = let hub : Some k.hub ≡ None = sym one.0.2 ∙ other.5.0 in cc
-one_line (pipe_by k m) (task d s review) v e one other = let hub : Some k.hub ≡ None = sym one.0.2 ∙ other.5.0 in cc
-one_line (pipe_by k m) (serve t) v e one other = let hub : Some k.hub ≡ None = sym one.0.2 ∙ other.7.0 in cc
-one_line (pipe_by k m) (pipe example n) v e one other = absurd other
-one_line (pipe_by k m) (pipe no_definition n) v e one other = absurd other
-one_line (pipe_by k m) (remote j u) v e one other = absurd other
-one_line (pipe_by k m) (drill a b) v e one other = absurd other
-one_line (serve_by k l) (pipe built_in n) v e one other = let hub : Some k.hub ≡ None = sym one.0.2 ∙ other.5.0 in cc
-one_line (serve_by k l) (pipe (from_files d s) n) v e one other = let hub : Some k.hub ≡ None = sym one.0.2 ∙ other.5.0 in cc
-one_line (serve_by k l) (task d s (convert w)) v e one other = let hub : Some k.hub ≡ None = sym one.0.2 ∙ other.5.0 in cc
-one_line (serve_by k l) (task d s review) v e one other = let hub : Some k.hub ≡ None = sym one.0.2 ∙ other.5.0 in cc
-one_line (serve_by k l) (serve t) v e one other = let hub : Some k.hub ≡ None = sym one.0.2 ∙ other.7.0 in cc
-one_line (serve_by k l) (pipe example n) v e one other = absurd other
-one_line (serve_by k l) (pipe no_definition n) v e one other = absurd other
-one_line (serve_by k l) (remote j u) v e one other = absurd other
-one_line (serve_by k l) (drill a b) v e one other = absurd other
-one_line (pipe_by k m) (pipe_by j n) v e one other =
-    ap (λ (x : Conversion). pipe_by x m) (one_conversion k j v one.0 other.0) ∙ ap (λ (x : ℕ). pipe_by j x) (one_number v.turns m n one.1 other.1)
-one_line (pipe_by k m) (serve_by j l) v e one other = let listen : None ≡ Some l.place = sym one.2.0 ∙ other.2 in cc
-one_line (serve_by k l) (pipe_by j n) v e one other = let listen : Some l.place ≡ None = sym one.2 ∙ other.2.0 in cc
-one_line (serve_by k l) (serve_by j o) v e one other =
-    ap (λ (x : Conversion). serve_by x l) (one_conversion k j v one.0 other.0) ∙ ap (λ (x : Listening). serve_by j x) (one_listening l o (sym one.2 ∙ other.2)
-    (one_workers v.workers l.workers o.workers one.3 other.3) (one_connections v.connections l.connections o.connections one.4 other.4))
+one_line (serve s l) (pipe t n) v e one other = let listen : Some l.place ≡ None = sym one.4 ∙ other.3.0 in cc
+one_line (serve s l) (task d r t) v e one other = absurd (no_task t (codes "serve") (omega arith) e)
+one_line (serve s l) (drill x n) v e one other = absurd other
+one_line (serve s l) (serve t k) v e one other =
+    ap (λ (x : Source). serve x l) (one_source s t v one.0 other.0)
+    ∙ ap (λ (x : Listening). serve t x) (one_listening l k (sym one.4 ∙ other.4) (one_workers v.workers l.workers k.workers one.5 other.5) (one_connections v.connections l.connections k.connections one.6 other.6))
+one_line (serve s l) (remote k u) v e one other = absurd other
+one_line (remote k u) b v e one other = absurd one
 
 -- a command that isn't `serve` has none of its options
 pub none_unserved : (w : List ℕ) (v : Values) → (w ≡ codes "serve" → ⊥) → (IsUnserved v → ⊥) → (line : Line) → w ≡ command_word line → HasValues line v → ⊥
-none_unserved w v other some (pipe built_in turns) e has = some has.4
-none_unserved w v other some (pipe (from_files c r) turns) e has = some has.4
-none_unserved w v other some (pipe example turns) e has = has
-none_unserved w v other some (pipe no_definition turns) e has = has
-none_unserved w v other some (task c r (convert to)) e has = some has.4
-none_unserved w v other some (task c r review) e has = some has.4
+none_unserved w v other some (pipe source turns) e has = some has.3
+none_unserved w v other some (task c r t) e has = some has.3
 none_unserved w v other some (drill start count) e has = has
-none_unserved w v other some (serve s) e has = other e
+none_unserved w v other some (serve source l) e has = other e
 none_unserved w v other some (remote k url) e has = has
-none_unserved w v other some (pipe_by c turns) e has = some has.2
-none_unserved w v other some (serve_by c l) e has = other e
+
+-- values that name no definition are those of no line
+pub no_source : (w : List ℕ) (v : Values) → ((source : Source) → HasSource source v → ⊥) → (line : Line) → w ≡ command_word line → HasValues line v → ⊥
+no_source w v none (pipe source turns) e has = none source has.0
+no_source w v none (task c r t) e has = none (by_rules c r) has.0
+no_source w v none (drill start count) e has = has
+no_source w v none (serve source l) e has = none source has.0
+no_source w v none (remote k url) e has = has
 
 -- ---- words in memory
 
@@ -369,7 +309,7 @@ one_end ws before one other (one_more words f v r first last begins free gives) 
 
 -- a drill has no options
 pub no_drill : (rest : List (List ℕ)) (line : Line) → HasOptions (codes "drill" ∷ rest) line → ⊥
-no_drill rest (pipe named turns) l =
+no_drill rest (pipe source turns) l =
     let e : codes "drill" ≡ codes "pipe" = let same : codes "drill" ∷ rest ≡ codes "pipe" ∷ l.options = l.command in cc in
     let first : 100 ≡ 112 = ap (λ (s : List ℕ). get_or s 0 0) e in omega (arith, first)
 no_drill rest (task c r (convert to)) l =
@@ -380,13 +320,7 @@ no_drill rest (task c r review) l =
     let first : 100 ≡ 114 = ap (λ (s : List ℕ). get_or s 0 0) e in omega (arith, first)
 no_drill rest (drill start count) l = l.has
 no_drill rest (remote k url) l = l.has
-no_drill rest (serve s) l =
-    let e : codes "drill" ≡ codes "serve" = let same : codes "drill" ∷ rest ≡ codes "serve" ∷ l.options = l.command in cc in
-    let first : 100 ≡ 115 = ap (λ (s : List ℕ). get_or s 0 0) e in omega (arith, first)
-no_drill rest (pipe_by k turns) l =
-    let e : codes "drill" ≡ codes "pipe" = let same : codes "drill" ∷ rest ≡ codes "pipe" ∷ l.options = l.command in cc in
-    let first : 100 ≡ 112 = ap (λ (s : List ℕ). get_or s 0 0) e in omega (arith, first)
-no_drill rest (serve_by k s) l =
+no_drill rest (serve source s) l =
     let e : codes "drill" ≡ codes "serve" = let same : codes "drill" ∷ rest ≡ codes "serve" ∷ l.options = l.command in cc in
     let first : 100 ≡ 115 = ap (λ (s : List ℕ). get_or s 0 0) e in omega (arith, first)
 
@@ -484,7 +418,7 @@ low_fifth load = omega arith
 
 -- no other line begins with the word of one that works at an address
 pub no_within : (k : Remote) (rest : List (List ℕ)) (line : Line) → Within (remote_word k ∷ rest) line → ⊥
-no_within k rest (pipe named turns) (inl l) =
+no_within k rest (pipe source turns) (inl l) =
     let e : remote_word k ≡ codes "pipe" = let same : remote_word k ∷ rest ≡ codes "pipe" ∷ l.options = l.command in cc in
     let third : get_or (remote_word k) 2 0 ≡ 112 = ap (λ (s : List ℕ). get_or s 2 0) e in omega (arith, third, low_third k)
 no_within k rest (task c r (convert to)) (inl l) =
@@ -495,13 +429,7 @@ no_within k rest (task c r review) (inl l) =
     let third : get_or (remote_word k) 2 0 ≡ 118 = ap (λ (s : List ℕ). get_or s 2 0) e in omega (arith, third, low_third k)
 no_within k rest (drill start count) (inl l) = l.has
 no_within k rest (remote j url) (inl l) = l.has
-no_within k rest (serve s) (inl l) =
-    let e : remote_word k ≡ codes "serve" = let same : remote_word k ∷ rest ≡ codes "serve" ∷ l.options = l.command in cc in
-    let third : get_or (remote_word k) 2 0 ≡ 114 = ap (λ (s : List ℕ). get_or s 2 0) e in omega (arith, third, low_third k)
-no_within k rest (pipe_by c turns) (inl l) =
-    let e : remote_word k ≡ codes "pipe" = let same : remote_word k ∷ rest ≡ codes "pipe" ∷ l.options = l.command in cc in
-    let third : get_or (remote_word k) 2 0 ≡ 112 = ap (λ (s : List ℕ). get_or s 2 0) e in omega (arith, third, low_third k)
-no_within k rest (serve_by c s) (inl l) =
+no_within k rest (serve source s) (inl l) =
     let e : remote_word k ≡ codes "serve" = let same : remote_word k ∷ rest ≡ codes "serve" ∷ l.options = l.command in cc in
     let third : get_or (remote_word k) 2 0 ≡ 114 = ap (λ (s : List ℕ). get_or s 2 0) e in omega (arith, third, low_third k)
 no_within k rest line (inr h) =

@@ -1,12 +1,10 @@
 -- What the types of the code stand for: a line, options, and one option taken of words.
 use Rattle.std.specs.Prelude.{◌≡◌, ◌⊎◌, ℕ, List, Option, MatchOption, option_map, map, string_bytes}
-use Rattle.command_lines.specs.declared.words.Named.{Named as NamedCode}
-use Rattle.command_lines.specs.declared.words.Named.TheVariants as named
+use Rattle.command_lines.specs.declared.source.Source.{Source as SourceCode}
+use Rattle.command_lines.specs.declared.source.Source.TheVariants as sources
 use Rattle.command_lines.specs.declared.words.Task.{Task as TaskCode}
 use Rattle.command_lines.specs.declared.words.Task.TheVariants as tasks
-use Rattle.command_lines.specs.declared.service.Service.{Service as ServiceCode}
-use Rattle.command_lines.specs.declared.conversion.Conversion.{Conversion as ConversionCode}
-use Rattle.command_lines.specs.declared.conversion.Listening.{Listening as ListeningCode}
+use Rattle.command_lines.specs.declared.service.Listening.{Listening as ListeningCode}
 use Rattle.command_lines.specs.declared.words.Command.{Command}
 use Rattle.command_lines.specs.declared.words.Command.TheVariants as commands
 use Rattle.command_lines.specs.declared.words.Remote.{Remote as RemoteCode}
@@ -15,35 +13,28 @@ use Rattle.command_lines.specs.declared.words.Flag.{Flag as FlagCode}
 use Rattle.command_lines.specs.declared.words.Flag.TheVariants as flags
 use Rattle.command_lines.specs.declared.words.Taken.{Taken}
 use Rattle.command_lines.specs.declared.words.Given.{Given}
-use Rattle.command_lines.specs.Lines.{Named, built_in, from_files, Conversion, Task, convert, review, Remote, migrate, dump, load, Line, Service, Listening, pipe, task, drill, serve, remote, pipe_by, serve_by, Flag, crd_flag, rules_flag, hub_flag, converter_flag, to_flag, turns_flag, listen_flag, workers_flag, connections_flag, BeginsWithOption, Values, Gives, command_word, HasConversion, HasValues, HasOptions, HasNumbers}
+use Rattle.command_lines.specs.Lines.{Source, built_in, by_rules, by_converter, Task, convert, review, Remote, migrate, dump, load, Line, Listening, pipe, task, drill, serve, remote, Flag, crd_flag, rules_flag, hub_flag, converter_flag, to_flag, turns_flag, listen_flag, workers_flag, connections_flag, BeginsWithOption, Values, Gives, command_word, HasSource, HasValues, HasOptions, HasNumbers}
 
-abbrev pub named_of : NamedCode → Named
-named_of named.BuiltIn = built_in
-named_of (named.FromFiles crd rules) = from_files crd.now rules.now
+abbrev pub source_of : SourceCode → Source
+source_of sources.BuiltIn = built_in
+source_of (sources.Rules crd rules) = by_rules crd.now rules.now
+source_of (sources.Converter crd hub url) = by_converter crd.now hub.now url.now
 
 abbrev pub task_of : TaskCode → Task
 task_of (tasks.Convert to) = convert to.now
 task_of tasks.Review = review
 
-abbrev pub service_of : ServiceCode → Service
-service_of s = record { crd = s.crd.now; rules = s.rules.now; place = s.place.now; workers = s.workers; connections = s.connections }
-
-abbrev pub conversion_of : ConversionCode → Conversion
-conversion_of c = record { crd = c.crd.now; hub = c.hub.now; url = c.url.now }
-
 abbrev pub listening_of : ListeningCode → Listening
 listening_of l = record { place = l.place.now; workers = l.workers; connections = l.connections }
 
 abbrev pub line_of : Command → Line
-line_of (commands.Pipe n turns) = pipe (named_of n) turns
+line_of (commands.Pipe source turns) = pipe (source_of source) turns
 line_of (commands.Task crd rules t) = task crd.now rules.now (task_of t)
 line_of (commands.Drill start count) = drill start count
-line_of (commands.Serve s) = serve (service_of s)
+line_of (commands.Serve source l) = serve (source_of source) (listening_of l)
 line_of (commands.Migrate url) = remote migrate url.now
 line_of (commands.Dump url) = remote dump url.now
 line_of (commands.Load url) = remote load url.now
-line_of (commands.PipeBy c turns) = pipe_by (conversion_of c) turns
-line_of (commands.ServeBy c l) = serve_by (conversion_of c) (listening_of l)
 
 abbrev pub remote_in : RemoteCode → Remote
 remote_in remotes.Migrate = migrate
@@ -82,9 +73,9 @@ IsCommand word values o = MatchOption o
     ((line : Line) → word ≡ command_word line → HasValues line values → ⊥)
     (λ c. (word ≡ command_word (line_of c)) × HasValues (line_of c) values)
 
--- the definition with a converter that the values name, and none where nothing is told
-abbrev pub IsConversion : Values → Option ConversionCode → Type 0
-IsConversion values o = MatchOption o ((c : Conversion) → HasConversion c values → ⊥) (λ c. HasConversion (conversion_of c) values)
+-- the definition that the values name, and none where nothing is told
+abbrev pub IsSource : Values → Option SourceCode → Type 0
+IsSource values o = MatchOption o ((source : Source) → HasSource source values → ⊥) (λ s. HasSource (source_of s) values)
 
 -- the words are this line, which doesn't work on a server from outside
 abbrev pub Within : List (List ℕ) → Line → Type 0

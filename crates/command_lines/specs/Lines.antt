@@ -4,20 +4,12 @@ use Rattle.command_lines.specs.declared.turns.TheConstants.{MOST_TURNS}
 use Rattle.command_lines.specs.declared.numbers.TheConstants.{MOST_STEPS}
 use Rattle.command_lines.specs.declared.service.TheConstants.{USUAL_WORKERS, MOST_WORKERS, MOST_CONNECTIONS}
 
--- the definition that a line names: the one that is built in, the one of a file, with the rules of conversion of another, or the
--- shared example; a line that works on a server from outside has none, and one with a converter has no rules
-pub data Named : Type 0 where
-  built_in : Named
-  from_files : List ℕ → List ℕ → Named
-  example : Named
-  no_definition : Named
-
--- a definition whose objects a converter turns: that of the file `crd`, whose hub is the version of the name `hub`, and the converter at
--- the address `url`
-pub record Conversion : Type 0 where
-  pub crd : List ℕ
-  pub hub : List ℕ
-  pub url : List ℕ
+-- Where the definition of a line comes from: it is built in; it is that of the file `crd`, with the rules of conversion of another; or it is that
+-- of a file with the version of the name `hub` as its hub, and its objects are turned by the converter at the address `url`.
+pub data Source : Type 0 where
+  built_in : Source
+  by_rules : (crd rules : List ℕ) → Source
+  by_converter : (crd hub url : List ℕ) → Source
 
 -- what is done with one document
 pub data Task : Type 0 where
@@ -35,17 +27,7 @@ pub data Remote : Type 0 where
   -- each line of the input is posted, as a new one
   load : Remote
 
--- whose connections are answered: by the definition of one file with the rules of another, at a place, with so many workers beside
--- them, and so many of them where a number is given
-pub record Service : Type 0 where
-  pub crd : List ℕ
-  pub rules : List ℕ
-  pub place : List ℕ
-  pub workers : ℕ
-  pub connections : Option ℕ
-
--- the same where a definition is named otherwise: connections are answered at a place, with so many workers beside them, and so many of
--- them where a number is given
+-- where connections are answered, with so many workers beside them, and so many of them where a number is given
 pub record Listening : Type 0 where
   pub place : List ℕ
   pub workers : ℕ
@@ -53,29 +35,15 @@ pub record Listening : Type 0 where
 
 pub data Line : Type 0 where
   -- answers requests by a definition, and takes so many turns of a worker after each answer
-  pipe : Named → ℕ → Line
+  pipe : Source → ℕ → Line
   -- reads one document and writes one line, by the definition of one file with the rules of another
-  task : List ℕ → List ℕ → Task → Line
+  task : (crd rules : List ℕ) → Task → Line
   -- takes so many steps, which are drawn from the state of the first number on
   drill : ℕ → ℕ → Line
-  -- answers connections
-  serve : Service → Line
+  -- answers connections by a definition
+  serve : Source → Listening → Line
   -- works on a server from outside, at the place of this address
   remote : Remote → List ℕ → Line
-  -- answers requests as `pipe` does, by a definition whose objects a converter turns
-  pipe_by : Conversion → ℕ → Line
-  -- answers connections as `serve` does, by such a definition
-  serve_by : Conversion → Listening → Line
-
--- the definition that a line names; that of a converter has one file, and is none of these
-abbrev pub named_in : Line → Named
-named_in (pipe named turns) = named
-named_in (task crd rules t) = from_files crd rules
-named_in (drill start count) = example
-named_in (serve s) = from_files s.crd s.rules
-named_in (remote work url) = no_definition
-named_in (pipe_by c turns) = no_definition
-named_in (serve_by c l) = no_definition
 
 -- ---- options
 
@@ -166,15 +134,16 @@ remote_word migrate = codes "migrate"
 remote_word dump = codes "dump"
 remote_word load = codes "load"
 
+abbrev pub task_word : Task → List ℕ
+task_word (convert to) = codes "convert"
+task_word review = codes "review"
+
 abbrev pub command_word : Line → List ℕ
-command_word (pipe named turns) = codes "pipe"
-command_word (task crd rules (convert to)) = codes "convert"
-command_word (task crd rules review) = codes "review"
+command_word (pipe source turns) = codes "pipe"
+command_word (task crd rules t) = task_word t
 command_word (drill start count) = codes "drill"
-command_word (serve s) = codes "serve"
+command_word (serve source l) = codes "serve"
 command_word (remote work url) = remote_word work
-command_word (pipe_by c turns) = codes "pipe"
-command_word (serve_by c l) = codes "serve"
 
 -- how many turns are spelled: in decimal digits without leading zeros, up to the most; none where nothing is given
 abbrev pub SpellsTurns : Option (List ℕ) → ℕ → Type 0
@@ -195,30 +164,32 @@ SpellsConnections (Some text) connections = (n : ℕ) × (connections ≡ Some n
 abbrev pub IsUnserved : Values → Type 0
 IsUnserved v = (v.listen ≡ None) × (v.workers ≡ None) × (v.connections ≡ None)
 
--- no option of a converter is given
-abbrev pub IsUnconverted : Values → Type 0
-IsUnconverted v = (v.hub ≡ None) × (v.converter ≡ None)
+-- a definition is named by no option, by its file and that of its rules, or by its file, its hub and the converter's address, all three
+abbrev pub HasSource : Source → Values → Type 0
+HasSource built_in v = (v.crd ≡ None) × (v.rules ≡ None) × (v.hub ≡ None) × (v.converter ≡ None)
+HasSource (by_rules crd rules) v = (v.crd ≡ Some crd) × (v.rules ≡ Some rules) × (v.hub ≡ None) × (v.converter ≡ None)
+HasSource (by_converter crd hub url) v = (v.crd ≡ Some crd) × (v.rules ≡ None) × (v.hub ≡ Some hub) × (v.converter ≡ Some url)
 
--- a definition with a converter is named: its file, its hub and the converter's address, all three, and no rules
-abbrev pub HasConversion : Conversion → Values → Type 0
-HasConversion c v = (v.crd ≡ Some c.crd) × (v.rules ≡ None) × (v.hub ≡ Some c.hub) × (v.converter ≡ Some c.url) × (v.to ≡ None)
+-- the definition isn't the one that is built in
+abbrev pub IsNamed : Source → Type 0
+IsNamed built_in = ⊥
+IsNamed (by_rules crd rules) = Unit {0}
+IsNamed (by_converter crd hub url) = Unit {0}
+
+-- the version that a document is converted to
+abbrev pub HasTarget : Task → Values → Type 0
+HasTarget (convert to) v = v.to ≡ Some to
+HasTarget review v = v.to ≡ None
 
 -- the options that a line has, in any order, are given with these values; a drill has none, and two numbers in their place, and a line that
 -- works on a server an address
 abbrev pub HasValues : Line → Values → Type 0
-HasValues (pipe built_in turns) v = (v.crd ≡ None) × (v.rules ≡ None) × (v.to ≡ None) × SpellsTurns v.turns turns × IsUnserved v × IsUnconverted v
-HasValues (pipe (from_files crd rules) turns) v = (v.crd ≡ Some crd) × (v.rules ≡ Some rules) × (v.to ≡ None) × SpellsTurns v.turns turns × IsUnserved v × IsUnconverted v
-HasValues (pipe example turns) v = ⊥
-HasValues (pipe no_definition turns) v = ⊥
-HasValues (task crd rules (convert to)) v = (v.crd ≡ Some crd) × (v.rules ≡ Some rules) × (v.to ≡ Some to) × (v.turns ≡ None) × IsUnserved v × IsUnconverted v
-HasValues (task crd rules review) v = (v.crd ≡ Some crd) × (v.rules ≡ Some rules) × (v.to ≡ None) × (v.turns ≡ None) × IsUnserved v × IsUnconverted v
+HasValues (pipe source turns) v = HasSource source v × (v.to ≡ None) × SpellsTurns v.turns turns × IsUnserved v
+HasValues (task crd rules t) v = HasSource (by_rules crd rules) v × HasTarget t v × (v.turns ≡ None) × IsUnserved v
 HasValues (drill start count) v = ⊥
-HasValues (serve s) v = (v.crd ≡ Some s.crd) × (v.rules ≡ Some s.rules) × (v.to ≡ None) × (v.turns ≡ None)
-    × (v.listen ≡ Some s.place) × SpellsWorkers v.workers s.workers × SpellsConnections v.connections s.connections × IsUnconverted v
-HasValues (remote work url) v = ⊥
-HasValues (pipe_by c turns) v = HasConversion c v × SpellsTurns v.turns turns × IsUnserved v
-HasValues (serve_by c l) v = HasConversion c v × (v.turns ≡ None)
+HasValues (serve source l) v = HasSource source v × IsNamed source × (v.to ≡ None) × (v.turns ≡ None)
     × (v.listen ≡ Some l.place) × SpellsWorkers v.workers l.workers × SpellsConnections v.connections l.connections
+HasValues (remote work url) v = ⊥
 
 -- the words are this line, a command with its options
 pub record HasOptions (words : List (List ℕ)) (line : Line) : Type 0 where

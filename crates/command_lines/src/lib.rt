@@ -5,8 +5,6 @@
 //! wanted to read a line. It knows nothing of what a line does, nor of what the files hold that it names.
 #![tactic(auto)]
 
-mod conversion;
-mod conversion_words;
 mod drill_words;
 mod list;
 mod matching;
@@ -14,13 +12,14 @@ mod numbers;
 mod program;
 mod serve_words;
 mod service;
+mod source;
 mod turns;
 mod words;
 
-pub use conversion::{Conversion, Listening};
 pub use list::Words;
 pub use matching::read_command;
 pub use numbers::MOST_STEPS;
-pub use service::{MOST_CONNECTIONS, MOST_WORKERS, Service, USUAL_WORKERS};
+pub use service::{Listening, MOST_CONNECTIONS, MOST_WORKERS, USUAL_WORKERS};
+pub use source::Source;
 pub use turns::MOST_TURNS;
-pub use words::{Command, Named, Task};
+pub use words::{Command, Task};

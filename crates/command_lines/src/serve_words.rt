@@ -1,10 +1,11 @@
 //! The options of `serve`.
 ghost use Rattle.std.specs.Prelude.{◌≡◌, ◌≤◌, ℕ, Option, None, Some, IfSome, MatchBool, MatchOption, option_map, codes};
-ghost use Rattle.command_lines.specs.Lines.{IsUnconverted, IsUnserved, SpellsConnections, SpellsWorkers};
-ghost use Rattle.command_lines.specs.Given.{values_in, IsCommand};
+ghost use Rattle.command_lines.specs.Lines.{HasSource, IsNamed, IsUnserved, SpellsConnections, SpellsWorkers};
+ghost use Rattle.command_lines.specs.Given.{source_of, values_in, IsCommand};
 
 use crate::numbers::number_up_to;
-use crate::service::{MOST_CONNECTIONS, MOST_WORKERS, Service, USUAL_WORKERS};
+use crate::service::{Listening, MOST_CONNECTIONS, MOST_WORKERS, USUAL_WORKERS};
+use crate::source::Source;
 use crate::words::{Command, Given};
 
 /// So many workers as an option's value spells, or `None` exactly where it spells none that there may be.
@@ -63,36 +64,38 @@ pub(crate) fn is_unserved(given: Given<'_>) -> bool
     }
 }
 
-// The line of `serve` with the options that aren't `--to` and `--turns`, where these numbers are spelled.
-fn serve_with<'a>(given: Given<'a>, workers: u64, connections: Option<u64>) -> Option<Command<'a>>
-    requires unconverted { IsUnconverted (values_in given) }
+// The line of `serve` by this definition with the options that aren't `--to` and `--turns`, where these numbers are spelled.
+fn serve_with<'a>(
+    given: Given<'a>,
+    source: Source<'a>,
+    workers: u64,
+    connections: Option<u64>,
+) -> Option<Command<'a>>
+    requires source { HasSource (source_of source) (values_in given) }
+    requires named { IsNamed (source_of source) }
     requires others { ((values_in given).to ≡ None) × ((values_in given).turns ≡ None) }
     requires few { workers ≤ MOST_WORKERS }
     requires workers { SpellsWorkers (values_in given).workers workers }
     requires connections { SpellsConnections (values_in given).connections connections }
     ensures { IsCommand (codes "serve") (values_in given.entry) result }
 {
-    match given.crd {
+    match given.listen {
         None => None,
-        Some(crd) => match given.rules {
-            None => None,
-            Some(rules) => match given.listen {
-                None => None,
-                Some(place) => Some(Command::Serve(Service {
-                    crd,
-                    rules,
-                    place,
-                    workers,
-                    connections,
-                })),
+        Some(place) => Some(Command::Serve {
+            source,
+            listening: Listening {
+                place,
+                workers,
+                connections,
             },
-        },
+        }),
     }
 }
 
-// The line of `serve` with the options that aren't `--to` and `--turns`.
-fn serve_numbers<'a>(given: Given<'a>) -> Option<Command<'a>>
-    requires unconverted { IsUnconverted (values_in given) }
+// The line of `serve` by this definition with the options that aren't `--to` and `--turns`.
+fn serve_numbers<'a>(given: Given<'a>, source: Source<'a>) -> Option<Command<'a>>
+    requires source { HasSource (source_of source) (values_in given) }
+    requires named { IsNamed (source_of source) }
     requires others { ((values_in given).to ≡ None) × ((values_in given).turns ≡ None) }
     ensures { IsCommand (codes "serve") (values_in given.entry) result }
 {
@@ -100,21 +103,22 @@ fn serve_numbers<'a>(given: Given<'a>) -> Option<Command<'a>>
         None => None,
         Some(workers) => match connections_of(given.connections) {
             None => None,
-            Some(connections) => serve_with(given, workers, connections),
+            Some(connections) => serve_with(given, source, workers, connections),
         },
     }
 }
 
-/// The line of `serve` with these options, of which none is of a converter.
-pub(crate) fn serve_of<'a>(given: Given<'a>) -> Option<Command<'a>>
-    requires { IsUnconverted (values_in given) }
+/// The line of `serve` by this definition with these options.
+pub(crate) fn serve_of<'a>(given: Given<'a>, source: Source<'a>) -> Option<Command<'a>>
+    requires source { HasSource (source_of source) (values_in given) }
+    requires named { IsNamed (source_of source) }
     ensures { IsCommand (codes "serve") (values_in given.entry) result }
 {
     match given.to {
         Some(_) => None,
         None => match given.turns {
             Some(_) => None,
-            None => serve_numbers(given),
+            None => serve_numbers(given, source),
         },
     }
 }

@@ -11,19 +11,16 @@ pub const USUAL_WORKERS: u64 = 2;
 /// So many connections are waited for at most, where a number is given.
 pub const MOST_CONNECTIONS: u64 = 1_000_000;
 
-/// Whose connections are answered: the place at which they come, so many of them where a number is given, with so many workers
-/// beside them.
+/// Where connections come, and so many of them where a number is given, with so many workers beside them.
 #[derive(Clone, Copy)]
-pub struct Service<'a> {
-    pub crd: &'a str,
-    pub rules: &'a str,
+pub struct Listening<'a> {
     pub place: &'a str,
     pub(crate) workers: u64,
     pub connections: Option<u64>,
     ghost few: { workers ≤ MOST_WORKERS },
 }
 
-impl<'a> Service<'a> {
+impl<'a> Listening<'a> {
     /// So many workers are beside the connections, 15 at most.
     pub fn workers(&self) -> u64
         ensures is { result ≡ self.now.workers }

@@ -1,22 +1,14 @@
 //! The words of the command line.
 ghost use Rattle.std.specs.Prelude.{◌≡◌, ◌≢◌, ◌≤◌, ◌<◌, ◌↔◌, ◌++◌, ◌∷◌, [], ℕ, List, None, IfSome, IsTrue, MatchOption, codes, map, length, option_map, string_bytes};
-ghost use Rattle.command_lines.specs.Lines.{Line, Remote as RemoteView, remote, remote_word, Flag as FlagView, HasAddress, HasOptions, IsLine, IsUnconverted, IsUnserved, IsValue, SpellsTurns, crd_flag, rules_flag, hub_flag, converter_flag, to_flag, listen_flag, workers_flag, connections_flag, flag_text, value_at, with_value};
-ghost use Rattle.command_lines.specs.Given.{Within, line_of, remote_in, flag_in, values_in, TakesFirst, GivesOne, IsCommand};
+ghost use Rattle.command_lines.specs.Lines.{Line, Remote as RemoteView, remote, remote_word, Flag as FlagView, HasAddress, HasOptions, HasSource, IsLine, IsUnserved, IsValue, by_rules, crd_flag, rules_flag, hub_flag, converter_flag, to_flag, listen_flag, workers_flag, connections_flag, flag_text, value_at, with_value};
+ghost use Rattle.command_lines.specs.Given.{Within, line_of, remote_in, source_of as source_in, flag_in, values_in, TakesFirst, GivesOne, IsCommand};
 
-use crate::conversion::{Conversion, Listening};
-use crate::conversion_words::{converted, is_unconverted};
 use crate::drill_words::drill_of;
 use crate::list::Words;
 use crate::serve_words::{is_unserved, serve_of};
-use crate::service::Service;
+use crate::service::Listening;
+use crate::source::{Source, source_of};
 use crate::turns::turns_of;
-
-/// The definition that a line names: the one that is built in, or that of two files.
-#[derive(Clone, Copy)]
-pub enum Named<'a> {
-    BuiltIn,
-    FromFiles { crd: &'a str, rules: &'a str },
-}
 
 /// What is done with one document: it is converted to a version, or it is a review.
 #[derive(Clone, Copy)]
@@ -30,7 +22,7 @@ pub enum Task<'a> {
 pub enum Command<'a> {
     /// To answer the requests of the input, and to take so many turns of a worker after each answer.
     Pipe {
-        named: Named<'a>,
+        source: Source<'a>,
         turns: u64,
     },
     /// To read one document, and to write one line.
@@ -45,7 +37,10 @@ pub enum Command<'a> {
         count: u64,
     },
     /// To answer connections.
-    Serve(Service<'a>),
+    Serve {
+        source: Source<'a>,
+        listening: Listening<'a>,
+    },
     /// To put each object back that a server lists at the place of this address.
     Migrate {
         url: &'a str,
@@ -57,16 +52,6 @@ pub enum Command<'a> {
     /// To post each line of the input to the place of this address.
     Load {
         url: &'a str,
-    },
-    /// To answer the requests of the input, as `Pipe` does, by a definition whose objects a converter turns.
-    PipeBy {
-        conversion: Conversion<'a>,
-        turns: u64,
-    },
-    /// To answer connections, as `Serve` does, by such a definition.
-    ServeBy {
-        conversion: Conversion<'a>,
-        listening: Listening<'a>,
     },
 }
 
@@ -345,130 +330,122 @@ fn give<'a>(words: &'a [String], given: Given<'a>) -> Option<Given<'a>>
     }
 }
 
-// The line of `pipe` with these options, where so many turns are spelled.
-fn pipe_with<'a>(given: Given<'a>, turns: u64) -> Option<Command<'a>>
+// The line of `pipe` by this definition, where no option of `serve` alone is given.
+fn pipe_with<'a>(given: Given<'a>, source: Source<'a>) -> Option<Command<'a>>
+    requires source { HasSource (source_in source) (values_in given) }
     requires unserved { IsUnserved (values_in given) }
-    requires unconverted { IsUnconverted (values_in given) }
-    requires turns { SpellsTurns (values_in given).turns turns }
     ensures { IsCommand (codes "pipe") (values_in given.entry) result }
 {
     match given.to {
         Some(_) => None,
-        None => match given.crd {
-            Some(crd) => match given.rules {
-                Some(rules) => Some(Command::Pipe {
-                    named: Named::FromFiles { crd, rules },
-                    turns,
-                }),
-                None => None,
-            },
-            None => match given.rules {
-                Some(_) => None,
-                None => Some(Command::Pipe {
-                    named: Named::BuiltIn,
-                    turns,
-                }),
-            },
+        None => match turns_of(given.turns) {
+            Some(turns) => Some(Command::Pipe { source, turns }),
+            None => None,
         },
     }
 }
 
-// The line of `pipe` with these options.
-fn pipe_of<'a>(given: Given<'a>) -> Option<Command<'a>>
+// The line of `convert` with these two files, where no option of `serve` alone and no number of turns is given.
+fn convert_with<'a>(given: Given<'a>, crd: &'a str, rules: &'a str) -> Option<Command<'a>>
+    requires source { HasSource (by_rules crd.now rules.now) (values_in given) }
     requires unserved { IsUnserved (values_in given) }
-    requires unconverted { IsUnconverted (values_in given) }
-    ensures { IsCommand (codes "pipe") (values_in given.entry) result }
-{
-    match turns_of(given.turns) {
-        Some(turns) => pipe_with(given, turns),
-        None => None,
-    }
-}
-
-// The line of `convert` with the options that aren't `--turns`.
-fn convert_with<'a>(given: Given<'a>) -> Option<Command<'a>>
-    requires unserved { IsUnserved (values_in given) }
-    requires unconverted { IsUnconverted (values_in given) }
     requires turns { (values_in given).turns ≡ None }
     ensures { IsCommand (codes "convert") (values_in given.entry) result }
 {
     match given.to {
         None => None,
-        Some(to) => match given.crd {
-            None => None,
-            Some(crd) => match given.rules {
-                None => None,
-                Some(rules) => Some(Command::Task {
-                    crd,
-                    rules,
-                    task: Task::Convert { to },
-                }),
-            },
-        },
+        Some(to) => Some(Command::Task {
+            crd,
+            rules,
+            task: Task::Convert { to },
+        }),
     }
 }
 
-// The line of `convert` with these options.
-fn convert_of<'a>(given: Given<'a>) -> Option<Command<'a>>
+// The line of `review` with these two files, where no option of `serve` alone and no number of turns is given.
+fn review_with<'a>(given: Given<'a>, crd: &'a str, rules: &'a str) -> Option<Command<'a>>
+    requires source { HasSource (by_rules crd.now rules.now) (values_in given) }
     requires unserved { IsUnserved (values_in given) }
-    requires unconverted { IsUnconverted (values_in given) }
-    ensures { IsCommand (codes "convert") (values_in given.entry) result }
-{
-    match given.turns {
-        Some(_) => None,
-        None => convert_with(given),
-    }
-}
-
-// The line of `review` with the options that aren't `--turns`.
-fn review_with<'a>(given: Given<'a>) -> Option<Command<'a>>
-    requires unserved { IsUnserved (values_in given) }
-    requires unconverted { IsUnconverted (values_in given) }
     requires turns { (values_in given).turns ≡ None }
     ensures { IsCommand (codes "review") (values_in given.entry) result }
 {
     match given.to {
         Some(_) => None,
-        None => match given.crd {
-            None => None,
-            Some(crd) => match given.rules {
-                None => None,
-                Some(rules) => Some(Command::Task {
-                    crd,
-                    rules,
-                    task: Task::Review,
-                }),
-            },
-        },
+        None => Some(Command::Task {
+            crd,
+            rules,
+            task: Task::Review,
+        }),
     }
 }
 
-// The line of `review` with these options.
-fn review_of<'a>(given: Given<'a>) -> Option<Command<'a>>
+// The line of a command for one document with these two files, where no option of `serve` alone is given.
+fn task_with<'a>(word: &str, given: Given<'a>, crd: &'a str, rules: &'a str) -> Option<Command<'a>>
+    requires source { HasSource (by_rules crd.now rules.now) (values_in given) }
     requires unserved { IsUnserved (values_in given) }
-    requires unconverted { IsUnconverted (values_in given) }
-    ensures { IsCommand (codes "review") (values_in given.entry) result }
+    requires other { word.now ≢ codes "pipe" }
+    requires unserving { word.now ≢ codes "serve" }
+    ensures { IsCommand word.now (values_in given.entry) result }
 {
     match given.turns {
         Some(_) => None,
-        None => review_with(given),
+        None => {
+            if word == "convert" {
+                convert_with(given, crd, rules)
+            } else if word == "review" {
+                review_with(given, crd, rules)
+            } else {
+                None
+            }
+        }
     }
 }
 
-// The line of a command with these options, of which none is of `serve` alone or of a converter.
-fn unserved<'a>(word: &str, given: Given<'a>) -> Option<Command<'a>>
+// The line of a command for one document by this definition, where no option of `serve` alone is given.
+fn task_of<'a>(word: &str, given: Given<'a>, source: Source<'a>) -> Option<Command<'a>>
+    requires source { HasSource (source_in source) (values_in given) }
     requires unserved { IsUnserved (values_in given) }
-    requires unconverted { IsUnconverted (values_in given) }
+    requires other { word.now ≢ codes "pipe" }
+    requires unserving { word.now ≢ codes "serve" }
+    ensures { IsCommand word.now (values_in given.entry) result }
+{
+    match source {
+        Source::BuiltIn => None,
+        Source::Rules { crd, rules } => task_with(word, given, crd, rules),
+        Source::Converter {
+            crd: _,
+            hub: _,
+            url: _,
+        } => None,
+    }
+}
+
+// The line of a command but `serve` by this definition, where no option of `serve` alone is given.
+fn unserved<'a>(word: &str, given: Given<'a>, source: Source<'a>) -> Option<Command<'a>>
+    requires source { HasSource (source_in source) (values_in given) }
+    requires unserved { IsUnserved (values_in given) }
+    requires unserving { word.now ≢ codes "serve" }
     ensures { IsCommand word.now (values_in given.entry) result }
 {
     if word == "pipe" {
-        pipe_of(given)
-    } else if word == "convert" {
-        convert_of(given)
-    } else if word == "review" {
-        review_of(given)
-    } else {
-        None
+        return pipe_with(given, source);
+    }
+    task_of(word, given, source)
+}
+
+// The line of `serve` by this definition, unless it is the one that is built in.
+fn served<'a>(given: Given<'a>, source: Source<'a>) -> Option<Command<'a>>
+    requires { HasSource (source_in source) (values_in given) }
+    ensures { IsCommand (codes "serve") (values_in given.entry) result }
+{
+    match source {
+        Source::BuiltIn => None,
+        Source::Rules { crd: _, rules: _ } => serve_of(given, source),
+        Source::Converter {
+            crd: _,
+            hub: _,
+            url: _,
+        } => serve_of(given, source),
     }
 }
 
@@ -478,16 +455,16 @@ fn is_serve(word: &str) -> bool
     word == "serve"
 }
 
-// The line of a command with these options, of which none is of a converter.
-fn ruled<'a>(word: &str, given: Given<'a>) -> Option<Command<'a>>
-    requires { IsUnconverted (values_in given) }
+// The line of a command by this definition with these options.
+fn command_by<'a>(word: &str, given: Given<'a>, source: Source<'a>) -> Option<Command<'a>>
+    requires { HasSource (source_in source) (values_in given) }
     ensures { IsCommand word.now (values_in given.entry) result }
 {
     if is_serve(word) {
-        return serve_of(given);
+        return served(given, source);
     }
     if is_unserved(given) {
-        return unserved(word, given);
+        return unserved(word, given, source);
     }
     None
 }
@@ -496,10 +473,9 @@ fn ruled<'a>(word: &str, given: Given<'a>) -> Option<Command<'a>>
 pub(crate) fn command_named<'a>(word: &str, given: Given<'a>) -> Option<Command<'a>>
     ensures { IsCommand word.now (values_in given.entry) result }
 {
-    if is_unconverted(given) {
-        ruled(word, given)
-    } else {
-        converted(word, given)
+    match source_of(given) {
+        Some(source) => command_by(word, given, source),
+        None => None,
     }
 }
 

@@ -7,13 +7,10 @@ use Rattle.kj_value.specs.declared.reading.TheConstants.{MAX_JSON_LEVELS}
 use Rattle.kj_value.specs.declared.error.NoMemory.{NoMemory}
 use Rattle.kj_value.specs.declared.txt.Txt.{Txt}
 use Rattle.crd_loading.specs.Load.{Loads}
-use Rattle.crd_loading.specs.Set.{set_of}
 use Rattle.crd_loading.specs.View.{LoadedView}
 use Rattle.crd_meaning.specs.Definition.{Definition}
-use Rattle.crd_versions.specs.Set.{definition_of}
-use Rattle.crd_versions.specs.declared.set.VersionSet.{VersionSet}
 use Rattle.drill_steps.specs.Drilling.{Tells, drilled}
-use Rattle.kubeconv_cmd.specs.Serving.{DrillsTexts, meaning_of}
+use Rattle.kubeconv_cmd.specs.Sources.{DrillsExample, IsExample, LoadsSet, meaning_of}
 
 abbrev pub OneReading : Type 0
 OneReading = (bytes : List ℕ) (m n : ℕ) (j k : Json) → Reads bytes m j → Reads bytes n k → j ≡ k
@@ -37,16 +34,12 @@ reloaded one a b crd rules d r l ra rb rc rr loads = record {
   };
 }
 
-pub loads_again : OneReading → (a b crd rules : List ℕ) (d r : Json) (s : VersionSet) → Reads a MAX_JSON_LEVELS d → Reads b MAX_JSON_LEVELS r → Reads crd MAX_JSON_LEVELS d
-    → Reads rules MAX_JSON_LEVELS r → (l : LoadedView) × Loads a b l × (definition_of s ≡ set_of l) → (l : LoadedView) × Loads crd rules l × (definition_of s ≡ set_of l)
-loads_again one a b crd rules d r s ra rb rc rr found = (found.0, reloaded one a b crd rules d r found.0 ra rb rc rr found.1, found.2)
+pub loads_again : OneReading → (a b crd rules : List ℕ) (d r : Json) (e : Definition) → Reads a MAX_JSON_LEVELS d → Reads b MAX_JSON_LEVELS r → Reads crd MAX_JSON_LEVELS d
+    → Reads rules MAX_JSON_LEVELS r → LoadsSet a b e → LoadsSet crd rules e
+loads_again one a b crd rules d r e ra rb rc rr found = record { view = found.view; loads = reloaded one a b crd rules d r found.view ra rb rc rr found.loads; is = found.is }
 
--- what is told of a drill of a definition that was loaded is told of that of its texts
-pub drills_texts : (result : Result Txt NoMemory) (crd rules : List ℕ) (start count : ℕ) (d : Definition) (l : LoadedView) → Loads crd rules l → d ≡ set_of l
-    → IfOk result (λ t. Tells (drilled (meaning_of d)) start count t.bytes) → IfOk result (λ t. DrillsTexts crd rules start count t.bytes)
-drills_texts (Ok t) crd rules start count d l loads is tells = record {
-  loaded = l;
-  loads = loads;
-  tells = subst (λ (x : Definition). Tells (drilled (meaning_of x)) start count t.bytes) is tells;
-}
-drills_texts (Err e) crd rules start count d l loads is tells = tt
+-- what is told of a drill of the definition that was loaded is told of the example
+pub drills_example : (result : Result Txt NoMemory) (start count : ℕ) (d : Definition) → IsExample d → IfOk result (λ t. Tells (drilled (meaning_of d)) start count t.bytes)
+    → IfOk result (λ t. DrillsExample start count t.bytes)
+drills_example (Ok t) start count d is tells = record { definition = d; is = is; tells = tells }
+drills_example (Err e) start count d is tells = tt

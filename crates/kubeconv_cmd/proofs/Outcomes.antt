@@ -1,40 +1,24 @@
 -- What a run of each line comes to, from what its parts came to.
-use Rattle.std.proofs.Common.{◌≡◌, ◌≢◌, ◌∙◌, ◌<◌, ◌⊎◌, ℕ, List, Option, None, Some, Result, Ok, Err, inl, inr, refl, ap, sym, subst, arith}
+use Rattle.std.proofs.Common.{◌≡◌, ◌≢◌, ◌∙◌, ◌⊎◌, ℕ, List, Option, None, Some, Result, Ok, Err, inl, inr, refl, ap, sym, subst, arith}
 use Rattle.std.specs.Prelude.{IfOk, IfErr, OnOk, OnErr, IfSome, MatchOption, ⊤}
 use Rattle.std.specs.Io.KnownBytes.{IsAtEnd}
-use Rattle.kj_value.specs.declared.error.NoMemory.{NoMemory}
-use Rattle.crd_loading.specs.Load.{Loads}
-use Rattle.crd_loading.specs.Set.{set_of}
-use Rattle.crd_loading.specs.View.{LoadedView}
+use Rattle.api_calls.specs.Meaning.{Meaning}
 use Rattle.crd_meaning.specs.Definition.{Definition}
+use Rattle.edge_io.specs.Causes.{Rose}
 use Rattle.command_lines.specs.declared.words.Command.{Command}
 use Rattle.command_lines.specs.Given.{line_of}
-use Rattle.command_lines.specs.Lines.{Named, example, Conversion, Task, Line, IsLine, pipe, task, drill, serve, migrate, dump, load, remote, pipe_by, serve_by}
-use Rattle.kubeconv_cmd.specs.Listening.{IfServes}
-use Rattle.output_lines.specs.Listening.{NamesPlace, Told, ToldSome, Announced}
-use Rattle.kubeconv_cmd.specs.Beside.{AnsweredAll, ServesAll}
-use Rattle.kubeconv_cmd.specs.Converting.{RefusesConverted, converted_meaning, converter_faults}
-use Rattle.hook_versions.specs.Loads.{LoadsHook}
-use Rattle.http_address.specs.Address.{AddressView, IsAddress}
-use Rattle.kubeconv_cmd.specs.Tasks.{AnswersDocument, RefusesDocument, Wrote, Broke}
-use Rattle.http_front.specs.Link.{UnlessUnwritten}
-use Rattle.serve_input.specs.Conversed.{Blames, Conversed, IsPaced, MayRise, front_of, link_end}
-use Rattle.kubeconv_cmd.specs.Serving.{Converses, DrillsTexts, Paces}
-use Rattle.kubeconv_cmd.specs.Refusal.{IsText, RefusesNamed}
+use Rattle.command_lines.specs.Lines.{Source, built_in, by_rules, by_converter, Listening, Task, Line, IsLine, pipe, task, drill, serve, migrate, dump, load, remote}
+use Rattle.output_lines.specs.Listening.{NamesPlace}
 use Rattle.place.specs.Place.{IsPlace, OnBadPlace, PlaceView}
 use Rattle.place.specs.declared.PlaceFault.{PlaceFault}
 use Rattle.place.specs.declared.PlaceFault.TheVariants as places
-use Rattle.record_dump.specs.Dumps.{OnDone, OnFaults as OnDumpFaults}
+use Rattle.record_dump.specs.Dumps.{OnBrokenOff, OnDone, OnFaults as OnDumpFaults}
 use Rattle.record_dump.specs.Restores.{OnEnd, OnFaults as OnRestoreFaults}
 use Rattle.record_dump.specs.declared.ends.DumpEnd.{DumpEnd}
 use Rattle.record_dump.specs.declared.ends.DumpEnd.TheVariants as dumps
-use Rattle.record_dump.specs.declared.ends.RestoreEnd.{RestoreEnd}
 use Rattle.record_dump.specs.declared.ends.RestoreEnd.TheVariants as restores
-use Rattle.far_migrate.specs.Counts.{Counts, fault_of}
-use Rattle.far_migrate.specs.Puts.{Handled, all as all_put, failed as failed_by}
 use Rattle.far_migrate.specs.declared.tally.FarFault.{FarFault}
 use Rattle.far_migrate.specs.declared.tally.FarFault.TheVariants as faults
-use Rattle.far_lines.specs.Migrated.{Migrated}
 use Rattle.far_lines.specs.Ends.{put_back, broke as broke_so, unmade, CameOf, at_place, placeless as no_place, unread as unread_place, Told as ToldTally, IfSilent, OnUnwritten, fault_end}
 use Rattle.far_lines.specs.declared.end.MigrateEnd.{MigrateEnd}
 use Rattle.far_lines.specs.declared.end.MigrateEnd.TheVariants as migrated
@@ -42,255 +26,173 @@ use Rattle.far_lines.specs.Dumped.{DumpedAt}
 use Rattle.far_lines.specs.Loaded.{LoadedAt, WroteOf, IfUndone, IfUnwritten, restored_to}
 use Rattle.far_lines.specs.declared.end.LoadEnd.{LoadEnd}
 use Rattle.far_lines.specs.declared.end.LoadEnd.TheVariants as loads
-use Rattle.kubeconv_cmd.specs.inner.Backups.{dumped_line, dumped_status, loaded_line, loaded_status}
-use Rattle.kubeconv_cmd.specs.inner.Migrations.{migrate_end_line, migrate_status}
-use Rattle.kubeconv_cmd.specs.Status.{dump_status, error_line, pipe_status, restore_status}
-use Rattle.kubeconv_cmd.specs.Outcome.{World, OfTexts, OfInput, OfFile, HasLoaded, HasLoadedBy, HasHandedOn, Says, IsSilent, streams_of, HearsNobody, AnswersSo, AnswersSoBy, Stopped, unreadable, refused, wanting, StoppedBy, unreadable_file, refused_file, wanting_memory, addressless, PipeOutcome, PipeByOutcome, talked, unserved, TaskOutcome, wrote_line, broke_line, refused_input, unread_input, wanting_task, unloaded_task, DrillOutcome, wrote_drill, broke_drill, wanting_drill, ServeOutcome, ServeByOutcome, answered, answered_fewer, unheard, untold, wanting_service, unloaded_service, MigratedAt, MigrateOutcome, settled, contested, broke_tally, forgotten, misanswered, unlinked, wanting_migration, placeless, wanting_place, bad_place, DumpOutcome, dumped, undumped, TellsCounts, LoadOutcome, restored, broke_counts, unloaded, IfUnlinked, IsPlaceless, Outcome, FilesFail, InputFails, OutputFails, EarsFail, FilesStay, InputStays, OutputStays, EarsStay}
-use Rattle.kubeconv_cmd.specs.inner.Ends.{OnBadAddress, OnRefused, OnStopped, OnUnread, stop_status, stop_line, talk_status, unconverted_line, unconverted_status, why_text}
-use Rattle.kubeconv_cmd.specs.inner.Halts.{OnHalt, Unwritten, task_status, task_line}
-use Rattle.kubeconv_cmd.specs.inner.Served.{UnlessUnheard, served_status}
-use Rattle.output_lines.specs.Listening.{OnUnheard, OnUntold, Silent}
+use Rattle.serve_many.specs.Answered.{Sides}
+use Rattle.serve_input.specs.Conversed.{MayRise, Start}
 use Rattle.serve_input.specs.declared.conversing.PipeEnd.{PipeEnd}
 use Rattle.serve_input.specs.declared.conversing.PipeEnd.TheVariants.{Closed, Torn, Refused, Spent, ReadFault, WriteFault}
+use Rattle.kubeconv_cmd.specs.World.{World, held, input, left, written_before, written, flushed, linked_before, linked, FilesFail, InputFails, OutputFails, FilesStay, InputStays, OutputStays, EarsStay, LinksStay, Says, OfInput, streams, hearing}
+use Rattle.kubeconv_cmd.specs.Sources.{Loaded, with_rules, meaning_in, faults_in, DrillsExample, Means, IsAddressless}
+use Rattle.output_lines.specs.declared.listening.Unserved.TheVariants as unserved_ends
+use Rattle.kubeconv_cmd.specs.Serving.{Conversation, Hearing, Service, answered, answered_fewer, unheard, untold, wanting_service}
+use Rattle.kubeconv_cmd.specs.Tasks.{AnswersDocument, RefusesDocument, KnowsTarget, LacksTarget, Wrote, Broke}
+use Rattle.kubeconv_cmd.specs.Status.{Told, plainly, of_file, of_input, of_line, of_answer, status_told, line_told, dump_told, load_told, place_told, migration_told, error_line, pipe_status}
+use Rattle.kubeconv_cmd.specs.Remote.{IsTold, MigrateOutcome, Unplaced, DumpOutcome, dumped, undumped, LoadOutcome, restored, unloaded}
+use Rattle.kubeconv_cmd.specs.Outcome.{Stopped, unreadable, refused, wanting, addressless, PipeOutcome, conversed, unserved, TaskEnd, wrote_line, broke_line, refused_input, unread_input, wanting_task, TaskOutcome, did_task, targetless, unloaded_task, DrillOutcome, wrote_drill, broke_drill, wanting_drill, ServeOutcome, served, unloaded_service, IfRuled, Outcome, IsPlaceless, IfServes}
+use Rattle.kubeconv_cmd.specs.inner.Ends.{Asked, OnHalt, Serves, Stops, Unwritten, dumped_told, loaded_told, pipe_told, serve_told, service_status, stop_told, task_told, why_text}
 use Rattle.kubeconv_cmd.specs.declared.stop.Stop.{Stop}
 use Rattle.kubeconv_cmd.specs.declared.stop.Stop.TheVariants as stops
-use Rattle.kubeconv_cmd.specs.declared.stop.Unconverted.{Unconverted}
-use Rattle.kubeconv_cmd.specs.declared.stop.Unconverted.TheVariants as unconverted
+use Rattle.kubeconv_cmd.specs.declared.stop.Unmet.{Unmet}
+use Rattle.kubeconv_cmd.specs.declared.stop.Unmet.TheVariants as unmet
 use Rattle.kubeconv_cmd.specs.declared.halt.Halt.{Halt}
 use Rattle.kubeconv_cmd.specs.declared.halt.Halt.TheVariants as halts
-use Rattle.output_lines.specs.declared.listening.Unserved.{Unserved}
-use Rattle.output_lines.specs.declared.listening.Unserved.TheVariants as ends
-use Rattle.kubeconv_cmd.specs.declared.status.TheConstants.{BAD_WORDS, REFUSED, BAD_INPUT, NO_MEMORY, LISTEN_FAILED, BAD_ANSWER}
-use Rattle.kubeconv_cmd.proofs.TaskLemmas.{wrote_texts, broke_texts, refuses_texts}
+use Rattle.kubeconv_cmd.specs.declared.status.TheConstants.{DONE, BAD_WORDS, REFUSED, BAD_INPUT, NO_MEMORY, BAD_ANSWER}
 
--- what a line comes to is what an equal line does
-pub at_line : {F S K A : Type 0} (w : World F S K A) (a b : Line) (s : ℕ) → a ≡ b → Outcome w a s → Outcome w b s
-at_line w a b s is out = subst (λ (l : Line). Outcome w l s) is out
-
--- the texts that the files tell are a loaded definition
-abbrev pub Found : {F S K A : Type 0} → World F S K A → Named → Definition → Type 0
-Found w named d = OfTexts w named (λ crd rules. (l : LoadedView) × Loads crd rules l × (d ≡ set_of l))
-
--- on an output that stays as it was nothing is written, and nothing handed on
-abbrev pub StaysSilent : {F S K A : Type 0} → World F S K A → Type 0
-StaysSilent w = (OutputStays w) → (w.written ≡ w.written_before) × (w.flushed ≡ w.flushed_before)
-
-silent_so : {F S K A : Type 0} (w : World F S K A) → (OutputStays w) → StaysSilent w → IsSilent w
-silent_so w stays same = (stays, (same stays).0, (same stays).1)
+-- the line of a status but three
+pub told_line : (t : Told) (s : ℕ) → s ≡ status_told t → s ≢ REFUSED → s ≢ BAD_INPUT → s ≢ BAD_ANSWER → line_told t ≡ error_line s
+told_line (plainly status) s is file bad answer = ap error_line (sym is)
+told_line (of_file name why) s is file bad answer = absurd (file is)
+told_line (of_input why) s is file bad answer = absurd (bad is)
+told_line (of_line number) s is file bad answer = absurd (bad is)
+told_line (of_answer code) s is file bad answer = absurd (answer is)
 
 -- ---- no definition
 
-pub stopped_so : {F S K A : Type 0} (w : World F S K A) (named : Named) (stop : Stop) (s : ℕ) → OfTexts w named (λ crd rules. OnRefused stop (RefusesNamed named crd rules)) → OnUnread stop (FilesFail w)
-    → s ≡ stop_status stop → Says w (stop_line stop) → Stopped w named s
-stopped_so w named stops.ReadFailed s bad fails is says = unreadable is fails
-stopped_so w named (stops.Refused file why) s bad fails is says = refused is (record { name = file.now; why = why_text why; refuses = bad; says = says })
-stopped_so w named stops.NoMemory s bad fails is says = wanting is
-
-pub stopped_line : (stop : Stop) (s : ℕ) → s ≡ stop_status stop → s ≢ REFUSED → stop_line stop ≡ error_line s
-stopped_line stops.ReadFailed s is other = ap error_line (sym is)
-stopped_line (stops.Refused file why) s is other = absurd (other is)
-stopped_line stops.NoMemory s is other = ap error_line (sym is)
+pub stopped_so : {F S K E A L I O : Type 0} (w : World F S K E A L I O) (source : Source) (stop : Stop) (s : ℕ) → Stops (FilesFail w) (held w) source (FilesStay w × LinksStay w) stop
+    → s ≡ status_told (stop_told stop) → Says w (line_told (stop_told stop)) → Stopped w source s
+stopped_so w source stops.ReadFailed s h is says = unreadable is h
+stopped_so w source (stops.Refused file why) s h is says = refused file.now (why_text why) is h says
+stopped_so w source stops.BadAddress s h is says = addressless is h.0 h.1.0 h.1.1
+stopped_so w source stops.NoMemory s h is says = wanting is
 
 -- ---- `pipe`
 
-pub pipe_outcome : {F S K A : Type 0} (w : World F S K A) (named : Named) (turns : ℕ) (came : Result PipeEnd NoMemory) (s : ℕ) → HasLoaded w named
-    → OfInput w named (λ crd rules b. IfOk came (Converses crd rules turns w.start b w.written_before w.written))
-    → OfTexts w named (λ crd rules. IfOk came (Paces crd rules turns w.start (streams_of w)))
-    → IfOk came (λ end. Blames end (InputFails w) (OutputFails w)) → IfOk came (λ end. UnlessUnwritten (link_end end) (HasHandedOn w))
-    → OnErr came ((InputStays w) × (OutputStays w)) → StaysSilent w
-    → s ≡ talk_status came → PipeOutcome w named turns s
-pipe_outcome w named turns (Ok end) s loaded talk paced blames flushed untouched same is =
-    talked loaded (record { end = end; conversed = talk; paced = paced; blames = blames; hands_on = flushed; is_status = is })
-pipe_outcome w named turns (Err e) s loaded talk paced blames flushed untouched same is = unserved (wanting is) untouched.0 (silent_so w untouched.1 same)
-
--- ---- a definition with a converter
-
--- why the line did nothing
-pub stopped_by : {F S K A : Type 0} (w : World F S K A) (c : Conversion) (fault : Unconverted) (s : ℕ)
-    → OfFile w c (λ crd. OnStopped fault (λ stop. OnRefused stop (λ name why. (name ≡ c.crd) × RefusesConverted crd c.hub why)))
-    → OnStopped fault (λ stop. OnUnread stop (FilesFail w)) → OnBadAddress fault (((a : AddressView) → IsAddress c.url a → ⊥) × (FilesStay w)) → (EarsStay w)
-    → s ≡ unconverted_status fault → Says w (unconverted_line fault) → StoppedBy w c s
-stopped_by w c unconverted.BadAddress s bad fails none ears is says = addressless is none.0 none.1 ears
-stopped_by w c (unconverted.Stopped stops.ReadFailed) s bad fails none ears is says = unreadable_file is fails
-stopped_by w c (unconverted.Stopped (stops.Refused file why)) s bad fails none ears is says =
-    refused_file file.now (why_text why) is bad says
-stopped_by w c (unconverted.Stopped stops.NoMemory) s bad fails none ears is says = wanting_memory is
-
-pub unconverted_says : (fault : Unconverted) (s : ℕ) → s ≡ unconverted_status fault → s ≢ REFUSED → unconverted_line fault ≡ error_line s
-unconverted_says unconverted.BadAddress s is other = ap error_line (sym is)
-unconverted_says (unconverted.Stopped stop) s is other = stopped_line stop s is other
-
--- the definition that was loaded is that of the file
-abbrev pub FoundBy : {F S K A : Type 0} → World F S K A → Conversion → Definition → Type 0
-FoundBy w c d = OfFile w c (λ crd. LoadsHook crd c.hub d)
-
-loaded_by : {F S K A : Type 0} (w : World F S K A) (c : Conversion) (d : Definition) → OfFile w c (λ crd. IsText crd) → FoundBy w c d
-    → (a : AddressView) × IsAddress c.url a → HasLoadedBy w c
-loaded_by w c d texts found address = (λ crd is. ((texts crd is).short, d, found crd is), address)
-
-pub pipe_by_outcome : {F S K A : Type 0} (w : World F S K A) (c : Conversion) (d : Definition) (turns : ℕ) (came : Result PipeEnd NoMemory) (s : ℕ) → OfFile w c (λ crd. IsText crd) → FoundBy w c d → (a : AddressView) × IsAddress c.url a
-    → ((b : List ℕ) → w.input ≡ Some b → IfOk came (Conversed (front_of (converted_meaning d) w.start) (MayRise converter_faults) turns b w.written_before w.written))
-    → IfOk came (IsPaced (streams_of w) (front_of (converted_meaning d) w.start) (MayRise converter_faults) turns)
-    → IfOk came (λ end. Blames end (InputFails w) (OutputFails w)) → IfOk came (λ end. UnlessUnwritten (link_end end) (HasHandedOn w))
-    → OnErr came ((InputStays w) × (OutputStays w)) → StaysSilent w
-    → s ≡ talk_status came → PipeByOutcome w c turns s
-pipe_by_outcome w c d turns (Ok end) s texts found address talk paced blames flushed untouched same is =
-    talked (loaded_by w c d texts found address) (record {
-      end = end;
-      conversed = λ crd b file input. record { definition = d; loads = found crd file; conversed = talk b input };
-      paced = λ crd file. record { definition = d; loads = found crd file; paced = paced };
-      blames = blames;
-      hands_on = flushed;
-      is_status = is;
-    })
-pipe_by_outcome w c d turns (Err e) s texts found address talk paced blames flushed untouched same is = unserved (wanting_memory is) untouched.0 (silent_so w untouched.1 same)
-
--- so many connections were answered by it
-abbrev pub AnsweredBy : {F S K A : Type 0} → World F S K A → Definition → ℕ → ℕ → Type 0
-AnsweredBy w d asked count = AnsweredAll converter_faults (converted_meaning d) w.start asked count w.handed_before w.handed w.returned_before w.returned
-
-serves_by : {F S K A : Type 0} (w : World F S K A) (c : Conversion) (d : Definition) (asked count : ℕ) → FoundBy w c d → AnsweredBy w d asked count → AnswersSoBy w c asked count
-serves_by w c d asked count found answers crd file = record { definition = d; loads = found crd file; answered = answers }
-
-heard_fewer_by : {F S K A : Type 0} (w : World F S K A) (c : Conversion) (asked : ℕ) (connections : Option ℕ) (d : Definition) (s : ℕ) → HasLoadedBy w c → FoundBy w c d → s ≡ LISTEN_FAILED → (EarsFail w)
-    → (w.written ≡ w.written_before) ⊎ Told w.written_before w.written
-    → HearsNobody w ⊎ ((count : ℕ) × IfSome connections (λ n. count < n) × AnsweredBy w d asked count × Announced w.written_before w.written w.flushed)
-    → ServeByOutcome w c asked connections s
-heard_fewer_by w c asked connections d s loaded found is fails silent (inl nobody) = unheard is fails loaded silent nobody
-heard_fewer_by w c asked connections d s loaded found is fails silent (inr f) = answered_fewer f.0 is fails f.1 loaded f.3 (serves_by w c d asked f.0 found f.2)
-
-pub serve_by_outcome : {F S K A : Type 0} (w : World F S K A) (c : Conversion) (asked : ℕ) (connections : Option ℕ) (d : Definition) (came : Result Unit Unserved) (s : ℕ)
-    → OfFile w c (λ crd. IsText crd) → FoundBy w c d → (a : AddressView) × IsAddress c.url a
-    → OnOk came ((count : ℕ) × (connections ≡ Some count) × AnsweredBy w d asked count) → OnOk came (Announced w.written_before w.written w.flushed)
-    → IfErr came (Silent (w.written ≡ w.written_before) (ToldSome w.written_before w.written) (Told w.written_before w.written))
-    → IfErr came (OnUnheard ((EarsFail w) × (HearsNobody w ⊎ ((count : ℕ) × IfSome connections (λ n. count < n) × AnsweredBy w d asked count × Announced w.written_before w.written w.flushed))))
-    → IfErr came (OnUntold (OutputFails w)) → IfErr came (UnlessUnheard (HearsNobody w))
-    → s ≡ served_status came → ServeByOutcome w c asked connections s
-serve_by_outcome w c asked connections d (Ok u) s texts found address done told silent fewer front untouched is = answered done.0 is done.1 (loaded_by w c d texts found address) told (serves_by w c d asked done.0 found done.2)
-serve_by_outcome w c asked connections d (Err ends.NotListening) s texts found address done told silent fewer front untouched is =
-    heard_fewer_by w c asked connections d s (loaded_by w c d texts found address) found is fewer.0 silent fewer.1
-serve_by_outcome w c asked connections d (Err ends.WriteFailed) s texts found address done told silent fewer front untouched is = untold is front (loaded_by w c d texts found address) silent untouched
-serve_by_outcome w c asked connections d (Err ends.NoMemory) s texts found address done told silent fewer front untouched is = wanting_service is silent untouched
+pub pipe_outcome : {F S K E A L I O : Type 0} (w : World F S K E A L I O) (source : Source) (turns : ℕ) (came : Result PipeEnd Stop) (s : ℕ)
+    → IfOk came (λ end. (l : Loaded) × Means (held w) source l × Conversation (meaning_in l) (MayRise (faults_in l)) w.start turns (streams w) (InputFails w) (OutputFails w) end)
+    → IfErr came (Stops (FilesFail w) (held w) source (FilesStay w × LinksStay w)) → OnErr came (InputStays w × OutputStays w)
+    → s ≡ status_told (pipe_told came) → Says w (line_told (pipe_told came)) → PipeOutcome w source turns s
+pipe_outcome w source turns (Ok end) s talk stops stays is says = conversed talk.0 end talk.1 talk.2 is
+pipe_outcome w source turns (Err stop) s talk stops stays is says = unserved (stopped_so w source stop s stops is says) stays.0 stays.1
 
 -- ---- `convert` and `review`
 
-pub task_outcome : {F S K A : Type 0} (w : World F S K A) (named : Named) (t : Task) (d : Definition) (came : Result Unit Halt) (s : ℕ) → HasLoaded w named → Found w named d
-    → ((b : List ℕ) → w.input ≡ Some b → OnOk came (Wrote (AnswersDocument d t b) w.written_before w.written))
-    → ((b : List ℕ) → w.input ≡ Some b → IfErr came (OnHalt (record { reads = (InputFails w); writes = Broke (AnswersDocument d t b) w.written_before w.written; input = RefusesDocument d b t })))
-    → IfErr came (OnHalt (record { reads = (InputFails w); writes = (OutputFails w); input = λ _. Unit {0} }))
-    → IfErr came (Unwritten (OutputStays w)) → StaysSilent w
-    → OnOk came (IsAtEnd w.left) → OnOk came (w.flushed ≡ w.written)
-    → s ≡ task_status came → Says w (task_line came) → TaskOutcome w named t s
-task_outcome w named t d (Ok u) s loaded found wrote failed cause silent same end flushed is says =
-    wrote_line is loaded (λ crd rules b texts known. let f = found crd rules texts in wrote_texts crd rules f.0 d t b w.written_before w.written f.1 f.2 (wrote b known)) end flushed
-task_outcome w named t d (Err halts.ReadFailed) s loaded found wrote failed cause silent same end flushed is says = unread_input is cause loaded (silent_so w silent same)
-task_outcome w named t d (Err halts.WriteFailed) s loaded found wrote failed cause silent same end flushed is says =
-    broke_line is cause loaded (λ crd rules b texts known. let f = found crd rules texts in broke_texts crd rules f.0 d t b w.written_before w.written f.1 f.2 (failed b known))
-task_outcome w named t d (Err (halts.Input why)) s loaded found wrote failed cause silent same end flushed is says =
-    refused_input why.bytes is loaded (λ crd rules b texts known. let f = found crd rules texts in refuses_texts crd rules f.0 d t b why.bytes f.1 f.2 (failed b known)) says (silent_so w silent same)
-task_outcome w named t d (Err halts.NoMemory) s loaded found wrote failed cause silent same end flushed is says = wanting_task is (silent_so w silent same)
+task_end : {F S K E A L I O : Type 0} (w : World F S K E A L I O) (d : Definition) (t : Task) (came : Result Unit Halt) (s : ℕ)
+    → OfInput w (λ b. OnOk came (Wrote (AnswersDocument d t b) (written_before w) (written w)))
+    → OfInput w (λ b. IfErr came (OnHalt (record { reads = InputFails w; writes = Broke (AnswersDocument d t b) (written_before w) (written w); input = RefusesDocument d b t })))
+    → IfErr came (OnHalt (record { reads = InputFails w; writes = OutputFails w; input = λ _. Unit {0} })) → IfErr came (Unwritten (OutputStays w))
+    → OnOk came (IsAtEnd (left w)) → OnOk came (flushed w ≡ written w) → s ≡ status_told (task_told came) → Says w (line_told (task_told came)) → TaskEnd w d t s
+task_end w d t (Ok u) s wrote failed cause silent end handed is says = wrote_line is wrote end handed
+task_end w d t (Err halts.ReadFailed) s wrote failed cause silent end handed is says = unread_input is cause silent
+task_end w d t (Err halts.WriteFailed) s wrote failed cause silent end handed is says = broke_line is cause failed
+task_end w d t (Err (halts.Input why)) s wrote failed cause silent end handed is says = refused_input why.bytes is failed says silent
+task_end w d t (Err halts.NoMemory) s wrote failed cause silent end handed is says = wanting_task is silent
 
-pub tasks_line : (came : Result Unit Halt) (s : ℕ) → s ≡ task_status came → s ≢ BAD_INPUT → task_line came ≡ error_line s
-tasks_line (Ok u) s is other = ap error_line (sym is)
-tasks_line (Err halts.ReadFailed) s is other = ap error_line (sym is)
-tasks_line (Err halts.WriteFailed) s is other = ap error_line (sym is)
-tasks_line (Err (halts.Input why)) s is other = absurd (other is)
-tasks_line (Err halts.NoMemory) s is other = ap error_line (sym is)
+targetless_so : {F S K E A L I O : Type 0} (w : World F S K E A L I O) (source : Source) (d : Definition) (t : Task) (halt : Halt) (s : ℕ) → Means (held w) source (with_rules d) → InputStays w
+    → OnHalt (record { reads = ⊥; writes = ⊥; input = LacksTarget d t }) halt → Unwritten (OutputStays w) halt → s ≡ status_told (task_told (Err halt)) → Says w (line_told (task_told (Err halt)))
+    → TaskOutcome w source t s
+targetless_so w source d t halts.ReadFailed s means stays lacks silent is says = absurd lacks
+targetless_so w source d t halts.WriteFailed s means stays lacks silent is says = absurd lacks
+targetless_so w source d t (halts.Input why) s means stays lacks silent is says = targetless d why.bytes means lacks is says stays silent
+targetless_so w source d t halts.NoMemory s means stays lacks silent is says = unloaded_task (wanting is) stays silent
+
+pub task_outcome : {F S K E A L I O : Type 0} (w : World F S K E A L I O) (source : Source) (d : Definition) (t : Task) (came : Result Unit Halt) (s : ℕ) → Means (held w) source (with_rules d)
+    → Asked (KnowsTarget d t) (InputStays w) (LacksTarget d t) came
+    → OfInput w (λ b. OnOk came (Wrote (AnswersDocument d t b) (written_before w) (written w)))
+    → ((b : List ℕ) → input w ≡ Some b → KnowsTarget d t → IfErr came (OnHalt (record { reads = InputFails w; writes = Broke (AnswersDocument d t b) (written_before w) (written w); input = RefusesDocument d b t })))
+    → IfErr came (OnHalt (record { reads = InputFails w; writes = OutputFails w; input = λ _. Unit {0} })) → IfErr came (Unwritten (OutputStays w))
+    → OnOk came (IsAtEnd (left w)) → OnOk came (flushed w ≡ written w) → s ≡ status_told (task_told came) → Says w (line_told (task_told came)) → TaskOutcome w source t s
+task_outcome w source d t came s means (inl known) wrote failed cause silent end handed is says =
+    did_task d means known (task_end w d t came s wrote (λ b told. failed b told known) cause silent end handed is says)
+task_outcome w source d t (Ok u) s means (inr lacks) wrote failed cause silent end handed is says = absurd lacks.1
+task_outcome w source d t (Err halt) s means (inr lacks) wrote failed cause silent end handed is says = targetless_so w source d t halt s means lacks.0 lacks.1 silent is says
 
 -- ---- `drill`
 
-pub drill_outcome : {F S K A : Type 0} (w : World F S K A) (start count : ℕ) (came : Result Unit Halt) (s : ℕ)
-    → OfTexts w example (λ crd rules. OnOk came (Wrote (DrillsTexts crd rules start count) w.written_before w.written))
-    → OfTexts w example (λ crd rules. IfErr came (OnHalt (record { reads = ⊥; writes = Broke (DrillsTexts crd rules start count) w.written_before w.written; input = λ _. ⊥ })))
-    → IfErr came (OnHalt (record { reads = ⊥; writes = (OutputFails w); input = λ _. ⊥ }))
-    → IfErr came (Unwritten (OutputStays w)) → StaysSilent w → OnOk came (w.flushed ≡ w.written)
-    → s ≡ task_status came → DrillOutcome w start count s
-drill_outcome w start count (Ok u) s wrote failed cause silent same flushed is = wrote_drill is wrote flushed
-drill_outcome w start count (Err halts.ReadFailed) s wrote failed cause silent same flushed is = absurd cause
-drill_outcome w start count (Err halts.WriteFailed) s wrote failed cause silent same flushed is = broke_drill is cause failed
-drill_outcome w start count (Err (halts.Input why)) s wrote failed cause silent same flushed is = absurd cause
-drill_outcome w start count (Err halts.NoMemory) s wrote failed cause silent same flushed is = wanting_drill is (silent_so w silent same)
+pub drill_outcome : {F S K E A L I O : Type 0} (w : World F S K E A L I O) (start count : ℕ) (came : Result Unit Halt) (s : ℕ)
+    → OnOk came (Wrote (DrillsExample start count) (written_before w) (written w))
+    → IfErr came (OnHalt (record { reads = ⊥; writes = Broke (DrillsExample start count) (written_before w) (written w); input = λ _. ⊥ }))
+    → IfErr came (OnHalt (record { reads = ⊥; writes = OutputFails w; input = λ _. ⊥ })) → IfErr came (Unwritten (OutputStays w)) → OnOk came (flushed w ≡ written w)
+    → s ≡ status_told (task_told came) → DrillOutcome w start count s
+drill_outcome w start count (Ok u) s wrote failed cause silent handed is = wrote_drill is wrote handed
+drill_outcome w start count (Err halts.ReadFailed) s wrote failed cause silent handed is = absurd cause
+drill_outcome w start count (Err halts.WriteFailed) s wrote failed cause silent handed is = broke_drill is cause failed
+drill_outcome w start count (Err (halts.Input why)) s wrote failed cause silent handed is = absurd cause
+drill_outcome w start count (Err halts.NoMemory) s wrote failed cause silent handed is = wanting_drill is silent
 
 -- ---- `serve`
 
--- the texts that a definition is of were served so
-abbrev pub ServesSet : {F S K A : Type 0} → World F S K A → Definition → ℕ → ℕ → Type 0
-ServesSet w d asked count = (crd rules : List ℕ) (l : LoadedView) → Loads crd rules l → d ≡ set_of l
-    → ServesAll crd rules w.start asked count w.handed_before w.handed w.returned_before w.returned
+pub serve_outcome : {F S K E A L I O : Type 0} (w : World F S K E A L I O) (source : Source) (l : Listening) (came : Result Unit Unmet) (s : ℕ)
+    → Serves w.tells.sides (held w) source w.start l (hearing w) (FilesFail w) (FilesStay w × LinksStay w) (OutputStays w × EarsStay w) came
+    → s ≡ status_told (serve_told came) → Says w (line_told (serve_told came)) → ServeOutcome w source l s
+serve_outcome w source l (Ok u) s h is says = served h.0 h.1 (subst (λ (x : ℕ). Service (faults_in h.0) w.tells.sides (meaning_in h.0) w.start l (hearing w) x) (sym is) h.2)
+serve_outcome w source l (Err (unmet.Unserved why)) s h is says = served h.0 h.1 (subst (λ (x : ℕ). Service (faults_in h.0) w.tells.sides (meaning_in h.0) w.start l (hearing w) x) (sym is) h.2)
+serve_outcome w source l (Err (unmet.Stopped stop)) s h is says = unloaded_service (stopped_so w source stop s h.0 is says) h.1.0 h.1.1
 
-serves_so : {F S K A : Type 0} (w : World F S K A) (named : Named) (d : Definition) (asked count : ℕ) → Found w named d → ServesSet w d asked count → AnswersSo w named asked count
-serves_so w named d asked count found serves crd rules texts = let f = found crd rules texts in serves crd rules f.0 f.1 f.2
+-- ---- servers from outside
 
-heard_fewer : {F S K A : Type 0} (w : World F S K A) (named : Named) (asked : ℕ) (connections : Option ℕ) (d : Definition) (s : ℕ) → HasLoaded w named → Found w named d → s ≡ LISTEN_FAILED → (EarsFail w)
-    → (w.written ≡ w.written_before) ⊎ Told w.written_before w.written
-    → HearsNobody w ⊎ ((count : ℕ) × IfSome connections (λ n. count < n) × ServesSet w d asked count × Announced w.written_before w.written w.flushed)
-    → ServeOutcome w named asked connections s
-heard_fewer w named asked connections d s loaded found is fails silent (inl nobody) = unheard is fails loaded silent nobody
-heard_fewer w named asked connections d s loaded found is fails silent (inr f) = answered_fewer f.0 is fails f.1 loaded f.3 (serves_so w named d asked f.0 found f.2)
+pub migrate_outcome : {F S K E A L I O : Type 0} (w : World F S K E A L I O) (url : List ℕ) (came : MigrateEnd) (s : ℕ) → CameOf url (linked_before w) (linked w) (written_before w) (written w) (flushed w) came
+    → OnUnwritten (OutputFails w) came → IfSilent (OutputStays w) came → s ≡ status_told (migration_told came) → Says w (line_told (migration_told came)) → MigrateOutcome w url s
+migrate_outcome w url came s at cause silent is says = record { end = came; is_told = record { status_is = is; says = says }; came = at; cause = cause; silent = silent }
 
-pub serve_outcome : {F S K A : Type 0} (w : World F S K A) (named : Named) (asked : ℕ) (connections : Option ℕ) (d : Definition) (came : Result Unit Unserved) (s : ℕ) → HasLoaded w named → Found w named d
-    → OnOk came ((count : ℕ) × (connections ≡ Some count) × ServesSet w d asked count) → OnOk came (Announced w.written_before w.written w.flushed)
-    → IfErr came (Silent (w.written ≡ w.written_before) (ToldSome w.written_before w.written) (Told w.written_before w.written))
-    → IfErr came (OnUnheard ((EarsFail w) × (HearsNobody w ⊎ ((count : ℕ) × IfSome connections (λ n. count < n) × ServesSet w d asked count × Announced w.written_before w.written w.flushed))))
-    → IfErr came (OnUntold (OutputFails w)) → IfErr came (UnlessUnheard (HearsNobody w))
-    → s ≡ served_status came → ServeOutcome w named asked connections s
-serve_outcome w named asked connections d (Ok u) s loaded found done told silent fewer front untouched is = answered done.0 is done.1 loaded told (serves_so w named d asked done.0 found done.2)
-serve_outcome w named asked connections d (Err ends.NotListening) s loaded found done told silent fewer front untouched is =
-    heard_fewer w named asked connections d s loaded found is fewer.0 silent fewer.1
-serve_outcome w named asked connections d (Err ends.WriteFailed) s loaded found done told silent fewer front untouched is = untold is front loaded silent untouched
-serve_outcome w named asked connections d (Err ends.NoMemory) s loaded found done told silent fewer front untouched is = wanting_service is silent untouched
+pub dump_outcome : {F S K E A L I O : Type 0} (w : World F S K E A L I O) (url : List ℕ) (came : Result DumpEnd PlaceFault) (s : ℕ)
+    → IfOk came (DumpedAt url (linked_before w) (linked w) (written_before w) (written w)) → IfOk came (OnDone (flushed w ≡ written w)) → IfOk came (OnBrokenOff (OutputStays w ⊎ (flushed w ≡ written w))) → IfOk came (OnDumpFaults ⊤ (OutputFails w))
+    → IfErr came (OnBadPlace ((p : PlaceView) → IsPlace url p → ⊥)) → OnErr came ((linked w ≡ linked_before w) × OutputStays w) → InputStays w
+    → s ≡ status_told (dumped_told came) → Says w (line_told (dumped_told came)) → DumpOutcome w url s
+dump_outcome w url (Ok d) s at handed broken cause none stays unread is says = dumped d (record { status_is = is; says = says }) at cause handed broken
+dump_outcome w url (Err fault) s at handed broken cause none stays unread is says =
+    undumped (record { fault = fault; is_told = record { status_is = is; says = says }; none = none; unlinked = stays.0; untouched = unread; silent = stays.1 })
 
--- ---- `migrate`
+pub load_outcome : {F S K E A L I O : Type 0} (w : World F S K E A L I O) (url : List ℕ) (came : Result LoadEnd PlaceFault) (s : ℕ)
+    → IfOk came (λ e. LoadedAt url (linked_before w) (linked w) (input w) (left w) (restored_to e)) → IfOk came (WroteOf (written_before w) (written w) (flushed w))
+    → IfOk came (λ e. IfUndone (OutputStays w) (restored_to e)) → IfOk came (λ e. OnEnd (IsAtEnd (left w)) (restored_to e))
+    → IfOk came (λ e. OnRestoreFaults ⊤ (InputFails w) (restored_to e)) → IfOk came (IfUnwritten (OutputFails w))
+    → IfErr came (OnBadPlace ((p : PlaceView) → IsPlace url p → ⊥)) → OnErr came ((linked w ≡ linked_before w) × InputStays w × OutputStays w)
+    → s ≡ status_told (loaded_told came) → Says w (line_told (loaded_told came)) → LoadOutcome w url s
+load_outcome w url (Ok e) s at wrote silent end cause unwritten none stays is says = restored e (record { status_is = is; says = says }) at cause end unwritten wrote silent
+load_outcome w url (Err fault) s at wrote silent end cause unwritten none stays is says =
+    unloaded (record { fault = fault; is_told = record { status_is = is; says = says }; none = none; unlinked = stays.0; untouched = stays.1; silent = stays.2 })
 
-at_so : {F S K A : Type 0} (w : World F S K A) (url : List ℕ) (p : PlaceView) (h : Handled) → IsPlace url p → Migrated p.names w.linked_before w.linked h → MigratedAt w url h
-at_so w url p h is m = record { place = p; is = is; migrated = m }
+-- ---- where words are told to be bad
 
-tally_outcome : {F S K A : Type 0} (w : World F S K A) (url : List ℕ) (p : PlaceView) (came : MigrateEnd) (s : ℕ) → IsPlace url p
-    → (t : Counts) → Migrated p.names w.linked_before w.linked (all_put t) → ToldTally t w.written_before w.written w.flushed came
-    → OnUnwritten (OutputFails w) came → IfSilent (OutputStays w) came → StaysSilent w → s ≡ migrate_status came → MigrateOutcome w url s
-tally_outcome w url p migrated.Done s at t m told cause silent same is = settled t is told.0 (at_so w url p (all_put t) at m) told.1.wrote told.1.handed_on
-tally_outcome w url p migrated.Contested s at t m told cause silent same is = contested t is told.0 (at_so w url p (all_put t) at m) told.1.wrote told.1.handed_on
-tally_outcome w url p migrated.BadPlace s at t m told cause silent same is = absurd told
-tally_outcome w url p migrated.LinkFault s at t m told cause silent same is = absurd told
-tally_outcome w url p (migrated.Answer code) s at t m told cause silent same is = absurd told
-tally_outcome w url p migrated.Restarted s at t m told cause silent same is = absurd told
-tally_outcome w url p migrated.WriteFault s at t m told cause silent same is = broke_tally t is cause (at_so w url p (all_put t) at m) told
-tally_outcome w url p migrated.NoMemory s at t m told cause silent same is = wanting_migration is (silent_so w silent same)
+only_stopped : {F S K E A L I O : Type 0} (w : World F S K E A L I O) (source : Source) (s : ℕ) → Stopped w source s → s ≡ BAD_WORDS → IsAddressless source × FilesStay w × LinksStay w
+only_stopped w source s (unreadable is fails) e = absurd (omega (arith, is, e))
+only_stopped w source s (refused name why is bad says) e = absurd (omega (arith, is, e))
+only_stopped w source s (wanting is) e = absurd (omega (arith, is, e))
+only_stopped w source s (addressless is none files links) e = (none, files, links)
 
-broke_outcome : {F S K A : Type 0} (w : World F S K A) (url : List ℕ) (p : PlaceView) (fault : FarFault) (s : ℕ) → IsPlace url p → Migrated p.names w.linked_before w.linked (failed_by (fault_of fault))
-    → IfSilent (OutputStays w) (fault_end fault) → StaysSilent w → s ≡ migrate_status (fault_end fault) → Says w (migrate_end_line (fault_end fault)) → MigrateOutcome w url s
-broke_outcome w url p faults.LinkFault s at m silent same is says = unlinked is (at_so w url p _ at m) (silent_so w silent same)
-broke_outcome w url p (faults.Answer code) s at m silent same is says = misanswered code is (at_so w url p _ at m) says (silent_so w silent same)
-broke_outcome w url p faults.Restarted s at m silent same is says = forgotten is (at_so w url p _ at m) (silent_so w silent same)
-broke_outcome w url p faults.NoMemory s at m silent same is says = wanting_migration is (silent_so w silent same)
+never_conversed : (end : PipeEnd) (s : ℕ) → s ≡ pipe_status end → s ≡ BAD_WORDS → ⊥
+never_conversed Closed s is e = omega (arith, is, e)
+never_conversed (Torn held) s is e = omega (arith, is, e)
+never_conversed (Refused f) s is e = omega (arith, is, e)
+never_conversed Spent s is e = omega (arith, is, e)
+never_conversed ReadFault s is e = omega (arith, is, e)
+never_conversed WriteFault s is e = omega (arith, is, e)
 
-wanting_so : {F S K A : Type 0} (w : World F S K A) (url : List ℕ) (came : MigrateEnd) (s : ℕ) → came ≡ migrated.NoMemory → IfSilent (OutputStays w) came → StaysSilent w
-    → s ≡ migrate_status came → MigrateOutcome w url s
-wanting_so w url came s e silent same is =
-    wanting_migration (is ∙ ap migrate_status e) (silent_so w (subst (IfSilent (OutputStays w)) e silent) same)
+never_done : {F S K E A L I O : Type 0} (w : World F S K E A L I O) (d : Definition) (t : Task) (s : ℕ) → TaskEnd w d t s → s ≡ BAD_WORDS → ⊥
+never_done w d t s (wrote_line is wrote end handed) e = omega (arith, is, e)
+never_done w d t s (broke_line is fails broke) e = omega (arith, is, e)
+never_done w d t s (refused_input why is bad says silent) e = omega (arith, is, e)
+never_done w d t s (unread_input is fails silent) e = omega (arith, is, e)
+never_done w d t s (wanting_task is silent) e = omega (arith, is, e)
 
-pub migrate_outcome : {F S K A : Type 0} (w : World F S K A) (url : List ℕ) (came : MigrateEnd) (s : ℕ) → CameOf url w.linked_before w.linked w.written_before w.written w.flushed came
-    → OnUnwritten (OutputFails w) came → IfSilent (OutputStays w) came → StaysSilent w → s ≡ migrate_status came → Says w (migrate_end_line came) → MigrateOutcome w url s
-migrate_outcome w url came s (at_place p at (put_back t m told)) cause silent same is says = tally_outcome w url p came s at t m told cause silent same is
-migrate_outcome w url came s (at_place p at (broke_so fault e m)) cause silent same is says =
-    broke_outcome w url p fault s at m (subst (IfSilent (OutputStays w)) e silent) same (is ∙ ap migrate_status e) (subst (λ (c : MigrateEnd). Says w (migrate_end_line c)) e says)
-migrate_outcome w url came s (at_place p at (unmade e stays)) cause silent same is says = wanting_so w url came s e silent same is
-migrate_outcome w url came s (no_place e none stays) cause silent same is says =
-    placeless (is ∙ ap migrate_status e) none stays (silent_so w (subst (IfSilent (OutputStays w)) e silent) same)
-migrate_outcome w url came s (unread_place e stays) cause silent same is says = wanting_so w url came s e silent same is
+never_tasked : {F S K E A L I O : Type 0} (w : World F S K E A L I O) (crd rules : List ℕ) (t : Task) (s : ℕ) → TaskOutcome w (by_rules crd rules) t s → s ≡ BAD_WORDS → ⊥
+never_tasked w crd rules t s (did_task d means known ends) e = never_done w d t s ends e
+never_tasked w crd rules t s (targetless d why means lacks is says unread output) e = omega (arith, is, e)
+never_tasked w crd rules t s (unloaded_task stopped unread output) e = (only_stopped w (by_rules crd rules) s stopped e).0
 
-pub migrated_line : (came : MigrateEnd) (s : ℕ) → s ≡ migrate_status came → s ≢ BAD_ANSWER → migrate_end_line came ≡ error_line s
-migrated_line migrated.Done s is other = ap error_line (sym is)
-migrated_line migrated.Contested s is other = ap error_line (sym is)
-migrated_line migrated.BadPlace s is other = ap error_line (sym is)
-migrated_line migrated.LinkFault s is other = ap error_line (sym is)
-migrated_line (migrated.Answer code) s is other = absurd (other is)
-migrated_line migrated.Restarted s is other = ap error_line (sym is)
-migrated_line migrated.WriteFault s is other = ap error_line (sym is)
-migrated_line migrated.NoMemory s is other = ap error_line (sym is)
+never_drilled : {F S K E A L I O : Type 0} (w : World F S K E A L I O) (start count s : ℕ) → DrillOutcome w start count s → s ≡ BAD_WORDS → ⊥
+never_drilled w start count s (wrote_drill is wrote handed) e = omega (arith, is, e)
+never_drilled w start count s (broke_drill is fails broke) e = omega (arith, is, e)
+never_drilled w start count s (wanting_drill is silent) e = omega (arith, is, e)
 
--- only at a bad place the words are told to be bad
-pub bad_migration : (came : MigrateEnd) (s : ℕ) → s ≡ migrate_status came → s ≡ BAD_WORDS → came ≡ migrated.BadPlace
+never_served : {F S K E A L I O : Type 0} (w : World F S K E A L I O) (m : Loaded) (l : Listening) (s : ℕ) → Service (faults_in m) w.tells.sides (meaning_in m) w.start l (hearing w) s → s ≡ BAD_WORDS → ⊥
+never_served w m l s (answered count is all answers) e = omega (arith, is, e)
+never_served w m l s (answered_fewer count is fails few answers) e = omega (arith, is, e)
+never_served w m l s (unheard is fails told nobody) e = omega (arith, is, e)
+never_served w m l s (untold is fails told nobody) e = omega (arith, is, e)
+never_served w m l s (wanting_service is told nobody) e = omega (arith, is, e)
+
+-- only at a bad place
+pub bad_migration : (came : MigrateEnd) (s : ℕ) → s ≡ status_told (migration_told came) → s ≡ BAD_WORDS → came ≡ migrated.BadPlace
 bad_migration migrated.Done s is e = absurd (omega (arith, is, e))
 bad_migration migrated.Contested s is e = absurd (omega (arith, is, e))
 bad_migration migrated.BadPlace s is e = refl
@@ -300,26 +202,35 @@ bad_migration migrated.Restarted s is e = absurd (omega (arith, is, e))
 bad_migration migrated.WriteFault s is e = absurd (omega (arith, is, e))
 bad_migration migrated.NoMemory s is e = absurd (omega (arith, is, e))
 
--- ---- `dump`
+good_fault : (fault : FarFault) → migrated.BadPlace ≡ fault_end fault → ⊥
+good_fault faults.LinkFault e = cc
+good_fault (faults.Answer code) e = cc
+good_fault faults.Restarted e = cc
+good_fault faults.NoMemory e = cc
 
-pub dump_outcome : {F S K A : Type 0} (w : World F S K A) (url : List ℕ) (came : Result DumpEnd PlaceFault) (s : ℕ)
-    → IfOk came (DumpedAt url w.linked_before w.linked w.written_before w.written) → IfOk came (OnDone (w.flushed ≡ w.written)) → IfOk came (OnDumpFaults ⊤ (OutputFails w))
-    → IfErr came (OnBadPlace ((p : PlaceView) → IsPlace url p → ⊥)) → OnErr came ((w.linked ≡ w.linked_before) × (OutputStays w)) → StaysSilent w
-    → s ≡ dumped_status came → Says w (dumped_line came) → DumpOutcome w url s
-dump_outcome w url (Ok d) s at flushed cause none stays same is says = dumped d is at cause flushed says
-dump_outcome w url (Err places.BadPlace) s at flushed cause none stays same is says = undumped (bad_place is none) stays.0 (silent_so w stays.1 same)
-dump_outcome w url (Err places.NoMemory) s at flushed cause none stays same is says = undumped (wanting_place is) stays.0 (silent_so w stays.1 same)
+none_at : {F S K E A L I O : Type 0} (w : World F S K E A L I O) (url : List ℕ) → CameOf url (linked_before w) (linked w) (written_before w) (written w) (flushed w) migrated.BadPlace → (p : PlaceView) → IsPlace url p → ⊥
+none_at w url (at_place q is (put_back t m told)) = absurd told
+none_at w url (at_place q is (broke_so fault same m)) = absurd (good_fault fault same)
+none_at w url (at_place q is (unmade same stays)) = absurd cc
+none_at w url (no_place same none stays) = none
+none_at w url (unread_place same stays) = absurd cc
 
-pub dumps_line : (came : Result DumpEnd PlaceFault) (s : ℕ) → s ≡ dumped_status came → s ≢ BAD_ANSWER → dumped_line came ≡ error_line s
-dumps_line (Ok (dumps.Done lines)) s is other = ap error_line (sym is)
-dumps_line (Ok dumps.LinkFault) s is other = ap error_line (sym is)
-dumps_line (Ok dumps.WriteFault) s is other = ap error_line (sym is)
-dumps_line (Ok (dumps.Answer code)) s is other = absurd (other is)
-dumps_line (Ok dumps.Expired) s is other = ap error_line (sym is)
-dumps_line (Ok dumps.NoMemory) s is other = ap error_line (sym is)
-dumps_line (Err fault) s is other = ap error_line (sym is)
+only_unmigrated : {F S K E A L I O : Type 0} (w : World F S K E A L I O) (url : List ℕ) (s : ℕ) → MigrateOutcome w url s → s ≡ BAD_WORDS → ((p : PlaceView) → IsPlace url p → ⊥) × OutputStays w
+only_unmigrated w url s out e =
+    let is = bad_migration out.end s out.is_told.status_is e in (
+      none_at w url (subst (λ (x : MigrateEnd). CameOf url (linked_before w) (linked w) (written_before w) (written w) (flushed w) x) is out.came),
+      subst (λ (x : MigrateEnd). IfSilent (OutputStays w) x) is out.silent,
+    )
 
-never_dumped : (d : DumpEnd) (s : ℕ) → s ≡ dump_status d → s ≡ BAD_WORDS → ⊥
+bad_place : (fault : PlaceFault) (s : ℕ) → s ≡ status_told (place_told fault) → s ≡ BAD_WORDS → fault ≡ places.BadPlace
+bad_place places.BadPlace s is e = refl
+bad_place places.NoMemory s is e = absurd (omega (arith, is, e))
+
+only_unplaced : {F S K E A L I O : Type 0} (w : World F S K E A L I O) (url : List ℕ) (s : ℕ) → Unplaced w url s → s ≡ BAD_WORDS → ((p : PlaceView) → IsPlace url p → ⊥) × InputStays w × OutputStays w
+only_unplaced w url s u e =
+    (subst (λ (x : PlaceFault). OnBadPlace ((p : PlaceView) → IsPlace url p → ⊥) x) (bad_place u.fault s u.is_told.status_is e) u.none, u.untouched, u.silent)
+
+never_dumped : (d : DumpEnd) (s : ℕ) → s ≡ status_told (dump_told d) → s ≡ BAD_WORDS → ⊥
 never_dumped (dumps.Done lines) s is e = omega (arith, is, e)
 never_dumped dumps.LinkFault s is e = omega (arith, is, e)
 never_dumped dumps.WriteFault s is e = omega (arith, is, e)
@@ -327,197 +238,91 @@ never_dumped (dumps.Answer code) s is e = omega (arith, is, e)
 never_dumped dumps.Expired s is e = omega (arith, is, e)
 never_dumped dumps.NoMemory s is e = omega (arith, is, e)
 
-pub bad_dump : (came : Result DumpEnd PlaceFault) (s : ℕ) → s ≡ dumped_status came → s ≡ BAD_WORDS → came ≡ Err places.BadPlace
+never_restored : (d : LoadEnd) (s : ℕ) → s ≡ status_told (load_told d) → s ≡ BAD_WORDS → ⊥
+never_restored (loads.Restored (restores.Done created present)) s is e = omega (arith, is, e)
+never_restored (loads.Restored restores.LinkFault) s is e = omega (arith, is, e)
+never_restored (loads.Restored restores.ReadFault) s is e = omega (arith, is, e)
+never_restored (loads.Restored (restores.BadLine number)) s is e = omega (arith, is, e)
+never_restored (loads.Restored (restores.Cut number)) s is e = omega (arith, is, e)
+never_restored (loads.Restored restores.TooMany) s is e = omega (arith, is, e)
+never_restored (loads.Restored (restores.Answer number code)) s is e = omega (arith, is, e)
+never_restored (loads.Restored restores.NoMemory) s is e = omega (arith, is, e)
+never_restored (loads.WriteFault created present) s is e = omega (arith, is, e)
+
+pub bad_dump : (came : Result DumpEnd PlaceFault) (s : ℕ) → s ≡ status_told (dumped_told came) → s ≡ BAD_WORDS → came ≡ Err places.BadPlace
 bad_dump (Ok d) s is e = absurd (never_dumped d s is e)
-bad_dump (Err places.BadPlace) s is e = refl
-bad_dump (Err places.NoMemory) s is e = absurd (omega (arith, is, e))
+bad_dump (Err fault) s is e = ap (λ (f : PlaceFault). Err f) (bad_place fault s is e)
 
-only_undumped : {F S K A : Type 0} (w : World F S K A) (url : List ℕ) (s : ℕ) → DumpOutcome w url s → s ≡ BAD_WORDS → ((p : PlaceView) → IsPlace url p → ⊥) × (OutputStays w)
-only_undumped w url s (dumped d is at cause flushed says) e = absurd (never_dumped d s is e)
-only_undumped w url s (undumped (wanting_place is) stays silent) e = absurd (omega (arith, is, e))
-only_undumped w url s (undumped (bad_place is none) stays silent) e = (none, silent.0)
+pub bad_load : (came : Result LoadEnd PlaceFault) (s : ℕ) → s ≡ status_told (loaded_told came) → s ≡ BAD_WORDS → came ≡ Err places.BadPlace
+bad_load (Ok d) s is e = absurd (never_restored d s is e)
+bad_load (Err fault) s is e = ap (λ (f : PlaceFault). Err f) (bad_place fault s is e)
 
--- ---- `load`
+-- the links are left where the definition of the line has no address
+pub bad_pipe : (came : Result PipeEnd Stop) (fails : Type 0) (file : List ℕ → Option (List ℕ)) (source : Source) (files links : Type 0) (s : ℕ) → IfErr came (Stops fails file source (files × links))
+    → s ≡ status_told (pipe_told came) → s ≡ BAD_WORDS → links
+bad_pipe (Ok end) fails file source files links s h is e = absurd (never_conversed end s is e)
+bad_pipe (Err stops.ReadFailed) fails file source files links s h is e = absurd (omega (arith, is, e))
+bad_pipe (Err (stops.Refused name why)) fails file source files links s h is e = absurd (omega (arith, is, e))
+bad_pipe (Err stops.BadAddress) fails file source files links s h is e = h.1.1
+bad_pipe (Err stops.NoMemory) fails file source files links s h is e = absurd (omega (arith, is, e))
 
-counts_so : {F S K A : Type 0} (w : World F S K A) (d : RestoreEnd) → WroteOf w.written_before w.written w.flushed (loads.Restored d) → IfUndone (OutputStays w) d → StaysSilent w → TellsCounts w d
-counts_so w (restores.Done created present) wrote stays same = wrote
-counts_so w restores.LinkFault wrote stays same = silent_so w stays same
-counts_so w restores.ReadFault wrote stays same = silent_so w stays same
-counts_so w (restores.BadLine number) wrote stays same = silent_so w stays same
-counts_so w (restores.Cut number) wrote stays same = silent_so w stays same
-counts_so w restores.TooMany wrote stays same = silent_so w stays same
-counts_so w (restores.Answer number code) wrote stays same = silent_so w stays same
-counts_so w restores.NoMemory wrote stays same = silent_so w stays same
+never_met : (came : Result Unit Unmet) (s : ℕ) → s ≡ status_told (serve_told came) → s ≡ BAD_WORDS → came ≡ Err (unmet.Stopped stops.BadAddress)
+never_met (Ok u) s is e = absurd (omega (arith, is, e))
+never_met (Err (unmet.Unserved unserved_ends.NotListening)) s is e = absurd (omega (arith, is, e))
+never_met (Err (unmet.Unserved unserved_ends.WriteFailed)) s is e = absurd (omega (arith, is, e))
+never_met (Err (unmet.Unserved unserved_ends.NoMemory)) s is e = absurd (omega (arith, is, e))
+never_met (Err (unmet.Stopped stops.ReadFailed)) s is e = absurd (omega (arith, is, e))
+never_met (Err (unmet.Stopped (stops.Refused name why))) s is e = absurd (omega (arith, is, e))
+never_met (Err (unmet.Stopped stops.BadAddress)) s is e = refl
+never_met (Err (unmet.Stopped stops.NoMemory)) s is e = absurd (omega (arith, is, e))
 
-pub load_outcome : {F S K A : Type 0} (w : World F S K A) (url : List ℕ) (came : Result LoadEnd PlaceFault) (s : ℕ)
-    → IfOk came (λ e. LoadedAt url w.linked_before w.linked w.input w.left (restored_to e)) → IfOk came (WroteOf w.written_before w.written w.flushed)
-    → IfOk came (λ e. IfUndone (OutputStays w) (restored_to e)) → IfOk came (λ e. OnEnd (IsAtEnd w.left) (restored_to e))
-    → IfOk came (λ e. OnRestoreFaults ⊤ (InputFails w) (restored_to e)) → IfOk came (IfUnwritten (OutputFails w))
-    → IfErr came (OnBadPlace ((p : PlaceView) → IsPlace url p → ⊥)) → OnErr came ((w.linked ≡ w.linked_before) × (InputStays w) × (OutputStays w)) → StaysSilent w
-    → s ≡ loaded_status came → Says w (loaded_line came) → LoadOutcome w url s
-load_outcome w url (Ok (loads.Restored d)) s at wrote silent end cause unwritten none stays same is says = restored d is at cause end (counts_so w d wrote silent same) says
-load_outcome w url (Ok (loads.WriteFault created present)) s at wrote silent end cause unwritten none stays same is says = broke_counts created present is unwritten at end wrote
-load_outcome w url (Err places.BadPlace) s at wrote silent end cause unwritten none stays same is says = unloaded (bad_place is none) stays.0 stays.1 (silent_so w stays.2 same)
-load_outcome w url (Err places.NoMemory) s at wrote silent end cause unwritten none stays same is says = unloaded (wanting_place is) stays.0 stays.1 (silent_so w stays.2 same)
-
-pub loads_line : (came : Result LoadEnd PlaceFault) (s : ℕ) → s ≡ loaded_status came → s ≢ BAD_INPUT → s ≢ BAD_ANSWER → loaded_line came ≡ error_line s
-loads_line (Ok (loads.Restored (restores.Done created present))) s is input answer = ap error_line (sym is)
-loads_line (Ok (loads.Restored restores.LinkFault)) s is input answer = ap error_line (sym is)
-loads_line (Ok (loads.Restored restores.ReadFault)) s is input answer = ap error_line (sym is)
-loads_line (Ok (loads.Restored (restores.BadLine number))) s is input answer = absurd (input is)
-loads_line (Ok (loads.Restored (restores.Cut number))) s is input answer = ap error_line (sym is)
-loads_line (Ok (loads.Restored restores.TooMany)) s is input answer = ap error_line (sym is)
-loads_line (Ok (loads.Restored (restores.Answer number code))) s is input answer = absurd (answer is)
-loads_line (Ok (loads.Restored restores.NoMemory)) s is input answer = ap error_line (sym is)
-loads_line (Ok (loads.WriteFault created present)) s is input answer = ap error_line (sym is)
-loads_line (Err fault) s is input answer = ap error_line (sym is)
-
-never_restored : (d : RestoreEnd) (s : ℕ) → s ≡ restore_status d → s ≡ BAD_WORDS → ⊥
-never_restored (restores.Done created present) s is e = omega (arith, is, e)
-never_restored restores.LinkFault s is e = omega (arith, is, e)
-never_restored restores.ReadFault s is e = omega (arith, is, e)
-never_restored (restores.BadLine number) s is e = omega (arith, is, e)
-never_restored (restores.Cut number) s is e = omega (arith, is, e)
-never_restored restores.TooMany s is e = omega (arith, is, e)
-never_restored (restores.Answer number code) s is e = omega (arith, is, e)
-never_restored restores.NoMemory s is e = omega (arith, is, e)
-
-pub bad_load : (came : Result LoadEnd PlaceFault) (s : ℕ) → s ≡ loaded_status came → s ≡ BAD_WORDS → came ≡ Err places.BadPlace
-bad_load (Ok (loads.Restored d)) s is e = absurd (never_restored d s is e)
-bad_load (Ok (loads.WriteFault created present)) s is e = absurd (omega (arith, is, e))
-bad_load (Err places.BadPlace) s is e = refl
-bad_load (Err places.NoMemory) s is e = absurd (omega (arith, is, e))
-
-only_unloaded : {F S K A : Type 0} (w : World F S K A) (url : List ℕ) (s : ℕ) → LoadOutcome w url s → s ≡ BAD_WORDS → ((p : PlaceView) → IsPlace url p → ⊥) × (InputStays w) × (OutputStays w)
-only_unloaded w url s (restored d is at cause end tells says) e = absurd (never_restored d s is e)
-only_unloaded w url s (broke_counts created present is fails at end front) e = absurd (omega (arith, is, e))
-only_unloaded w url s (unloaded (wanting_place is) stays input silent) e = absurd (omega (arith, is, e))
-only_unloaded w url s (unloaded (bad_place is none) stays input silent) e = (none, input, silent.0)
-
--- ---- no line ends as words do that are no line
-
-never_stopped : {F S K A : Type 0} (w : World F S K A) (named : Named) (s : ℕ) → Stopped w named s → s ≡ BAD_WORDS → ⊥
-never_stopped w named s (unreadable is fails) e = omega (arith, is, e)
-never_stopped w named s (refused is blames) e = omega (arith, is, e)
-never_stopped w named s (wanting is) e = omega (arith, is, e)
-
-never_talked : (end : PipeEnd) (s : ℕ) → s ≡ pipe_status end → s ≡ BAD_WORDS → ⊥
-never_talked Closed s is e = omega (arith, is, e)
-never_talked (Torn held) s is e = omega (arith, is, e)
-never_talked (Refused f) s is e = omega (arith, is, e)
-never_talked Spent s is e = omega (arith, is, e)
-never_talked ReadFault s is e = omega (arith, is, e)
-never_talked WriteFault s is e = omega (arith, is, e)
-
-never_piped : {F S K A : Type 0} (w : World F S K A) (named : Named) (turns s : ℕ) → PipeOutcome w named turns s → s ≡ BAD_WORDS → ⊥
-never_piped w named turns s (talked loaded held) e = never_talked held.end s held.is_status e
-never_piped w named turns s (unserved stopped input output) e = never_stopped w named s stopped e
-
-never_tasked : {F S K A : Type 0} (w : World F S K A) (named : Named) (t : Task) (s : ℕ) → TaskOutcome w named t s → s ≡ BAD_WORDS → ⊥
-never_tasked w named t s (wrote_line is loaded wrote end flushed) e = omega (arith, is, e)
-never_tasked w named t s (broke_line is fails loaded broke) e = omega (arith, is, e)
-never_tasked w named t s (refused_input why is loaded bad says silent) e = omega (arith, is, e)
-never_tasked w named t s (unread_input is fails loaded silent) e = omega (arith, is, e)
-never_tasked w named t s (wanting_task is silent) e = omega (arith, is, e)
-never_tasked w named t s (unloaded_task stopped input output) e = never_stopped w named s stopped e
-
-never_drilled : {F S K A : Type 0} (w : World F S K A) (start count s : ℕ) → DrillOutcome w start count s → s ≡ BAD_WORDS → ⊥
-never_drilled w start count s (wrote_drill is wrote flushed) e = omega (arith, is, e)
-never_drilled w start count s (broke_drill is fails broke) e = omega (arith, is, e)
-never_drilled w start count s (wanting_drill is silent) e = omega (arith, is, e)
-
-never_served : {F S K A : Type 0} (w : World F S K A) (named : Named) (asked : ℕ) (connections : Option ℕ) (s : ℕ) → ServeOutcome w named asked connections s → s ≡ BAD_WORDS → ⊥
-never_served w named asked connections s (answered count is all loaded told serves) e = omega (arith, is, e)
-never_served w named asked connections s (answered_fewer count is fails few loaded told serves) e = omega (arith, is, e)
-never_served w named asked connections s (unheard is fails loaded told nobody) e = omega (arith, is, e)
-never_served w named asked connections s (untold is fails loaded told nobody) e = omega (arith, is, e)
-never_served w named asked connections s (wanting_service is told nobody) e = omega (arith, is, e)
-never_served w named asked connections s (unloaded_service stopped silent nobody) e = never_stopped w named s stopped e
-
-only_placeless : {F S K A : Type 0} (w : World F S K A) (url : List ℕ) (s : ℕ) → MigrateOutcome w url s → s ≡ BAD_WORDS → ((p : PlaceView) → IsPlace url p → ⊥) × (OutputStays w)
-only_placeless w url s (settled t is none at wrote flushed) e = absurd (omega (arith, is, e))
-only_placeless w url s (contested t is some at wrote flushed) e = absurd (omega (arith, is, e))
-only_placeless w url s (broke_tally t is fails at front) e = absurd (omega (arith, is, e))
-only_placeless w url s (forgotten is at silent) e = absurd (omega (arith, is, e))
-only_placeless w url s (misanswered code is at says silent) e = absurd (omega (arith, is, e))
-only_placeless w url s (unlinked is at silent) e = absurd (omega (arith, is, e))
-only_placeless w url s (wanting_migration is silent) e = absurd (omega (arith, is, e))
-only_placeless w url s (placeless is none stays silent) e = (none, silent.0)
-
-only_addressless : {F S K A : Type 0} (w : World F S K A) (c : Conversion) (s : ℕ) → StoppedBy w c s → s ≡ BAD_WORDS → ((a : AddressView) → IsAddress c.url a → ⊥) × (FilesStay w) × (EarsStay w)
-only_addressless w c s (unreadable_file is fails) e = absurd (omega (arith, is, e))
-only_addressless w c s (refused_file name why is bad says) e = absurd (omega (arith, is, e))
-only_addressless w c s (wanting_memory is) e = absurd (omega (arith, is, e))
-only_addressless w c s (addressless is none files ears) e = (none, files, ears)
-
-pub never_held : (came : Result PipeEnd NoMemory) (s : ℕ) → s ≡ talk_status came → s ≡ BAD_WORDS → ⊥
-never_held (Ok end) s is e = never_talked end s is e
-never_held (Err fault) s is e = omega (arith, is, e)
-
-pub never_connected : (came : Result Unit Unserved) (s : ℕ) → s ≡ served_status came → s ≡ BAD_WORDS → ⊥
-never_connected (Ok u) s is e = omega (arith, is, e)
-never_connected (Err ends.NotListening) s is e = omega (arith, is, e)
-never_connected (Err ends.WriteFailed) s is e = omega (arith, is, e)
-never_connected (Err ends.NoMemory) s is e = omega (arith, is, e)
-
-only_piped_by : {F S K A : Type 0} (w : World F S K A) (c : Conversion) (turns s : ℕ) → PipeByOutcome w c turns s → s ≡ BAD_WORDS
-    → ((a : AddressView) → IsAddress c.url a → ⊥) × (FilesStay w) × (InputStays w) × (OutputStays w)
-only_piped_by w c turns s (talked loaded held) e = absurd (never_talked held.end s held.is_status e)
-only_piped_by w c turns s (unserved stopped input output) e = let found = only_addressless w c s stopped e in (found.0, found.1, input, output.0)
-
-only_served_by : {F S K A : Type 0} (w : World F S K A) (c : Conversion) (asked : ℕ) (connections : Option ℕ) (s : ℕ) → ServeByOutcome w c asked connections s → s ≡ BAD_WORDS
-    → ((a : AddressView) → IsAddress c.url a → ⊥) × (FilesStay w) × (OutputStays w) × (EarsStay w)
-only_served_by w c asked connections s (answered count is all loaded told serves) e = absurd (omega (arith, is, e))
-only_served_by w c asked connections s (answered_fewer count is fails few loaded told serves) e = absurd (omega (arith, is, e))
-only_served_by w c asked connections s (unheard is fails loaded told nobody) e = absurd (omega (arith, is, e))
-only_served_by w c asked connections s (untold is fails loaded told nobody) e = absurd (omega (arith, is, e))
-only_served_by w c asked connections s (wanting_service is told nobody) e = absurd (omega (arith, is, e))
-only_served_by w c asked connections s (unloaded_service stopped silent nobody) e = let found = only_addressless w c s stopped e in (found.0, found.1, silent.0, found.2)
+pub bad_serve : {I O : Type 0} (k : Sides I O) (came : Result Unit Unmet) (file : List ℕ → Option (List ℕ)) (source : Source) (start : Start) (l : Listening) (h : Hearing) (fails files links silent : Type 0) (s : ℕ)
+    → Serves k file source start l h fails (files × links) silent came → s ≡ status_told (serve_told came) → s ≡ BAD_WORDS → links
+bad_serve k came file source start l h fails files links silent s serves is e =
+    (subst (λ (c : Result Unit Unmet). Serves k file source start l h fails (files × links) silent c) (never_met came s is e) serves).0.1.1
 
 -- a line whose words are told to be bad has a place or a converter's address that is none, and touches nothing
-pub bad_words : {F S K A : Type 0} (w : World F S K A) (line : Line) (s : ℕ) → Outcome w line s → s ≡ BAD_WORDS → IsPlaceless line × (FilesStay w) × (InputStays w) × (OutputStays w) × (EarsStay w)
-bad_words w (pipe named turns) s out e = absurd (never_piped w named turns s out.0 e)
-bad_words w (task c r t) s out e = absurd (never_tasked w _ t s out.0 e)
+pub bad_words : {F S K E A L I O : Type 0} (w : World F S K E A L I O) (line : Line) (s : ℕ) → Outcome w line s → s ≡ BAD_WORDS → IsPlaceless line × FilesStay w × InputStays w × OutputStays w × EarsStay w
+bad_words w (pipe source turns) s (conversed l end means talk is, ears, ruled) e = absurd (never_conversed end s is e)
+bad_words w (pipe source turns) s (unserved stopped unread output, ears, ruled) e = let found = only_stopped w source s stopped e in (found.0, found.1, unread, output, ears)
+bad_words w (task crd rules t) s out e = absurd (never_tasked w crd rules t s out.0 e)
 bad_words w (drill start count) s out e = absurd (never_drilled w start count s out.0 e)
-bad_words w (serve v) s out e = absurd (never_served w _ v.workers v.connections s out.0 e)
-bad_words w (remote migrate url) s out e = let found = only_placeless w url s out.0 e in (found.0, out.1, out.2, found.1, out.3)
-bad_words w (remote dump url) s out e = let found = only_undumped w url s out.0 e in (found.0, out.1, out.2, found.1, out.3)
-bad_words w (pipe_by c turns) s out e = let found = only_piped_by w c turns s out.0 e in (found.0, found.1, found.2, found.3, out.1)
-bad_words w (serve_by c l) s out e = let found = only_served_by w c l.workers l.connections s out.0 e in (found.0, found.1, out.1, found.2, found.3)
-bad_words w (remote load url) s out e = let found = only_unloaded w url s out.0 e in (found.0, out.1, found.1, found.2, out.2)
+bad_words w (serve source l) s (served m means ends, unread, ruled) e = absurd (never_served w m l s ends e)
+bad_words w (serve source l) s (unloaded_service stopped output ears, unread, ruled) e = let found = only_stopped w source s stopped e in (found.0, found.1, unread, output, ears)
+bad_words w (remote migrate url) s out e = let found = only_unmigrated w url s out.0 e in (found.0, out.1, out.2, found.1, out.3)
+bad_words w (remote dump url) s (dumped d told at cause handed broken, files, unread, ears) e = absurd (never_dumped d s told.status_is e)
+bad_words w (remote dump url) s (undumped u, files, unread, ears) e = let found = only_unplaced w url s u e in (found.0, files, unread, found.2, ears)
+bad_words w (remote load url) s (restored d told at cause end unwritten wrote silent, files, ears) e = absurd (never_restored d s told.status_is e)
+bad_words w (remote load url) s (unloaded u, files, ears) e = let found = only_unplaced w url s u e in (found.0, files, found.1, found.2, ears)
+
+-- ---- what holds of each line
+
+pub if_ruled : (source : Source) {P : Type 0} → P → IfRuled source P
+if_ruled built_in is = is
+if_ruled (by_rules crd rules) is = is
+if_ruled (by_converter crd hub url) is = tt
 
 -- memory was wanted before anything was touched
-pub wanted : {F S K A : Type 0} (w : World F S K A) (line : Line) (s : ℕ) → s ≡ NO_MEMORY → FilesStay w → InputStays w → IsSilent w → EarsStay w → HearsNobody w
-    → w.linked ≡ w.linked_before → Outcome w line s
-wanted w (pipe named turns) s is files input silent ears nobody links = (unserved (wanting is) input silent, ears)
-wanted w (task c r t) s is files input silent ears nobody links = (wanting_task is silent, ears)
-wanted w (drill start count) s is files input silent ears nobody links = (wanting_drill is silent, files, input, ears)
-wanted w (serve v) s is files input silent ears nobody links = (wanting_service is (inl silent.1) nobody, input)
-wanted w (remote migrate url) s is files input silent ears nobody links = (wanting_migration is silent, files, input, ears)
-wanted w (remote dump url) s is files input silent ears nobody links = (undumped (wanting_place is) links silent, files, input, ears)
-wanted w (remote load url) s is files input silent ears nobody links = (unloaded (wanting_place is) links input silent, files, ears)
-wanted w (pipe_by c turns) s is files input silent ears nobody links = (unserved (wanting_memory is) input silent, ears)
-wanted w (serve_by c l) s is files input silent ears nobody links = (wanting_service is (inl silent.1) nobody, input)
-
--- whatever holds, it holds of such lines alone
-pub unlinked_stays : (line : Line) {P : Type 0} → P → IfUnlinked line P
-unlinked_stays (pipe named turns) is = is
-unlinked_stays (task c r t) is = is
-unlinked_stays (drill start count) is = is
-unlinked_stays (serve v) is = is
-unlinked_stays (remote work url) is = tt
-unlinked_stays (pipe_by c turns) is = tt
-unlinked_stays (serve_by c l) is = tt
+pub wanted : {F S K E A L I O : Type 0} (w : World F S K E A L I O) (line : Line) (s : ℕ) → s ≡ NO_MEMORY → Says w (error_line NO_MEMORY) → FilesStay w → InputStays w → OutputStays w → EarsStay w → LinksStay w
+    → Outcome w line s
+wanted w (pipe source turns) s is says files unread output ears links = (unserved (wanting is) unread output, ears, if_ruled source links)
+wanted w (task crd rules t) s is says files unread output ears links = (unloaded_task (wanting is) unread output, ears, links)
+wanted w (drill start count) s is says files unread output ears links = (wanting_drill is output, files, unread, ears, links)
+wanted w (serve source l) s is says files unread output ears links = (unloaded_service (wanting is) output ears, unread, if_ruled source links)
+wanted w (remote migrate url) s is says files unread output ears links =
+    (record { end = migrated.NoMemory; is_told = record { status_is = is; says = says }; came = unread_place refl (ap w.tells.linked links); cause = tt; silent = output }, files, unread, ears)
+wanted w (remote dump url) s is says files unread output ears links =
+    (undumped (record { fault = places.NoMemory; is_told = record { status_is = is; says = says }; none = tt; unlinked = ap w.tells.linked links; untouched = unread; silent = output }), files, unread, ears)
+wanted w (remote load url) s is says files unread output ears links =
+    (unloaded (record { fault = places.NoMemory; is_told = record { status_is = is; says = says }; none = tt; unlinked = ap w.tells.linked links; untouched = unread; silent = output }), files, ears)
 
 -- nothing was written that names a place
 pub placed_stays : (line : Line) (may : List ℕ → List ℕ → Type 0) (before written : Option (List ℕ)) → written ≡ before → IfServes line (λ place. NamesPlace (may place) before written)
-placed_stays (pipe named turns) may before written same = tt
+placed_stays (pipe source turns) may before written same = tt
 placed_stays (task c r t) may before written same = tt
 placed_stays (drill start count) may before written same = tt
-placed_stays (serve v) may before written same = inl same
+placed_stays (serve source l) may before written same = inl same
 placed_stays (remote work url) may before written same = tt
-placed_stays (pipe_by c turns) may before written same = tt
-placed_stays (serve_by c l) may before written same = inl same
 
 -- the line that was read, where one was
 pub that_line : (read : Option Command) (c : Command) (line : Line) → read ≡ Some c → MatchOption read ⊥ (λ d. line ≡ line_of d) → line ≡ line_of c

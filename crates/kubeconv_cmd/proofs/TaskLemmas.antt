@@ -1,19 +1,16 @@
 -- What is known of a document, by steps.
-use Rattle.std.proofs.Common.{◌≡◌, ◌≢◌, ◌<◌, ◌≤◌, ℕ, List, length, Option, Result, Ok, Err, sym, subst}
+use Rattle.std.proofs.Common.{◌≡◌, ◌≢◌, ◌<◌, ◌≤◌, ◌⊎◌, ℕ, List, length, Result, Ok, Err, inl, inr, sym, subst}
 use Rattle.std.specs.Prelude.{IfOk, IfErr}
 use Rattle.std.proofs.Math.Logic.{∥∥₁_elim}
 use Rattle.kj_value.specs.declared.txt.Txt.{Txt}
-use Rattle.crd_loading.specs.Load.{Loads}
-use Rattle.crd_loading.specs.Set.{set_of}
-use Rattle.crd_loading.specs.View.{LoadedView}
 use Rattle.crd_meaning.specs.Definition.{Definition, IsLoaded, count_of, version_at}
 use Rattle.review_batch.specs.Answer.{IsAnswer, IsNoRequest}
 use Rattle.api_calls.specs.Meaning.{Fault}
 use Rattle.api_calls.specs.Readings.{IsFaulty}
 use Rattle.api_calls.specs.declared.versions.TheConstants.{OBJECT_LEVELS}
-use Rattle.command_lines.specs.Lines.{Task, convert, review}
-use Rattle.kubeconv_cmd.specs.Tasks.{IsVersionNamed, IsValueOf, AnswersDocument, RefusesDocument, unknown, long_document, faulty as faulty_document, long_review, no_review, AnswersTexts, RefusesTexts, Wrote, Broke, no_version, too_long, IsWithout, fault_words, not_review}
-use Rattle.kubeconv_cmd.specs.inner.Halts.{OnUnread, Follows, OnHalt, NoValue, NoAnswer, long, faulty, none}
+use Rattle.command_lines.specs.Lines.{convert, review}
+use Rattle.kubeconv_cmd.specs.Tasks.{IsVersionNamed, IsValueOf, KnowsTarget, LacksTarget, unknown, AnswersDocument, RefusesDocument, long_document, faulty as faulty_document, no_review, no_version, too_long, IsWithout, fault_words, not_review}
+use Rattle.kubeconv_cmd.specs.inner.Ends.{Asked, OnUnread, Follows, OnHalt, NoValue, NoAnswer, long, faulty, none}
 use Rattle.kubeconv_cmd.specs.declared.input.TheConstants.{MOST_INPUT_BYTES}
 use Rattle.kubeconv_cmd.specs.declared.input.Unread.{Unread}
 use Rattle.kubeconv_cmd.specs.declared.input.Unread.TheVariants as unread
@@ -54,7 +51,7 @@ unread_halt P Q I unread.NoMemory h p is f = rw is tt
 -- ---- a conversion
 
 pub no_value : (d : Definition) (name : List ℕ) (v : ℕ) (b why : List ℕ) → IsVersionNamed d name v → NoValue d v b why → RefusesDocument d b (convert name) why
-no_value d name v b why is (long more) = long_document name v is more
+no_value d name v b why is (long more) = long_document (convert name) more
 no_value d name v b why is (faulty f short bad) = faulty_document name v f is short bad
 
 -- of the bytes that were read
@@ -63,9 +60,17 @@ pub faulty_at : (d : Definition) (v : ℕ) (bytes b why : List ℕ) → bytes �
 faulty_at d v bytes b why is short h =
     subst (λ (x : List ℕ). NoValue d v x why) is (subst (λ (x : List ℕ). NoValue d v bytes x) (sym h.2) (faulty h.0 short h.1))
 
-pub unknown_version : (d : Definition) (name b why : List ℕ) → ((v : ℕ) → v < count_of d → (version_at d v).name ≢ name) → why ≡ no_version name
-    → RefusesDocument d b (convert name) why
-unknown_version d name b why never is = rw is (unknown name (λ v k. never v k.known k.named))
+-- there is no version of the name
+pub lacks_version : (d : Definition) (name why : List ℕ) → ((v : ℕ) → v < count_of d → (version_at d v).name ≢ name) → why ≡ no_version name → LacksTarget d (convert name) why
+lacks_version d name why never is = rw is (unknown name (λ v k. never v k.known k.named))
+
+pub never_known : (d : Definition) (name : List ℕ) → ((v : ℕ) → v < count_of d → (version_at d v).name ≢ name) → KnowsTarget d (convert name) → ⊥
+never_known d name never known = never known.0 known.1.known known.1.named
+
+-- a task whose version isn't known comes to no text
+pub asked_ok : {T U : Type 0} (known unread : Type 0) (lacks : List ℕ → Type 0) (t : T) (came : Result U Halt) → Asked known unread lacks (Ok t) → Asked known unread lacks came
+asked_ok known unread lacks t came (inl k) = inl k
+asked_ok known unread lacks t came (inr p) = absurd p.1
 
 pub converts : (result : Result Txt Halt) (d : Definition) (name : List ℕ) (v : ℕ) (b : List ℕ) → IsVersionNamed d name v
     → IfOk result (λ t. (length b ≤ MOST_INPUT_BYTES) × IsValueOf d v b t.bytes) → IfOk result (λ t. AnswersDocument d (convert name) b t.bytes)
@@ -75,7 +80,7 @@ converts (Err e) d name v b is h = tt
 -- ---- a review
 
 pub no_answer : (d : Definition) (b why : List ℕ) → NoAnswer b why → RefusesDocument d b review why
-no_answer d b why (long more) = long_review more
+no_answer d b why (long more) = long_document review more
 no_answer d b why (none path short bad) = no_review path short bad
 
 -- of the bytes that were read
@@ -87,19 +92,3 @@ pub answers : (result : Result Txt Halt) (d : Definition) (b : List ℕ)
     → IfOk result (λ t. (length b ≤ MOST_INPUT_BYTES) × IsAnswer d b t.bytes) → IfOk result (λ t. AnswersDocument d review b t.bytes)
 answers (Ok t) d b h = h
 answers (Err e) d b h = tt
-
--- ---- by the texts of a definition
-
-pub of_texts : (crd rules : List ℕ) (l : LoadedView) (d : Definition) (t : Task) (b text : List ℕ) → Loads crd rules l → d ≡ set_of l → AnswersDocument d t b text → AnswersTexts crd rules t b text
-of_texts crd rules l d t b text loads is h = record { loaded = l; loads = loads; answers = subst (λ (x : Definition). AnswersDocument x t b text) is h }
-
-pub refuses_texts : (crd rules : List ℕ) (l : LoadedView) (d : Definition) (t : Task) (b why : List ℕ) → Loads crd rules l → d ≡ set_of l → RefusesDocument d b t why → RefusesTexts crd rules t b why
-refuses_texts crd rules l d t b why loads is h = record { loaded = l; loads = loads; refuses = subst (λ (x : Definition). RefusesDocument x b t why) is h }
-
-pub wrote_texts : (crd rules : List ℕ) (l : LoadedView) (d : Definition) (t : Task) (b : List ℕ) (before written : Option (List ℕ)) → Loads crd rules l → d ≡ set_of l
-    → Wrote (AnswersDocument d t b) before written → Wrote (AnswersTexts crd rules t b) before written
-wrote_texts crd rules l d t b before written loads is h = record { text = h.text; is = of_texts crd rules l d t b h.text loads is h.is; wrote = h.wrote }
-
-pub broke_texts : (crd rules : List ℕ) (l : LoadedView) (d : Definition) (t : Task) (b : List ℕ) (before written : Option (List ℕ)) → Loads crd rules l → d ≡ set_of l
-    → Broke (AnswersDocument d t b) before written → Broke (AnswersTexts crd rules t b) before written
-broke_texts crd rules l d t b before written loads is h = record { text = h.text; is = of_texts crd rules l d t b h.text loads is h.is; front = h.front }

@@ -1,10 +1,8 @@
-pub mod Texts
-pub mod Tasks
-pub mod Listening
 pub mod Serving
-pub mod Beside
-pub mod Converting
-pub mod Outcome
+pub mod World
+pub mod Sources
+pub mod Tasks
 pub mod Status
-pub mod Refusal
+pub mod Remote
+pub mod Outcome
 pub mod inner

@@ -1,13 +1,18 @@
 -- The status of a run, and what it says of a fault.
 use Rattle.std.specs.Prelude.{◌==◌, ◌++◌, ℕ, List, [], codes, decimal, if◌then◌else◌}
 use Rattle.http_wire.specs.Stream.{End, closed, closing, spent, torn, refused}
+use Rattle.place.specs.declared.PlaceFault.{PlaceFault}
+use Rattle.place.specs.declared.PlaceFault.TheVariants as places
 use Rattle.record_dump.specs.declared.ends.DumpEnd.{DumpEnd}
 use Rattle.record_dump.specs.declared.ends.DumpEnd.TheVariants as dumps
-use Rattle.record_dump.specs.declared.ends.RestoreEnd.{RestoreEnd}
 use Rattle.record_dump.specs.declared.ends.RestoreEnd.TheVariants as restores
+use Rattle.far_lines.specs.declared.end.MigrateEnd.{MigrateEnd}
+use Rattle.far_lines.specs.declared.end.MigrateEnd.TheVariants as migrations
+use Rattle.far_lines.specs.declared.end.LoadEnd.{LoadEnd}
+use Rattle.far_lines.specs.declared.end.LoadEnd.TheVariants as loads
 use Rattle.serve_input.specs.declared.conversing.PipeEnd.{PipeEnd}
 use Rattle.serve_input.specs.declared.conversing.PipeEnd.TheVariants.{Closed, Torn, Refused, Spent, ReadFault, WriteFault}
-use Rattle.kubeconv_cmd.specs.declared.status.TheConstants.{DONE, BAD_WORDS, BAD_INPUT, READ_FAILED, WRITE_FAILED, NO_MEMORY, LISTEN_FAILED, CUT, TOO_MANY, LINK_FAILED, BAD_ANSWER, UNSETTLED}
+use Rattle.kubeconv_cmd.specs.declared.status.TheConstants.{DONE, BAD_WORDS, REFUSED, BAD_INPUT, READ_FAILED, WRITE_FAILED, NO_MEMORY, LISTEN_FAILED, CUT, TOO_MANY, LINK_FAILED, BAD_ANSWER, UNSETTLED}
 
 -- the status of the end of an input
 abbrev pub status_of : End → ℕ
@@ -25,26 +30,6 @@ pipe_status WriteFault = WRITE_FAILED
 pipe_status (Torn held) = CUT
 pipe_status (Refused f) = CUT
 pipe_status Spent = TOO_MANY
-
--- the status of a dump's end
-abbrev pub dump_status : DumpEnd → ℕ
-dump_status (dumps.Done lines) = DONE
-dump_status dumps.LinkFault = LINK_FAILED
-dump_status dumps.WriteFault = WRITE_FAILED
-dump_status (dumps.Answer code) = BAD_ANSWER
-dump_status dumps.Expired = UNSETTLED
-dump_status dumps.NoMemory = NO_MEMORY
-
--- the status of a restoring's end
-abbrev pub restore_status : RestoreEnd → ℕ
-restore_status (restores.Done created present) = DONE
-restore_status restores.LinkFault = LINK_FAILED
-restore_status restores.ReadFault = READ_FAILED
-restore_status (restores.BadLine number) = BAD_INPUT
-restore_status (restores.Cut number) = CUT
-restore_status restores.TooMany = TOO_MANY
-restore_status (restores.Answer number code) = BAD_ANSWER
-restore_status restores.NoMemory = NO_MEMORY
 
 -- the words of an error line for a status
 abbrev pub fault_text : ℕ → List ℕ
@@ -80,22 +65,59 @@ answer_line code = codes "kubeconv: answer " ++ (decimal code ++ codes "\n")
 unfoldable pub bad_line : ℕ → List ℕ
 bad_line number = codes "kubeconv: line " ++ (decimal number ++ codes "\n")
 
--- the error line of a dump's end
-abbrev pub dump_error_line : DumpEnd → List ℕ
-dump_error_line (dumps.Done lines) = error_line DONE
-dump_error_line dumps.LinkFault = error_line LINK_FAILED
-dump_error_line dumps.WriteFault = error_line WRITE_FAILED
-dump_error_line (dumps.Answer code) = answer_line code
-dump_error_line dumps.Expired = error_line UNSETTLED
-dump_error_line dumps.NoMemory = error_line NO_MEMORY
+-- ---- how a run ends
 
--- the error line of a restoring's end
-abbrev pub restore_error_line : RestoreEnd → List ℕ
-restore_error_line (restores.Done created present) = error_line DONE
-restore_error_line restores.LinkFault = error_line LINK_FAILED
-restore_error_line restores.ReadFault = error_line READ_FAILED
-restore_error_line (restores.BadLine number) = bad_line number
-restore_error_line (restores.Cut number) = error_line CUT
-restore_error_line restores.TooMany = error_line TOO_MANY
-restore_error_line (restores.Answer number code) = answer_line code
-restore_error_line restores.NoMemory = error_line NO_MEMORY
+-- what is told of an end: a status that has a line of its own; or that a file is refused, or the input, or a line of it, or an answer
+pub data Told : Type 0 where
+  plainly : ℕ → Told
+  of_file : (name why : List ℕ) → Told
+  of_input : (why : List ℕ) → Told
+  of_line : (number : ℕ) → Told
+  of_answer : (code : ℕ) → Told
+
+abbrev pub status_told : Told → ℕ
+status_told (plainly status) = status
+status_told (of_file name why) = REFUSED
+status_told (of_input why) = BAD_INPUT
+status_told (of_line number) = BAD_INPUT
+status_told (of_answer code) = BAD_ANSWER
+
+abbrev pub line_told : Told → List ℕ
+line_told (plainly status) = error_line status
+line_told (of_file name why) = refusal_line name why
+line_told (of_input why) = line_saying why
+line_told (of_line number) = bad_line number
+line_told (of_answer code) = answer_line code
+
+abbrev pub migration_told : MigrateEnd → Told
+migration_told migrations.Done = plainly DONE
+migration_told migrations.Contested = plainly UNSETTLED
+migration_told migrations.BadPlace = plainly BAD_WORDS
+migration_told migrations.LinkFault = plainly LINK_FAILED
+migration_told (migrations.Answer code) = of_answer code
+migration_told migrations.Restarted = plainly UNSETTLED
+migration_told migrations.WriteFault = plainly WRITE_FAILED
+migration_told migrations.NoMemory = plainly NO_MEMORY
+
+abbrev pub place_told : PlaceFault → Told
+place_told places.BadPlace = plainly BAD_WORDS
+place_told places.NoMemory = plainly NO_MEMORY
+
+abbrev pub dump_told : DumpEnd → Told
+dump_told (dumps.Done lines) = plainly DONE
+dump_told dumps.LinkFault = plainly LINK_FAILED
+dump_told dumps.WriteFault = plainly WRITE_FAILED
+dump_told (dumps.Answer code) = of_answer code
+dump_told dumps.Expired = plainly UNSETTLED
+dump_told dumps.NoMemory = plainly NO_MEMORY
+
+abbrev pub load_told : LoadEnd → Told
+load_told (loads.Restored (restores.Done created present)) = plainly DONE
+load_told (loads.Restored restores.LinkFault) = plainly LINK_FAILED
+load_told (loads.Restored restores.ReadFault) = plainly READ_FAILED
+load_told (loads.Restored (restores.BadLine number)) = of_line number
+load_told (loads.Restored (restores.Cut number)) = plainly CUT
+load_told (loads.Restored restores.TooMany) = plainly TOO_MANY
+load_told (loads.Restored (restores.Answer number code)) = of_answer code
+load_told (loads.Restored restores.NoMemory) = plainly NO_MEMORY
+load_told (loads.WriteFault created present) = plainly WRITE_FAILED

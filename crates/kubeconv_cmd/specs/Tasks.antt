@@ -10,9 +10,6 @@ use Rattle.api_calls.specs.Cause.{why_word}
 use Rattle.api_calls.specs.Meaning.{Fault, bad_request, invalid}
 use Rattle.api_calls.specs.Readings.{IsFaulty}
 use Rattle.api_calls.specs.declared.versions.TheConstants.{OBJECT_LEVELS}
-use Rattle.crd_loading.specs.Load.{Loads}
-use Rattle.crd_loading.specs.Set.{set_of}
-use Rattle.crd_loading.specs.View.{LoadedView}
 use Rattle.crd_meaning.specs.Definition.{Definition, count_of, version_at}
 use Rattle.crd_meaning.specs.Converted.{IsConverted}
 use Rattle.crd_meaning.specs.Unconverted.{IsUnconverted}
@@ -57,32 +54,29 @@ not_review path = codes "NotReview " ++ path
 
 -- ---- by a definition
 
+-- the version that is wanted is one of its versions
+abbrev pub KnowsTarget : Definition → Task → Type 0
+KnowsTarget d (convert name) = (v : ℕ) × IsVersionNamed d name v
+KnowsTarget d review = Unit {0}
+
+-- it isn't, and this is said
+pub data LacksTarget (d : Definition) : Task → List ℕ → Type 0 where
+  unknown : (name : List ℕ) → ((v : ℕ) → IsVersionNamed d name v → ⊥) → LacksTarget d (convert name) (no_version name)
+
 -- the text that is written of the bytes
 abbrev pub AnswersDocument : Definition → Task → List ℕ → List ℕ → Type 0
 AnswersDocument d (convert name) bytes text =
     (length bytes ≤ MOST_INPUT_BYTES) × (v : ℕ) × IsVersionNamed d name v × IsValueOf d v bytes text
 AnswersDocument d review bytes text = (length bytes ≤ MOST_INPUT_BYTES) × IsAnswer d bytes text
 
--- Why there is none. That there is no version of the name is told before anything is read.
+-- why there is none
 pub data RefusesDocument (d : Definition) (bytes : List ℕ) : Task → List ℕ → Type 0 where
-  unknown : (name : List ℕ) → ((v : ℕ) → IsVersionNamed d name v → ⊥) → RefusesDocument d bytes (convert name) (no_version name)
-  long_document : (name : List ℕ) (v : ℕ) → IsVersionNamed d name v → MOST_INPUT_BYTES < length bytes → RefusesDocument d bytes (convert name) too_long
+  long_document : (t : Task) → MOST_INPUT_BYTES < length bytes → RefusesDocument d bytes t too_long
   faulty : (name : List ℕ) (v : ℕ) (f : Fault) → IsVersionNamed d name v → length bytes ≤ MOST_INPUT_BYTES
       → IsFaulty bytes OBJECT_LEVELS (IsWithout d v) f → RefusesDocument d bytes (convert name) (fault_words f)
-  long_review : MOST_INPUT_BYTES < length bytes → RefusesDocument d bytes review too_long
   no_review : (path : List ℕ) → length bytes ≤ MOST_INPUT_BYTES → IsNoRequest bytes path → RefusesDocument d bytes review (not_review path)
 
--- ---- by the definition and the rules that two texts are
-
-pub record AnswersTexts (crd rules : List ℕ) (t : Task) (bytes text : List ℕ) : Type 0 where
-  pub loaded : LoadedView
-  pub loads : Loads crd rules loaded
-  pub answers : AnswersDocument (set_of loaded) t bytes text
-
-pub record RefusesTexts (crd rules : List ℕ) (t : Task) (bytes why : List ℕ) : Type 0 where
-  pub loaded : LoadedView
-  pub loads : Loads crd rules loaded
-  pub refuses : RefusesDocument (set_of loaded) bytes t why
+-- ---- what is written
 
 -- the whole line was written
 pub record Wrote (answers : List ℕ → Type 0) (before written : Option (List ℕ)) : Type 0 where

@@ -2,7 +2,7 @@
 ghost use Rattle.std.specs.Prelude.{◌≡◌, ◌≤◌, ◌<◌, ◌++◌, ℕ, List, Some, length, IfOk, IfErr, OnOk};
 ghost use Rattle.std.specs.Io.KnownBytes.{prepend_known, IsAtEnd};
 ghost use Rattle.edge_io.specs.Causes.{Rose};
-ghost use Rattle.kubeconv_cmd.specs.inner.Halts.{OnUnread};
+ghost use Rattle.kubeconv_cmd.specs.inner.Ends.{OnUnread};
 
 use edge_io::Source;
 use std::alloc::Global;

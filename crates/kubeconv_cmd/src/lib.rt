@@ -21,11 +21,9 @@ mod tasks;
 // The work of `drill`.
 mod drill_line;
 
-// The work of `serve`.
+// The work of `pipe`, and that of `serve`.
+mod pipe_line;
 mod serve_line;
-
-// The work of `pipe` and `serve` with a converter.
-mod converting;
 
 // The statuses, and the top call.
 mod status;

@@ -1,29 +1,31 @@
-//! The definition of a line, from its two texts.
-ghost use Rattle.std.specs.Prelude.{◌≡◌, ◌≤◌, ℕ, List, Some, IfOk, IfErr, OnOk};
+//! The definition of a line, from its texts.
+ghost use Rattle.std.specs.Prelude.{◌≡◌, ◌≤◌, ◌⊎◌, ℕ, List, Some, IfOk, IfErr, OnOk};
 ghost use Rattle.edge_io.specs.Causes.{Rose};
-ghost use Rattle.crd_loading.specs.Load.{Loads, RefusesDefinition, RefusesRules};
-ghost use Rattle.crd_loading.specs.View.{LoadedView};
-ghost use Rattle.crd_loading.specs.Set.{set_of};
+ghost use Rattle.crd_loading.specs.Blame.{Blame};
+ghost use Rattle.crd_loading.specs.Load.{RefusesDefinition};
+ghost use Rattle.crd_loading.specs.Told.{RefusesIn};
+ghost use Rattle.crd_loading.specs.declared.loading.Which.{Which};
 ghost use Rattle.crd_versions.specs.Set.{definition_of};
-ghost use Rattle.kj_value.specs.Reading.{Reads};
-ghost use Rattle.crontab_example.specs.Documents.{definition_document, rules_document};
+ghost use Rattle.hook_versions.specs.Loads.{LoadsHook, HasNoHub};
 ghost use Rattle.built_in.specs.Texts.{definition_text, rules_text};
-ghost use Rattle.kubeconv_cmd.specs.Texts.{Texts};
-ghost use Rattle.kubeconv_cmd.specs.Refusal.{IsText, IsUnfit, IsFirstRefused, IsServed, DontLoad, RefusesNamed, file_of};
-ghost use Rattle.command_lines.specs.Given.{named_of};
-ghost use Rattle.kubeconv_cmd.specs.inner.Ends.{OnRefused, OnUnread};
+ghost use Rattle.http_address.specs.Address.{AddressView, IsAddress};
+ghost use Rattle.command_lines.specs.Lines.{by_converter, by_rules};
+ghost use Rattle.kubeconv_cmd.specs.Sources.{IsExample, IsTaken, IsUnfit, LoadsSet, Means, blame_text, file_of, with_converter, with_rules};
+ghost use Rattle.kubeconv_cmd.specs.inner.Ends.{Stops, StopsBy};
 
 use crate::stop::{Stop, Why};
 use built_in::accepted;
-use command_lines::Named;
+use converters::Converter;
 use crd_versions::{LoadFault, VersionSet, Which, load};
 use edge_io::{FileFault, Files};
+use hook_versions::{HookSet, load_hook};
+use http_address::{Address, AddressFault, read_address};
 use kj_value::{NoMemory, Txt, one_reading};
 use std::alloc::Global;
 
-// The definition that is built in. Nothing of it is refused.
-fn load_built_in(alloc: Global) -> Result<VersionSet, NoMemory>
-    ensures { IfOk result (λ s. (l : LoadedView) × Loads definition_text rules_text l × (definition_of s ≡ set_of l)) }
+/// The definition that is built in. Nothing of it is refused.
+pub(crate) fn load_built_in(alloc: Global) -> Result<VersionSet, NoMemory>
+    ensures { IfOk result (λ s. LoadsSet definition_text rules_text (definition_of s)) }
 {
     // Asked for what its clauses say: nothing of the two texts is refused.
     accepted();
@@ -51,8 +53,7 @@ fn load_built_in(alloc: Global) -> Result<VersionSet, NoMemory>
 
 /// The definition of the shared example, of which nothing is refused, as any two texts that read as its documents load it.
 pub(crate) fn load_example(alloc: Global) -> Result<VersionSet, NoMemory>
-    ensures { (crd rules : List ℕ) → Reads crd 100 definition_document → Reads rules 100 rules_document
-        → IfOk result (λ s. (l : LoadedView) × Loads crd rules l × (definition_of s ≡ set_of l)) }
+    ensures { IfOk result (λ s. IsExample (definition_of s)) }
 {
     // Asked for what their clauses say: nothing of texts that read so is refused, and a text reads as one value.
     crontab_example::accepted();
@@ -79,19 +80,12 @@ pub(crate) fn load_example(alloc: Global) -> Result<VersionSet, NoMemory>
     }
 }
 
-/// The text of a file.
-pub(crate) fn read_text<'a, F: Files>(
-    alloc: Global,
-    files: &mut F,
-    path: &'a str,
-) -> Result<Txt, Stop<'a>>
-    ensures text { (bytes : List ℕ) → F.file files.old path.now ≡ Some bytes
-        → IfOk result (λ text. IsText bytes × (text.bytes ≡ bytes)) }
-    ensures refused { (bytes : List ℕ) → F.file files.old path.now ≡ Some bytes
-        → IfErr result (λ stop. OnRefused stop (λ name why. (name ≡ path.now) × IsUnfit bytes why)) }
+// The text of a file.
+fn read_text<'a, F: Files>(alloc: Global, files: &mut F, path: &'a str) -> Result<Txt, Stop<'a>>
+    ensures text { IfOk result (λ text. IsTaken (F.file files.old path.now) text.bytes) }
+    ensures stops { IfErr result (StopsBy (Rose (F.faults files.old) (F.faults files.new)) (λ name why. (name ≡ path.now) × IsUnfit (F.file files.old path.now) why) ⊥) }
     ensures kept { (name : List ℕ) → F.file files.new name ≡ F.file files.old name }
     ensures later { F.faults files.old ≤ F.faults files.new }
-    ensures cause { IfErr result (λ stop. OnUnread stop (Rose (F.faults files.old) (F.faults files.new))) }
 {
     match files.read_file(alloc, path) {
         Ok(text) => Ok(text),
@@ -116,10 +110,9 @@ fn load_texts<'a>(
     rules: &'a str,
     rules_text: &str,
 ) -> Result<VersionSet, Stop<'a>>
-    ensures loaded { IfOk result (λ s. (l : LoadedView) × Loads crd_text.now rules_text.now l × (definition_of s ≡ set_of l)) }
-    ensures refused { IfErr result (λ stop. OnRefused stop (λ name why. IsText crd_text.now → IsText rules_text.now
-        → (which : Which) × (name ≡ file_of which crd.now rules.now) × DontLoad crd_text.now rules_text.now which why)) }
-    ensures unread { IfErr result (λ stop. OnUnread stop ⊥) }
+    ensures loaded { IfOk result (λ s. LoadsSet crd_text.now rules_text.now (definition_of s)) }
+    ensures stops { IfErr result (StopsBy ⊥ (λ name why. (which : Which) × (b : Blame) × (name ≡ file_of which crd.now rules.now)
+        × RefusesIn crd_text.now rules_text.now which b × (why ≡ blame_text b.path b.why)) ⊥) }
 {
     match load(alloc, crd_text.as_bytes(), rules_text.as_bytes()) {
         Ok(versions) => Ok(versions),
@@ -154,40 +147,88 @@ pub(crate) fn load_files<'a, F: Files>(
     crd: &'a str,
     rules: &'a str,
 ) -> Result<VersionSet, Stop<'a>>
-    ensures loaded { (c r : List ℕ) → F.file files.old crd.now ≡ Some c → F.file files.old rules.now ≡ Some r
-        → IfOk result (λ s. (l : LoadedView) × Loads c r l × (definition_of s ≡ set_of l)) }
-    ensures taken { (c r : List ℕ) → F.file files.old crd.now ≡ Some c → F.file files.old rules.now ≡ Some r
-        → OnOk result (IsText c × IsText r) }
-    ensures refused { (c r : List ℕ) → F.file files.old crd.now ≡ Some c → F.file files.old rules.now ≡ Some r
-        → IfErr result (λ stop. OnRefused stop (λ name why. (which : Which) × (name ≡ file_of which crd.now rules.now) × IsFirstRefused c r which why)) }
+    ensures loaded { IfOk result (λ s. Means (F.file files.old) (by_rules crd.now rules.now) (with_rules (definition_of s))) }
+    ensures stops { IfErr result (Stops (Rose (F.faults files.old) (F.faults files.new)) (F.file files.old) (by_rules crd.now rules.now) ⊥) }
     ensures kept { (name : List ℕ) → F.file files.new name ≡ F.file files.old name }
-    ensures cause { IfErr result (λ stop. OnUnread stop (Rose (F.faults files.old) (F.faults files.new))) }
 {
     let crd_text = read_text(alloc, files, crd)?;
     let rules_text = read_text(alloc, files, rules)?;
     load_texts(alloc, crd, crd_text.as_str(), rules, rules_text.as_str())
 }
 
-/// The definition that a line names, or why there is none.
-pub(crate) fn load_named<'a, F: Files>(
+/// A definition whose objects a converter turns, and where that is.
+pub(crate) struct Converted<C: Converter> {
+    pub(crate) versions: HookSet<C>,
+    pub(crate) address: Address,
+}
+
+// The definition that a text is, which stands in a file of this name, with the version of the other name as its hub.
+fn load_text<'a, C: Converter>(
+    alloc: Global,
+    crd: &'a str,
+    text: &str,
+    hub: &str,
+) -> Result<HookSet<C>, Stop<'a>>
+    ensures loaded { IfOk result (λ s. LoadsHook text.now hub.now s.set) }
+    ensures stops { IfErr result (StopsBy ⊥ (λ name why. (b : Blame) × (name ≡ crd.now) × (RefusesDefinition text.now b ⊎ HasNoHub text.now hub.now b)
+        × (why ≡ blame_text b.path b.why)) ⊥) }
+{
+    match load_hook::<C>(alloc, text.as_bytes(), hub) {
+        Ok(versions) => Ok(versions),
+        Err(
+            LoadFault::Refused {
+                file: Which::Crd,
+                path,
+                word,
+            },
+        ) => Err(Stop::Refused {
+            file: crd,
+            why: Why::At { path, word },
+        }),
+        Err(
+            LoadFault::Refused {
+                file: Which::Rules,
+                path: _,
+                word: _,
+            },
+        ) => unreachable!(),
+        Err(LoadFault::NoMemory) => Err(Stop::NoMemory),
+    }
+}
+
+// The definition that a file is, with the version of the name as its hub.
+fn load_file<'a, C: Converter, F: Files>(
     alloc: Global,
     files: &mut F,
-    named: Named<'a>,
-) -> Result<VersionSet, Stop<'a>>
-    ensures loaded { (crd rules : List ℕ) → Texts (F.file files.old) (named_of named.entry) crd rules
-        → IfOk result (λ s. (l : LoadedView) × Loads crd rules l × (definition_of s ≡ set_of l)) }
-    ensures served { (crd rules : List ℕ) → Texts (F.file files.old) (named_of named.entry) crd rules
-        → OnOk result (IsServed (named_of named.entry) crd rules) }
-    ensures refused { (crd rules : List ℕ) → Texts (F.file files.old) (named_of named.entry) crd rules
-        → IfErr result (λ stop. OnRefused stop (RefusesNamed (named_of named.entry) crd rules)) }
+    crd: &'a str,
+    hub: &str,
+) -> Result<HookSet<C>, Stop<'a>>
+    ensures loaded { IfOk result (λ s. (c : List ℕ) × IsTaken (F.file files.old crd.now) c × LoadsHook c hub.now s.set) }
+    ensures stops { (url : List ℕ) → IfErr result (Stops (Rose (F.faults files.old) (F.faults files.new)) (F.file files.old) (by_converter crd.now hub.now url) ⊥) }
     ensures kept { (name : List ℕ) → F.file files.new name ≡ F.file files.old name }
-    ensures cause { IfErr result (λ stop. OnUnread stop (Rose (F.faults files.old) (F.faults files.new))) }
 {
-    match named {
-        Named::BuiltIn => match load_built_in(alloc) {
-            Ok(versions) => Ok(versions),
-            Err(_) => Err(Stop::NoMemory),
+    let text = read_text(alloc, files, crd)?;
+    load_text(alloc, crd, text.as_str(), hub)
+}
+
+/// The definition of a file, with the version of the name as its hub, and the address of its converter, which is read before the file.
+pub(crate) fn load_converted<'a, C: Converter, F: Files>(
+    alloc: Global,
+    files: &mut F,
+    crd: &'a str,
+    hub: &'a str,
+    url: &'a str,
+) -> Result<Converted<C>, Stop<'a>>
+    ensures loaded { IfOk result (λ f. Means (F.file files.old) (by_converter crd.now hub.now url.now) (with_converter f.versions.set)) }
+    ensures stops { IfErr result (Stops (Rose (F.faults files.old) (F.faults files.new)) (F.file files.old) (by_converter crd.now hub.now url.now) (files.new ≡ files.old)) }
+    ensures kept { (name : List ℕ) → F.file files.new name ≡ F.file files.old name }
+{
+    match read_address(alloc, url) {
+        Ok(address) => match load_file(alloc, files, crd, hub) {
+            Ok(versions) => Ok(Converted { versions, address }),
+            Err(stop) => Err(stop),
         },
-        Named::FromFiles { crd, rules } => load_files(alloc, files, crd, rules),
+        Err(AddressFault::BadAddress) => Err(Stop::BadAddress),
+        Err(AddressFault::NoMemory) => Err(Stop::NoMemory),
     }
 }

@@ -1,24 +1,22 @@
 //! A line of `serve`.
-ghost use Rattle.std.specs.Prelude.{◌≡◌, ◌<◌, ◌≤◌, ◌⊎◌, ℕ, List, Some, IfSome, IfErr, OnOk};
-ghost use Rattle.std.specs.Io.KnownBytes.{append_known};
-ghost use Rattle.edge_io.specs.Causes.{Rose};
+ghost use Rattle.std.specs.Prelude.{◌≡◌, ◌≤◌, ℕ, List, IfErr, OnOk};
 ghost use Rattle.kube_meta.specs.declared.limits.TheConstants.Limits.{STANDING};
 ghost use Rattle.turn_cell.specs.Views.{opening_view};
 ghost use Rattle.shared_api.specs.Passes.{IsOf};
-ghost use Rattle.crd_loading.specs.Load.{Loads};
-ghost use Rattle.crd_loading.specs.View.{LoadedView};
-ghost use Rattle.crd_loading.specs.Set.{set_of};
-ghost use Rattle.crd_versions.specs.Set.{definition_of};
-ghost use Rattle.kubeconv_cmd.specs.Status.{error_line};
-ghost use Rattle.output_lines.specs.Listening.{Told, ToldSome, Announced, NamesPlace, OnUnheard, OnUntold, Silent};
-ghost use Rattle.kubeconv_cmd.specs.Beside.{AnsweredAll, ServesAll};
-ghost use Rattle.kubeconv_cmd.specs.inner.Served.{UnlessUnheard, served_status};
+ghost use Rattle.edge_io.specs.Causes.{Rose};
+ghost use Rattle.output_lines.specs.Listening.{NamesPlace};
+ghost use Rattle.command_lines.specs.Given.{listening_of, source_of};
+ghost use Rattle.serve_many.specs.Answered.{sides};
+ghost use Rattle.kubeconv_cmd.specs.Outcome.{IfRuled};
+ghost use Rattle.kubeconv_cmd.specs.Serving.{Service};
+ghost use Rattle.kubeconv_cmd.specs.inner.Ends.{Serves, met_of, service_status};
 
-use crate::status::{DONE, LISTEN_FAILED, NO_MEMORY, WRITE_FAILED, ended};
+use crate::loading::{Converted, load_built_in, load_converted, load_files};
+use crate::stop::{Stop, Unmet};
 use api_calls::{NoTools, Tools, Versions};
-use command_lines::Service;
-use crd_versions::VersionSet;
-use edge_io::{Clock, Ears, Sink};
+use command_lines::{Listening, Source};
+use converter_links::ConverterLinks;
+use edge_io::{Clock, Ears, Files, Sink};
 use kube_meta::Limits;
 use output_lines::{Unserved, listen_at};
 use serve_many::{ServeEnd, serve_all};
@@ -28,6 +26,7 @@ use std::sync::Wait;
 use std::thread::Threads;
 use std::time;
 use tcp_ears::Place;
+use tcp_links::Links;
 
 // Listens at a place, and answers connections there by a server to which nothing has happened.
 fn serve_opened<
@@ -43,9 +42,7 @@ fn serve_opened<
     api: &SharedApi<V>,
     pass: &mut Pass<V>,
     tools: &mut M,
-    place: &str,
-    workers: u64,
-    connections: Option<u64>,
+    listening: Listening<'_>,
     output: &mut K,
     ears: &mut A,
     clock: &C,
@@ -55,21 +52,22 @@ where
     requires of { IsOf V.meaning api.now pass.old }
     requires new { pass.old.view ≡ opening_view api.now.base }
     requires limits { api.now.base.limits ≡ STANDING }
-    requires workers { workers ≤ 15 }
-    ensures done { OnOk result ((count : ℕ) × (connections ≡ Some count)
-        × AnsweredAll V.Tool.faults (V.meaning api.now.base.versions) (record { boot = api.now.base.boot; told = C.told clock.now }) workers count (A.origins ears.old) (A.origins ears.new) (A.returned ears.old) (A.returned ears.new)) }
-    ensures place { NamesPlace (A.is_told place.now) (K.written output.old) (K.written output.new) }
-    ensures told { OnOk result (Announced (K.written output.old) (K.written output.new) (K.flushed output.new)) }
-    ensures silent { IfErr result (Silent (K.written output.new ≡ K.written output.old) (ToldSome (K.written output.old) (K.written output.new)) (Told (K.written output.old) (K.written output.new))) }
-    ensures unheard { IfErr result (OnUnheard (Rose (A.faults ears.old) (A.faults ears.new)
-        × (((A.origins ears.new ≡ A.origins ears.old) × (A.returned ears.new ≡ A.returned ears.old))
-        ⊎ ((count : ℕ) × IfSome connections (λ n. count < n)
-        × AnsweredAll V.Tool.faults (V.meaning api.now.base.versions) (record { boot = api.now.base.boot; told = C.told clock.now }) workers count (A.origins ears.old) (A.origins ears.new) (A.returned ears.old) (A.returned ears.new)
-        × Announced (K.written output.old) (K.written output.new) (K.flushed output.new))))) }
-    ensures untold { IfErr result (OnUntold (Rose (K.faults output.old) (K.faults output.new))) }
-    ensures untouched { IfErr result (UnlessUnheard ((A.origins ears.new ≡ A.origins ears.old) × (A.returned ears.new ≡ A.returned ears.old))) }
+    ensures came { Service V.Tool.faults (sides A.In.left A.In.most A.Out.written A.Out.flushed) (V.meaning api.now.base.versions) (record { boot = api.now.base.boot; told = C.told clock.now }) (listening_of listening.entry) (record {
+      handed_before = A.origins ears.old;
+      handed = A.origins ears.new;
+      returned_before = A.returned ears.old;
+      returned = A.returned ears.new;
+      faults_before = A.faults ears.old;
+      faults = A.faults ears.new;
+      written_before = K.written output.old;
+      written = K.written output.new;
+      flushed = K.flushed output.new;
+      output_faults_before = K.faults output.old;
+      output_faults = K.faults output.new;
+    }) (service_status result) }
+    ensures place { NamesPlace (A.is_told listening.entry.place.now) (K.written output.old) (K.written output.new) }
 {
-    match listen_at(alloc, place, output, ears) {
+    match listen_at(alloc, listening.place, output, ears) {
         Ok(()) => {}
         Err(why) => return Err(why),
     }
@@ -81,8 +79,8 @@ where
         tools,
         ears,
         clock,
-        workers,
-        connections,
+        listening.workers(),
+        listening.connections,
     );
     match served.end {
         ServeEnd::Done => Ok(()),
@@ -91,8 +89,8 @@ where
     }
 }
 
-/// Answers connections by a definition, from a server that begins with nothing entered. Each pass has a tool of its own.
-pub(crate) fn serve_connections<
+// Answers connections by a definition, from a server that begins with nothing entered. Each pass has a tool of its own.
+fn serve_by<
     V: Versions + Drop + Send + Sync,
     M: Tools<V::Tool>,
     R: Threads + Wait + time::Clock + Sync,
@@ -104,9 +102,7 @@ pub(crate) fn serve_connections<
     alloc: Global,
     versions: V,
     tools: &mut M,
-    place: &str,
-    workers: u64,
-    connections: Option<u64>,
+    listening: Listening<'_>,
     output: &mut K,
     ears: &mut A,
     clock: &C,
@@ -114,19 +110,20 @@ pub(crate) fn serve_connections<
 ) -> Result<(), Unserved>
 where
     V::Tool: Send,
-    requires { workers ≤ 15 }
-    ensures done { OnOk result ((count : ℕ) × (connections ≡ Some count)
-        × AnsweredAll V.Tool.faults (V.meaning versions) (record { boot = boot; told = C.told clock.now }) workers count (A.origins ears.old) (A.origins ears.new) (A.returned ears.old) (A.returned ears.new)) }
-    ensures place { NamesPlace (A.is_told place.now) (K.written output.old) (K.written output.new) }
-    ensures told { OnOk result (Announced (K.written output.old) (K.written output.new) (K.flushed output.new)) }
-    ensures silent { IfErr result (Silent (K.written output.new ≡ K.written output.old) (ToldSome (K.written output.old) (K.written output.new)) (Told (K.written output.old) (K.written output.new))) }
-    ensures unheard { IfErr result (OnUnheard (Rose (A.faults ears.old) (A.faults ears.new)
-        × (((A.origins ears.new ≡ A.origins ears.old) × (A.returned ears.new ≡ A.returned ears.old))
-        ⊎ ((count : ℕ) × IfSome connections (λ n. count < n)
-        × AnsweredAll V.Tool.faults (V.meaning versions) (record { boot = boot; told = C.told clock.now }) workers count (A.origins ears.old) (A.origins ears.new) (A.returned ears.old) (A.returned ears.new)
-        × Announced (K.written output.old) (K.written output.new) (K.flushed output.new))))) }
-    ensures untold { IfErr result (OnUntold (Rose (K.faults output.old) (K.faults output.new))) }
-    ensures untouched { IfErr result (UnlessUnheard ((A.origins ears.new ≡ A.origins ears.old) × (A.returned ears.new ≡ A.returned ears.old))) }
+    ensures came { Service V.Tool.faults (sides A.In.left A.In.most A.Out.written A.Out.flushed) (V.meaning versions) (record { boot = boot; told = C.told clock.now }) (listening_of listening.entry) (record {
+      handed_before = A.origins ears.old;
+      handed = A.origins ears.new;
+      returned_before = A.returned ears.old;
+      returned = A.returned ears.new;
+      faults_before = A.faults ears.old;
+      faults = A.faults ears.new;
+      written_before = K.written output.old;
+      written = K.written output.new;
+      flushed = K.flushed output.new;
+      output_faults_before = K.faults output.old;
+      output_faults = K.faults output.new;
+    }) (service_status result) }
+    ensures place { NamesPlace (A.is_told listening.entry.place.now) (K.written output.old) (K.written output.new) }
 {
     let Ok(tool) = tools.make(alloc) else {
         return Err(Unserved::NoMemory);
@@ -135,76 +132,98 @@ where
         return Err(Unserved::NoMemory);
     };
     serve_opened(
-        rt,
-        alloc,
-        &api,
-        &mut pass,
-        tools,
-        place,
-        workers,
-        connections,
-        output,
-        ears,
-        clock,
+        rt, alloc, &api, &mut pass, tools, listening, output, ears, clock,
     )
 }
 
-/// Answers connections by a loaded definition.
-pub(crate) fn serve_set<
+// How a line ends whose definition was loaded.
+fn met<'a>(came: Result<(), Unserved>) -> Result<(), Unmet<'a>>
+    ensures { result ≡ met_of came }
+{
+    match came {
+        Ok(()) => Ok(()),
+        Err(why) => Err(Unmet::Unserved(why)),
+    }
+}
+
+/// Answers connections by the definition of a line.
+pub(crate) fn serve<
+    'a,
     R: Threads + Wait + time::Clock + Sync,
+    F: Files,
     K: Sink,
     A: Ears + Place + Send,
+    L: Links,
     C: Clock + Sync,
 >(
     rt: &R,
     alloc: Global,
-    versions: VersionSet,
-    service: Service<'_>,
+    source: Source<'a>,
+    listening: Listening<'_>,
+    files: &mut F,
+    links: &mut L,
     output: &mut K,
     ears: &mut A,
     clock: &C,
     boot: u64,
-) -> Result<(), Unserved>
-    ensures done { OnOk result ((count : ℕ) × (service.entry.connections ≡ Some count)
-        × ((crd rules : List ℕ) (l : LoadedView) → Loads crd rules l → definition_of versions ≡ set_of l
-        → ServesAll crd rules (record { boot = boot; told = C.told clock.now }) service.entry.workers count (A.origins ears.old) (A.origins ears.new) (A.returned ears.old) (A.returned ears.new))) }
-    ensures place { NamesPlace (A.is_told service.entry.place.now) (K.written output.old) (K.written output.new) }
-    ensures told { OnOk result (Announced (K.written output.old) (K.written output.new) (K.flushed output.new)) }
-    ensures silent { IfErr result (Silent (K.written output.new ≡ K.written output.old) (ToldSome (K.written output.old) (K.written output.new)) (Told (K.written output.old) (K.written output.new))) }
-    ensures unheard { IfErr result (OnUnheard (Rose (A.faults ears.old) (A.faults ears.new)
-        × (((A.origins ears.new ≡ A.origins ears.old) × (A.returned ears.new ≡ A.returned ears.old))
-        ⊎ ((count : ℕ) × IfSome service.entry.connections (λ n. count < n)
-        × ((crd rules : List ℕ) (l : LoadedView) → Loads crd rules l → definition_of versions ≡ set_of l
-        → ServesAll crd rules (record { boot = boot; told = C.told clock.now }) service.entry.workers count (A.origins ears.old) (A.origins ears.new) (A.returned ears.old) (A.returned ears.new))
-        × Announced (K.written output.old) (K.written output.new) (K.flushed output.new))))) }
-    ensures untold { IfErr result (OnUntold (Rose (K.faults output.old) (K.faults output.new))) }
-    ensures untouched { IfErr result (UnlessUnheard ((A.origins ears.new ≡ A.origins ears.old) × (A.returned ears.new ≡ A.returned ears.old))) }
+) -> Result<(), Unmet<'a>>
+where
+    L::One: Sync,
+    ensures came { Serves (sides A.In.left A.In.most A.Out.written A.Out.flushed) (F.file files.old) (source_of source.entry) (record { boot = boot; told = C.told clock.now }) (listening_of listening.entry) (record {
+      handed_before = A.origins ears.old;
+      handed = A.origins ears.new;
+      returned_before = A.returned ears.old;
+      returned = A.returned ears.new;
+      faults_before = A.faults ears.old;
+      faults = A.faults ears.new;
+      written_before = K.written output.old;
+      written = K.written output.new;
+      flushed = K.flushed output.new;
+      output_faults_before = K.faults output.old;
+      output_faults = K.faults output.new;
+    }) (Rose (F.faults files.old) (F.faults files.new)) ((files.new ≡ files.old) × (links.new ≡ links.old)) ((output.new ≡ output.old) × (ears.new ≡ ears.old)) result }
+    ensures place { NamesPlace (A.is_told listening.entry.place.now) (K.written output.old) (K.written output.new) }
+    ensures unlinked { IfRuled (source_of source.entry) (links.new ≡ links.old) }
+    ensures kept { (name : List ℕ) → F.file files.new name ≡ F.file files.old name }
 {
-    serve_connections(
-        rt,
-        alloc,
-        versions,
-        &mut NoTools,
-        service.place,
-        service.workers(),
-        service.connections,
-        output,
-        ears,
-        clock,
-        boot,
-    )
-}
-
-/// Ends a run by how serving ended.
-pub(crate) fn tell_served<E: Sink>(errors: &mut E, came: Result<(), Unserved>) -> u8
-    ensures status { result ≡ served_status came }
-    ensures line { ¬ (Rose (E.faults errors.old) (E.faults errors.new))
-        → E.written errors.new ≡ append_known (E.written errors.old) (error_line result) }
-{
-    match came {
-        Ok(()) => ended(errors, DONE),
-        Err(Unserved::NotListening) => ended(errors, LISTEN_FAILED),
-        Err(Unserved::WriteFailed) => ended(errors, WRITE_FAILED),
-        Err(Unserved::NoMemory) => ended(errors, NO_MEMORY),
+    match source {
+        Source::BuiltIn => match load_built_in(alloc) {
+            Ok(versions) => met(serve_by(
+                rt,
+                alloc,
+                versions,
+                &mut NoTools,
+                listening,
+                output,
+                ears,
+                clock,
+                boot,
+            )),
+            Err(_) => Err(Unmet::Stopped(Stop::NoMemory)),
+        },
+        Source::Rules { crd, rules } => match load_files(alloc, files, crd, rules) {
+            Ok(versions) => met(serve_by(
+                rt,
+                alloc,
+                versions,
+                &mut NoTools,
+                listening,
+                output,
+                ears,
+                clock,
+                boot,
+            )),
+            Err(stop) => Err(Unmet::Stopped(stop)),
+        },
+        Source::Converter { crd, hub, url } => match load_converted(alloc, files, crd, hub, url) {
+            Ok(found) => {
+                let Converted { versions, address } = found;
+                let mut tools = ConverterLinks::new(links, address);
+                met(serve_by(
+                    rt, alloc, versions, &mut tools, listening, output, ears, clock, boot,
+                ))
+            }
+            Err(stop) => Err(Unmet::Stopped(stop)),
+        },
     }
 }

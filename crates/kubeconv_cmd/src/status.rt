@@ -3,19 +3,17 @@ ghost use Rattle.std.specs.Prelude.{◌≡◌, ◌++◌, Option, List, ℕ, code
 ghost use Rattle.std.specs.Io.KnownBytes.{append_known};
 ghost use Rattle.edge_io.specs.Causes.{HasCause, Rose};
 ghost use Rattle.edge_io.specs.Sends.{Sends};
-ghost use Rattle.kubeconv_cmd.specs.Status.{pipe_status, answer_line, bad_line as bad_line_of, restore_error_line, restore_status, error_line as error_line_of, line_saying, refusal_line};
-ghost use Rattle.kubeconv_cmd.specs.Refusal.{blame_text};
-ghost use Rattle.kubeconv_cmd.specs.inner.Ends.{stop_line, stop_status, talk_status, unconverted_line, unconverted_status, why_text};
-ghost use Rattle.kubeconv_cmd.specs.inner.Halts.{task_line, task_status};
-ghost use Rattle.kubeconv_cmd.specs.inner.Backups.{dumped_line, dumped_status, loaded_line, loaded_status, place_status as place_status_of};
-ghost use Rattle.kubeconv_cmd.specs.inner.Migrations.{migrate_end_line, migrate_status};
+ghost use Rattle.far_lines.specs.declared.end.LoadEnd.TheVariants.{Restored};
+ghost use Rattle.kubeconv_cmd.specs.Sources.{blame_text};
+ghost use Rattle.kubeconv_cmd.specs.Status.{answer_line, bad_line as bad_line_of, dump_told, error_line as error_line_of, line_saying, line_told, load_told, migration_told, pipe_status, place_told, refusal_line, status_told};
+ghost use Rattle.kubeconv_cmd.specs.inner.Ends.{dumped_told, loaded_told, pipe_told, serve_told, stop_told, task_told, why_text};
 
 use crate::halt::Halt;
-use crate::stop::{Stop, Unconverted, Why};
+use crate::stop::{Stop, Unmet, Why};
 use edge_io::{Failed, Sink, send};
 use far_lines::{LoadEnd, MigrateEnd};
 use itoa::Buffer;
-use kj_value::NoMemory;
+use output_lines::Unserved;
 use place::PlaceFault;
 use record_dump::{DumpEnd, RestoreEnd};
 use serve_input::PipeEnd;
@@ -198,40 +196,44 @@ fn refused<E: Sink>(errors: &mut E, file: &str, why: &Why) -> u8
     }
 }
 
-/// Ends a run by how its conversation ended, where there was memory for one.
-pub(crate) fn tell_pipe<E: Sink>(errors: &mut E, came: Result<PipeEnd, NoMemory>) -> u8
-    ensures status { result ≡ talk_status came }
-    ensures line { ¬ (Rose (E.faults errors.old) (E.faults errors.new))
-        → E.written errors.new ≡ append_known (E.written errors.old) (error_line_of result) }
-{
-    match came {
-        Ok(end) => ended(errors, status_of(end)),
-        Err(_) => ended(errors, NO_MEMORY),
-    }
-}
-
 /// Ends a run that has no definition.
 pub(crate) fn tell_stop<E: Sink>(errors: &mut E, stop: Stop<'_>) -> u8
-    ensures status { result ≡ stop_status stop.entry }
+    ensures status { result ≡ status_told (stop_told stop.entry) }
     ensures line { ¬ (Rose (E.faults errors.old) (E.faults errors.new))
-        → E.written errors.new ≡ append_known (E.written errors.old) (stop_line stop.entry) }
+        → E.written errors.new ≡ append_known (E.written errors.old) (line_told (stop_told stop.entry)) }
 {
     match stop {
         Stop::ReadFailed => ended(errors, READ_FAILED),
         Stop::Refused { file, why } => refused(errors, file, &why),
+        Stop::BadAddress => ended(errors, BAD_WORDS),
         Stop::NoMemory => ended(errors, NO_MEMORY),
     }
 }
 
-/// Ends a run that has no definition with a converter.
-pub(crate) fn tell_unconverted<E: Sink>(errors: &mut E, fault: Unconverted<'_>) -> u8
-    ensures status { result ≡ unconverted_status fault.entry }
+/// Ends a run by how its conversation ended, or why it has none.
+pub(crate) fn tell_pipe<E: Sink>(errors: &mut E, came: Result<PipeEnd, Stop<'_>>) -> u8
+    ensures status { result ≡ status_told (pipe_told came.entry) }
     ensures line { ¬ (Rose (E.faults errors.old) (E.faults errors.new))
-        → E.written errors.new ≡ append_known (E.written errors.old) (unconverted_line fault.entry) }
+        → E.written errors.new ≡ append_known (E.written errors.old) (line_told (pipe_told came.entry)) }
 {
-    match fault {
-        Unconverted::BadAddress => ended(errors, BAD_WORDS),
-        Unconverted::Stopped(stop) => tell_stop(errors, stop),
+    match came {
+        Ok(end) => ended(errors, status_of(end)),
+        Err(stop) => tell_stop(errors, stop),
+    }
+}
+
+/// Ends a run by how serving ended, or why nothing was served.
+pub(crate) fn tell_served<E: Sink>(errors: &mut E, came: Result<(), Unmet<'_>>) -> u8
+    ensures status { result ≡ status_told (serve_told came.entry) }
+    ensures line { ¬ (Rose (E.faults errors.old) (E.faults errors.new))
+        → E.written errors.new ≡ append_known (E.written errors.old) (line_told (serve_told came.entry)) }
+{
+    match came {
+        Ok(()) => ended(errors, DONE),
+        Err(Unmet::Unserved(Unserved::NotListening)) => ended(errors, LISTEN_FAILED),
+        Err(Unmet::Unserved(Unserved::WriteFailed)) => ended(errors, WRITE_FAILED),
+        Err(Unmet::Unserved(Unserved::NoMemory)) => ended(errors, NO_MEMORY),
+        Err(Unmet::Stopped(stop)) => tell_stop(errors, stop),
     }
 }
 
@@ -249,9 +251,9 @@ fn bad_input<E: Sink>(errors: &mut E, why: &str) -> u8
 
 /// Ends a run by what came of its document.
 pub(crate) fn tell_task<E: Sink>(errors: &mut E, came: Result<(), Halt>) -> u8
-    ensures status { result ≡ task_status came }
+    ensures status { result ≡ status_told (task_told came) }
     ensures line { ¬ (Rose (E.faults errors.old) (E.faults errors.new))
-        → E.written errors.new ≡ append_known (E.written errors.old) (task_line came) }
+        → E.written errors.new ≡ append_known (E.written errors.old) (line_told (task_told came)) }
 {
     match came {
         Ok(()) => ended(errors, DONE),
@@ -338,9 +340,9 @@ fn bad_line<E: Sink>(errors: &mut E, number: u64) -> u8
 
 /// Ends a run by how its migration ended.
 pub(crate) fn tell_migrated<E: Sink>(errors: &mut E, came: MigrateEnd) -> u8
-    ensures status { result ≡ migrate_status came }
+    ensures status { result ≡ status_told (migration_told came) }
     ensures line { ¬ (Rose (E.faults errors.old) (E.faults errors.new))
-        → E.written errors.new ≡ append_known (E.written errors.old) (migrate_end_line came) }
+        → E.written errors.new ≡ append_known (E.written errors.old) (line_told (migration_told came)) }
 {
     match came {
         MigrateEnd::Done => ended(errors, DONE),
@@ -354,21 +356,23 @@ pub(crate) fn tell_migrated<E: Sink>(errors: &mut E, came: MigrateEnd) -> u8
     }
 }
 
-// The status where no place was had.
-fn place_status(fault: PlaceFault) -> u8
-    ensures { result ≡ place_status_of fault }
+// Ends a run that had no place.
+fn tell_unplaced<E: Sink>(errors: &mut E, fault: PlaceFault) -> u8
+    ensures status { result ≡ status_told (place_told fault) }
+    ensures line { ¬ (Rose (E.faults errors.old) (E.faults errors.new))
+        → E.written errors.new ≡ append_known (E.written errors.old) (line_told (place_told fault)) }
 {
     match fault {
-        PlaceFault::BadPlace => BAD_WORDS,
-        PlaceFault::NoMemory => NO_MEMORY,
+        PlaceFault::BadPlace => ended(errors, BAD_WORDS),
+        PlaceFault::NoMemory => ended(errors, NO_MEMORY),
     }
 }
 
 /// Ends a run by how its dump ended.
 pub(crate) fn tell_dumped<E: Sink>(errors: &mut E, came: Result<DumpEnd, PlaceFault>) -> u8
-    ensures status { result ≡ dumped_status came }
+    ensures status { result ≡ status_told (dumped_told came) }
     ensures line { ¬ (Rose (E.faults errors.old) (E.faults errors.new))
-        → E.written errors.new ≡ append_known (E.written errors.old) (dumped_line came) }
+        → E.written errors.new ≡ append_known (E.written errors.old) (line_told (dumped_told came)) }
 {
     match came {
         Ok(DumpEnd::Done { lines: _ }) => ended(errors, DONE),
@@ -377,15 +381,15 @@ pub(crate) fn tell_dumped<E: Sink>(errors: &mut E, came: Result<DumpEnd, PlaceFa
         Ok(DumpEnd::Answer { code }) => bad_answer(errors, code),
         Ok(DumpEnd::Expired) => ended(errors, UNSETTLED),
         Ok(DumpEnd::NoMemory) => ended(errors, NO_MEMORY),
-        Err(fault) => ended(errors, place_status(fault)),
+        Err(fault) => tell_unplaced(errors, fault),
     }
 }
 
 // Ends a run by how its restoring ended.
 fn tell_restored<E: Sink>(errors: &mut E, end: RestoreEnd) -> u8
-    ensures status { result ≡ restore_status end }
+    ensures status { result ≡ status_told (load_told (Restored end)) }
     ensures line { ¬ (Rose (E.faults errors.old) (E.faults errors.new))
-        → E.written errors.new ≡ append_known (E.written errors.old) (restore_error_line end) }
+        → E.written errors.new ≡ append_known (E.written errors.old) (line_told (load_told (Restored end))) }
 {
     match end {
         RestoreEnd::Done {
@@ -404,9 +408,9 @@ fn tell_restored<E: Sink>(errors: &mut E, end: RestoreEnd) -> u8
 
 /// Ends a run by how its line ended that loads.
 pub(crate) fn tell_loaded<E: Sink>(errors: &mut E, came: Result<LoadEnd, PlaceFault>) -> u8
-    ensures status { result ≡ loaded_status came }
+    ensures status { result ≡ status_told (loaded_told came) }
     ensures line { ¬ (Rose (E.faults errors.old) (E.faults errors.new))
-        → E.written errors.new ≡ append_known (E.written errors.old) (loaded_line came) }
+        → E.written errors.new ≡ append_known (E.written errors.old) (line_told (loaded_told came)) }
 {
     match came {
         Ok(LoadEnd::Restored(end)) => tell_restored(errors, end),
@@ -416,6 +420,6 @@ pub(crate) fn tell_loaded<E: Sink>(errors: &mut E, came: Result<LoadEnd, PlaceFa
                 present: _,
             },
         ) => ended(errors, WRITE_FAILED),
-        Err(fault) => ended(errors, place_status(fault)),
+        Err(fault) => tell_unplaced(errors, fault),
     }
 }

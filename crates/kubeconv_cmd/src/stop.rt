@@ -1,5 +1,6 @@
 //! Why nothing is served.
 use kj_value::Txt;
+use output_lines::Unserved;
 
 /// Why a file is refused.
 #[derive(Drop)]
@@ -10,21 +11,21 @@ pub(crate) enum Why {
     At { path: Txt, word: Txt },
 }
 
-/// Why nothing is served.
+/// Why there is no definition.
 #[derive(Drop)]
 pub(crate) enum Stop<'a> {
     /// A file couldn't be read.
     ReadFailed,
     /// The file of this name is refused.
     Refused { file: &'a str, why: Why },
+    /// The text isn't the address of a converter.
+    BadAddress,
     NoMemory,
 }
 
-/// Why nothing is served by a converter.
-#[derive(Drop)]
-pub(crate) enum Unconverted<'a> {
-    /// The text isn't the address of a converter.
-    BadAddress,
+/// Why no connections are answered, or no further ones.
+pub(crate) enum Unmet<'a> {
+    Unserved(Unserved),
     /// There is no definition.
     Stopped(Stop<'a>),
 }

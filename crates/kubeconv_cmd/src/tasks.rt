@@ -15,8 +15,8 @@ ghost use Rattle.review_batch.specs.Answer.{IsAnswer, IsNoRequest};
 ghost use Rattle.kj_value.specs.Text.{text_of};
 ghost use Rattle.kubeconv_cmd.specs.declared.input.TheConstants.{MOST_INPUT_BYTES};
 ghost use Rattle.command_lines.specs.Given.{task_of};
-ghost use Rattle.kubeconv_cmd.specs.inner.Halts.{Follows, OnHalt, Unwritten, NoValue, NoAnswer};
-ghost use Rattle.kubeconv_cmd.specs.Tasks.{AnswersDocument, RefusesDocument, Wrote, Broke, IsValueOf, IsWithout, fault_words, no_version as no_version_text, not_review as not_review_text};
+ghost use Rattle.kubeconv_cmd.specs.inner.Ends.{Asked, Follows, OnHalt, Unwritten, NoValue, NoAnswer};
+ghost use Rattle.kubeconv_cmd.specs.Tasks.{AnswersDocument, RefusesDocument, KnowsTarget, LacksTarget, Wrote, Broke, IsValueOf, IsWithout, fault_words, no_version as no_version_text, not_review as not_review_text};
 
 use crate::halt::Halt;
 use crate::input::{Unread, read_input};
@@ -208,9 +208,10 @@ fn answer_input<S: Source>(
     task: Task<'_>,
     input: &mut S,
 ) -> Result<Txt, Halt>
+    ensures asked { Asked (KnowsTarget (definition_of versions.now) (task_of task.entry)) (input.new ≡ input.old) (LacksTarget (definition_of versions.now) (task_of task.entry)) result }
     ensures answered { (b : List ℕ) → S.left input.old ≡ Some b
         → IfOk result (λ t. AnswersDocument (definition_of versions.now) (task_of task.entry) b t.bytes) }
-    ensures none { (b : List ℕ) → S.left input.old ≡ Some b
+    ensures none { (b : List ℕ) → S.left input.old ≡ Some b → KnowsTarget (definition_of versions.now) (task_of task.entry)
         → IfErr result (OnHalt (record {
           reads = Rose (S.faults input.old) (S.faults input.new);
           writes = ⊥;
@@ -236,9 +237,10 @@ pub(crate) fn do_task<S: Source, K: Sink>(
     input: &mut S,
     output: &mut K,
 ) -> Result<(), Halt>
+    ensures asked { Asked (KnowsTarget (definition_of versions.now) (task_of task.entry)) (input.new ≡ input.old) (LacksTarget (definition_of versions.now) (task_of task.entry)) result }
     ensures wrote { (b : List ℕ) → S.left input.old ≡ Some b
         → OnOk result (Wrote (AnswersDocument (definition_of versions.now) (task_of task.entry) b) (K.written output.old) (K.written output.new)) }
-    ensures failed { (b : List ℕ) → S.left input.old ≡ Some b
+    ensures failed { (b : List ℕ) → S.left input.old ≡ Some b → KnowsTarget (definition_of versions.now) (task_of task.entry)
         → IfErr result (OnHalt (record {
           reads = Rose (S.faults input.old) (S.faults input.new);
           writes = Broke (AnswersDocument (definition_of versions.now) (task_of task.entry) b) (K.written output.old) (K.written output.new);

@@ -1,28 +1,26 @@
 //! The top call.
-ghost use Rattle.std.specs.Prelude.{◌≡◌, ◌≢◌, ◌↔◌, ℕ, List};
+ghost use Rattle.std.specs.Prelude.{◌≡◌, ◌≢◌, ℕ, List};
 ghost use Rattle.std.specs.Io.KnownBytes.{append_known};
 ghost use Rattle.edge_io.specs.Causes.{Rose};
-ghost use Rattle.command_lines.specs.Lines.{Line, IsLine};
-ghost use Rattle.kubeconv_cmd.specs.Listening.{IfServes};
 ghost use Rattle.output_lines.specs.Listening.{NamesPlace};
-ghost use Rattle.kubeconv_cmd.specs.Outcome.{IfUnlinked, IsPlaceless, Outcome};
-ghost use Rattle.kubeconv_cmd.specs.Status.{error_line};
 ghost use Rattle.command_lines.specs.Given.{line_of};
+ghost use Rattle.command_lines.specs.Lines.{Line, IsLine};
+ghost use Rattle.serve_many.specs.Answered.{sides};
+ghost use Rattle.kubeconv_cmd.specs.Outcome.{IfServes, IsPlaceless, Outcome};
+ghost use Rattle.kubeconv_cmd.specs.Status.{error_line};
 
-use crate::converting::{connect_converted, load_converted, serve_converted};
 use crate::drill_line::do_drill;
-use crate::loading::load_named;
-use crate::serve_line::{serve_set, tell_served};
+use crate::loading::load_files;
+use crate::pipe_line::pipe;
+use crate::serve_line::serve;
 use crate::status::{
     BAD_ANSWER, BAD_INPUT, BAD_WORDS, NO_MEMORY, REFUSED, ended, tell_dumped, tell_loaded,
-    tell_migrated, tell_pipe, tell_stop, tell_task, tell_unconverted,
+    tell_migrated, tell_pipe, tell_served, tell_stop, tell_task,
 };
 use crate::tasks::do_task;
-use api_calls::NoTool;
-use command_lines::{Command, Named, Words, read_command};
+use command_lines::{Command, Words, read_command};
 use edge_io::{Clock, Ears, Files, Sink, Source};
 use far_lines::{dump_line, load_line, migrate_line};
-use serve_input::serve_input;
 use std::alloc::Global;
 use std::sync::Wait;
 use std::thread::Threads;
@@ -56,85 +54,56 @@ fn run_command<
 where
     L::One: Sync,
     ensures outcome { Outcome (record {
-      file = F.file files.old;
+      tells = record {
+        file = F.file;
+        files_faults = F.faults;
+        left = S.left;
+        most = S.most;
+        input_faults = S.faults;
+        written = K.written;
+        flushed = K.flushed;
+        output_faults = K.faults;
+        said = E.written;
+        errors_faults = E.faults;
+        handed = A.origins;
+        returned = A.returned;
+        ears_faults = A.faults;
+        sides = sides A.In.left A.In.most A.Out.written A.Out.flushed;
+        linked = L.returned;
+      };
       start = record { boot = boot; told = C.told clock.now };
-      input = S.left input.old;
-      left = S.left input.new;
-      written_before = K.written output.old;
-      written = K.written output.new;
-      flushed_before = K.flushed output.old;
-      flushed = K.flushed output.new;
-      said_before = E.written errors.old;
-      said = E.written errors.new;
-      handed_before = A.origins ears.old;
-      handed = A.origins ears.new;
-      returned_before = A.returned ears.old;
-      returned = A.returned ears.new;
-      linked_before = L.returned links.old;
-      linked = L.returned links.new;
-      files_faults_before = F.faults files.old;
-      files_faults = F.faults files.new;
-      input_faults_before = S.faults input.old;
-      input_faults = S.faults input.new;
-      output_faults_before = K.faults output.old;
-      output_faults = K.faults output.new;
-      errors_faults_before = E.faults errors.old;
-      errors_faults = E.faults errors.new;
-      ears_faults_before = A.faults ears.old;
-      ears_faults = A.faults ears.new;
-      tell = record { left = S.left; written = K.written; flushed = K.flushed };
-      most = S.most input.old;
-      files_before = files.old;
-      files = files.new;
-      source_before = input.old;
-      source = input.new;
-      sink_before = output.old;
-      sink = output.new;
-      ears_before = ears.old;
-      ears = ears.new;
+      before = record { files = files.old; input = input.old; output = output.old; errors = errors.old; ears = ears.old; links = links.old };
+      after = record { files = files.new; input = input.new; output = output.new; errors = errors.new; ears = ears.new; links = links.new };
     }) (line_of command.entry) result }
     ensures place { IfServes (line_of command.entry) (λ place. NamesPlace (A.is_told place) (K.written output.old) (K.written output.new)) }
-    ensures unlinked { IfUnlinked (line_of command.entry) (links.new ≡ links.old) }
     ensures unused { result ≡ BAD_WORDS → links.new ≡ links.old }
     ensures errors { result ≢ REFUSED → result ≢ BAD_INPUT → result ≢ BAD_ANSWER → ¬ (Rose (E.faults errors.old) (E.faults errors.new))
         → E.written errors.new ≡ append_known (E.written errors.old) (error_line result) }
     ensures kept { (name : List ℕ) → F.file files.new name ≡ F.file files.old name }
 {
     match command {
-        Command::Pipe { named, turns } => match load_named(alloc, files, named) {
+        Command::Pipe { source, turns } => {
+            let came = pipe(
+                rt, alloc, source, turns, files, links, input, output, clock, boot,
+            );
+            tell_pipe(errors, came)
+        }
+        Command::Task { crd, rules, task } => match load_files(alloc, files, crd, rules) {
             Ok(versions) => {
-                let came = serve_input(
-                    rt, alloc, versions, NoTool, input, output, clock, boot, turns,
-                );
-                tell_pipe(errors, came)
+                let came = do_task(alloc, &versions, task, input, output);
+                tell_task(errors, came)
             }
             Err(stop) => tell_stop(errors, stop),
         },
-        Command::Task { crd, rules, task } => {
-            match load_named(alloc, files, Named::FromFiles { crd, rules }) {
-                Ok(versions) => {
-                    let came = do_task(alloc, &versions, task, input, output);
-                    tell_task(errors, came)
-                }
-                Err(stop) => tell_stop(errors, stop),
-            }
-        }
         Command::Drill { start, count } => {
             let came = do_drill(rt, alloc, start, count, output);
             tell_task(errors, came)
         }
-        Command::Serve(service) => {
-            let named = Named::FromFiles {
-                crd: service.crd,
-                rules: service.rules,
-            };
-            match load_named(alloc, files, named) {
-                Ok(versions) => {
-                    let came = serve_set(rt, alloc, versions, service, output, ears, clock, boot);
-                    tell_served(errors, came)
-                }
-                Err(stop) => tell_stop(errors, stop),
-            }
+        Command::Serve { source, listening } => {
+            let came = serve(
+                rt, alloc, source, listening, files, links, output, ears, clock, boot,
+            );
+            tell_served(errors, came)
         }
         Command::Migrate { url } => {
             let came = migrate_line(alloc, url, links, output);
@@ -148,27 +117,6 @@ where
             let came = load_line(alloc, url, links, input, output);
             tell_loaded(errors, came)
         }
-        Command::PipeBy { conversion, turns } => match load_converted(alloc, files, conversion) {
-            Ok(found) => {
-                let held = serve_converted(
-                    rt, alloc, found, links, input, output, clock, boot, turns,
-                );
-                tell_pipe(errors, held)
-            }
-            Err(fault) => tell_unconverted(errors, fault),
-        },
-        Command::ServeBy {
-            conversion,
-            listening,
-        } => match load_converted(alloc, files, conversion) {
-            Ok(found) => {
-                let came = connect_converted(
-                    rt, alloc, found, links, listening, output, ears, clock, boot,
-                );
-                tell_served(errors, came)
-            }
-            Err(fault) => tell_unconverted(errors, fault),
-        },
     }
 }
 
@@ -262,42 +210,26 @@ where
     L::One: Sync,
     // Whatever the outside does, a line of the program comes to one of its outcomes.
     ensures outcome { (line : Line) → IsLine words.now line → Outcome (record {
-      file = F.file files.old;
+      tells = record {
+        file = F.file;
+        files_faults = F.faults;
+        left = S.left;
+        most = S.most;
+        input_faults = S.faults;
+        written = K.written;
+        flushed = K.flushed;
+        output_faults = K.faults;
+        said = E.written;
+        errors_faults = E.faults;
+        handed = A.origins;
+        returned = A.returned;
+        ears_faults = A.faults;
+        sides = sides A.In.left A.In.most A.Out.written A.Out.flushed;
+        linked = L.returned;
+      };
       start = record { boot = boot; told = C.told clock.now };
-      input = S.left input.old;
-      left = S.left input.new;
-      written_before = K.written output.old;
-      written = K.written output.new;
-      flushed_before = K.flushed output.old;
-      flushed = K.flushed output.new;
-      said_before = E.written errors.old;
-      said = E.written errors.new;
-      handed_before = A.origins ears.old;
-      handed = A.origins ears.new;
-      returned_before = A.returned ears.old;
-      returned = A.returned ears.new;
-      linked_before = L.returned links.old;
-      linked = L.returned links.new;
-      files_faults_before = F.faults files.old;
-      files_faults = F.faults files.new;
-      input_faults_before = S.faults input.old;
-      input_faults = S.faults input.new;
-      output_faults_before = K.faults output.old;
-      output_faults = K.faults output.new;
-      errors_faults_before = E.faults errors.old;
-      errors_faults = E.faults errors.new;
-      ears_faults_before = A.faults ears.old;
-      ears_faults = A.faults ears.new;
-      tell = record { left = S.left; written = K.written; flushed = K.flushed };
-      most = S.most input.old;
-      files_before = files.old;
-      files = files.new;
-      source_before = input.old;
-      source = input.new;
-      sink_before = output.old;
-      sink = output.new;
-      ears_before = ears.old;
-      ears = ears.new;
+      before = record { files = files.old; input = input.old; output = output.old; errors = errors.old; ears = ears.old; links = links.old };
+      after = record { files = files.new; input = input.new; output = output.new; errors = errors.new; ears = ears.new; links = links.new };
     }) line result }
     // What `serve` writes names a place that the ears may tell where they were asked for that of the words.
     ensures place { (line : Line) → IsLine words.now line → IfServes line (λ place. NamesPlace (A.is_told place) (K.written output.old) (K.written output.new)) }
@@ -306,8 +238,6 @@ where
     // then nothing is touched but the error stream.
     ensures words_refused { (result ≡ BAD_WORDS → (line : Line) → IsLine words.now line → IsPlaceless line) × (((line : Line) → IsLine words.now line → ⊥) → result ≡ BAD_WORDS) }
     ensures unused { result ≡ BAD_WORDS → (files.new ≡ files.old) × (input.new ≡ input.old) × (output.new ≡ output.old) × (ears.new ≡ ears.old) × (links.new ≡ links.old) }
-    // The lines that work on no server from outside and have no converter ask nothing of the links.
-    ensures unlinked { (line : Line) → IsLine words.now line → IfUnlinked line (links.new ≡ links.old) }
     // Each status but 3, 4 and 12 puts its line on the error stream, and no run changes a file.
     ensures errors { result ≢ REFUSED → result ≢ BAD_INPUT → result ≢ BAD_ANSWER → ¬ (Rose (E.faults errors.old) (E.faults errors.new))
         → E.written errors.new ≡ append_known (E.written errors.old) (error_line result) }

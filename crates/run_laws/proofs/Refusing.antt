@@ -1,6 +1,6 @@
--- Two texts that load aren't refused.
+-- Texts that load aren't refused.
 use Rattle.std.proofs.Common.{◌≡◌, ◌∙◌, ◌⊎◌, ℕ, ◌<◌, ◌≤◌, List, length, Option, Some, None, inl, inr, ap, sym, subst, arith}
-use Rattle.std.specs.Prelude.{IsUtf8}
+use Rattle.std.specs.Prelude.{IfSome, IsUtf8}
 use Rattle.serde_json.specs.Data as serde
 use Rattle.kj_value.specs.Json.{Json}
 use Rattle.kj_value.specs.Reading.{Reads, IsReading, json_of}
@@ -19,8 +19,13 @@ use Rattle.crd_loading.specs.View.{LoadedView}
 use Rattle.crd_loading.specs.Load.{IsUnread, Defines, LoadsRules, AreNoRules, Loads, RefusesDefinition, RefusesRules}
 use Rattle.crd_loading.specs.declared.loading.Which.{Which}
 use Rattle.crd_loading.specs.declared.loading.Which.TheVariants.{Crd, Rules}
-use Rattle.command_lines.specs.Lines.{Named, built_in, from_files, example, no_definition}
-use Rattle.kubeconv_cmd.specs.Refusal.{IsUnfit, IsFirstRefused, RefusesNamed, IsServed}
+use Rattle.crd_loading.specs.Told.{RefusesIn}
+use Rattle.crd_meaning.specs.Definition.{Definition, count_of, version_at}
+use Rattle.hook_versions.specs.Loads.{HasNoHub, LoadsHook}
+use Rattle.hook_versions.specs.Set.{without_rules}
+use Rattle.command_lines.specs.Lines.{Source, built_in, by_rules, by_converter}
+use Rattle.kubeconv_cmd.specs.Sources.{Loaded, with_rules, with_converter, LoadsSet, IsTaken, Means, IsUnfit, too_long, no_text, RefusesFiles, definition_unfit, rules_unfit, not_loaded, RefusesFile, file_unfit, file_not_loaded, Refuses, IsAddressless}
+use Rattle.run_laws.specs.Ran.{IsServed, IsToldBy}
 
 -- ---- bytes that are read
 
@@ -74,23 +79,76 @@ never_no_rules crd rules l b a bad =
 
 -- ---- files
 
--- a text that isn't too long is taken
-fit : (bytes why : List ℕ) → length bytes ≤ MOST_FILE_BYTES → IsUtf8 bytes → IsUnfit bytes why → ⊥
-fit bytes why short utf8 (inl long) = omega (arith, short, long.long)
-fit bytes why short utf8 (inr broken) = broken.broken utf8
+utf8_of : (bytes : List ℕ) (j : Json) → Reads bytes MAX_JSON_LEVELS j → IsUtf8 bytes
+utf8_of bytes j r = r.1.0
 
--- files that are served aren't refused
-never : (crd rules : List ℕ) (l : LoadedView) (which : Which) (why : List ℕ) → length crd ≤ MOST_FILE_BYTES → length rules ≤ MOST_FILE_BYTES → Loads crd rules l
-    → IsFirstRefused crd rules which why → ⊥
-never crd rules l Crd why c r a (inl unfit) = fit crd why c a.defines.reads.1.0 unfit
-never crd rules l Rules why c r a (inl unfit) = fit rules why r a.loads.reads.1.0 unfit.1
-never crd rules l Crd why c r a (inr bad) = never_refused crd a.definition bad.blame a.defines bad.refused
-never crd rules l Rules why c r a (inr bad) = never_no_rules crd rules l bad.blame a bad.refused
+-- a text that isn't too long is taken
+fit : (told : Option (List ℕ)) (bytes why : List ℕ) → told ≡ Some bytes → length bytes ≤ MOST_FILE_BYTES → IsUtf8 bytes → IsUnfit told why → ⊥
+fit told bytes why is short utf8 (too_long says long) =
+    let more : MOST_FILE_BYTES < length bytes = subst (λ (o : Option (List ℕ)). IfSome o (λ b. MOST_FILE_BYTES < length b)) is long in omega (arith, short, more)
+fit told bytes why is short utf8 (no_text says broken) =
+    let none : (length bytes ≤ MOST_FILE_BYTES) × ¬ IsUtf8 bytes = subst (λ (o : Option (List ℕ)). IfSome o (λ b. (length b ≤ MOST_FILE_BYTES) × ¬ IsUtf8 b)) is broken in none.1 utf8
+
+-- what was taken of a file is what it tells
+same_text : (told : Option (List ℕ)) (bytes text : List ℕ) → told ≡ Some bytes → IsTaken told text → text ≡ bytes
+same_text told bytes text is taken =
+    let here : (text ≡ bytes) × IsUtf8 bytes = subst (λ (o : Option (List ℕ)). IfSome o (λ b. (text ≡ b) × IsUtf8 b)) is taken.is in here.0
+
+-- two texts that load aren't refused
+never_both : (c r : List ℕ) (d : Definition) (which : Which) (b : Blame) → LoadsSet c r d → RefusesIn c r which b → ⊥
+never_both c r d Crd b loads bad = never_refused c loads.loads.definition b loads.loads.defines bad
+never_both c r d Rules b loads bad = never_no_rules c r loads.view b loads.loads bad
+
+never_files : (file : List ℕ → Option (List ℕ)) (crd rules name why c r : List ℕ) (d : Definition) → file crd ≡ Some c → file rules ≡ Some r → length c ≤ MOST_FILE_BYTES → length r ≤ MOST_FILE_BYTES
+    → LoadsSet c r d → RefusesFiles file crd rules name why → ⊥
+never_files file crd rules name why c r d tc tr sc sr loads (definition_unfit is unfit) = fit (file crd) c why tc sc (utf8_of c loads.loads.defines.document loads.loads.defines.reads) unfit
+never_files file crd rules name why c r d tc tr sc sr loads (rules_unfit k is taken unfit) = fit (file rules) r why tr sr (utf8_of r loads.loads.loads.document loads.loads.loads.reads) unfit
+never_files file crd rules name why c r d tc tr sc sr loads (not_loaded k t which b is ck tk bad says) =
+    never_both c r d which b loads (subst (λ (x : List ℕ). RefusesIn x r which b) (same_text (file crd) c k tc ck) (subst (λ (x : List ℕ). RefusesIn k x which b) (same_text (file rules) r t tr tk) bad))
+
+-- nor is one that loads with its hub
+names_hub : (c hub : List ℕ) (d : Definition) (b : Blame) → LoadsHook c hub d → HasNoHub c hub b → ⊥
+names_hub c hub d b loads none =
+    let view : d.view ≡ none.view = ap (λ (x : Definition). x.view) loads.is ∙ same_definition c loads.view none.view loads.defines none.defines in
+    let known : d.hub < count_of (without_rules none.view 0) = subst (λ (v : DefinitionView). d.hub < count_of (without_rules v 0)) view loads.known in
+    none.unnamed d.hub known (subst (λ (v : DefinitionView). (version_at (without_rules v 0) d.hub).name ≡ hub) view loads.named)
+
+never_file : (file : List ℕ → Option (List ℕ)) (crd hub name why c : List ℕ) (d : Definition) → file crd ≡ Some c → length c ≤ MOST_FILE_BYTES → LoadsHook c hub d → RefusesFile file crd hub name why → ⊥
+never_file file crd hub name why c d tc sc loads (file_unfit is unfit) = fit (file crd) c why tc sc (utf8_of c loads.defines.document loads.defines.reads) unfit
+never_file file crd hub name why c d tc sc loads (file_not_loaded k b is taken (inl bad) says) =
+    never_refused c loads.view b loads.defines (subst (λ (x : List ℕ). RefusesDefinition x b) (same_text (file crd) c k tc taken) bad)
+never_file file crd hub name why c d tc sc loads (file_not_loaded k b is taken (inr none) says) =
+    names_hub c hub d b loads (subst (λ (x : List ℕ). HasNoHub x hub b) (same_text (file crd) c k tc taken) none)
 
 -- a line that is served isn't refused
-pub not_both : (named : Named) (crd rules name why : List ℕ) → IsServed named crd rules → RefusesNamed named crd rules name why → ⊥
-not_both built_in crd rules name why served bad = bad
-not_both example crd rules name why served bad = bad
-not_both no_definition crd rules name why served bad = bad
-not_both (from_files c r) crd rules name why served bad =
-    never crd rules served.2 bad.0 why served.0 served.1 served.3 bad.2
+pub not_both : (file : List ℕ → Option (List ℕ)) (source : Source) (name why : List ℕ) → IsServed file source → Refuses file source name why → ⊥
+not_both file built_in name why served bad = bad
+not_both file (by_rules crd rules) name why served bad = never_files file crd rules name why served.0 served.1 served.6 served.2 served.3 served.4 served.5 served.7 bad
+not_both file (by_converter crd hub url) name why served bad = never_file file crd hub name why served.0 served.3.0 served.1 served.2 served.3.1 bad
+
+-- a converter of a line that is served has an address
+pub has_address : (file : List ℕ → Option (List ℕ)) (source : Source) → IsServed file source → IsAddressless source → ⊥
+has_address file built_in served none = none
+has_address file (by_rules crd rules) served none = none
+has_address file (by_converter crd hub url) served none = none served.4 served.5
+
+-- where the files tell the texts, a definition that was loaded is served
+pub means_served : (file : List ℕ → Option (List ℕ)) (source : Source) (l : Loaded) → IsToldBy file source → Means file source l → IsServed file source
+means_served file built_in l told means = tt
+means_served file (by_rules crd rules) (with_rules d) told means =
+    let one = same_text (file crd) told.0 means.0 told.2 means.2 in
+    let two = same_text (file rules) told.1 means.1 told.3 means.3 in (
+      told.0,
+      told.1,
+      told.2,
+      told.3,
+      subst (λ (x : List ℕ). length x ≤ MOST_FILE_BYTES) one means.2.short,
+      subst (λ (x : List ℕ). length x ≤ MOST_FILE_BYTES) two means.3.short,
+      d,
+      subst (λ (x : List ℕ). LoadsSet x told.1 d) one (subst (λ (x : List ℕ). LoadsSet means.0 x d) two means.4),
+    )
+means_served file (by_rules crd rules) (with_converter d) told means = absurd means
+means_served file (by_converter crd hub url) (with_rules d) told means = absurd means
+means_served file (by_converter crd hub url) (with_converter d) told means =
+    let one = same_text (file crd) told.0 means.2 told.1 means.3 in
+    (told.0, told.1, subst (λ (x : List ℕ). length x ≤ MOST_FILE_BYTES) one means.3.short, (d, subst (λ (x : List ℕ). LoadsHook x hub d) one means.4), means.0, means.1)

@@ -1,6 +1,5 @@
 pub mod Ran
 pub mod Backups
-pub mod Converting
 pub mod Moves
 pub mod Versions
 pub mod Placed

@@ -7,7 +7,6 @@
 #![tactic(auto)]
 
 pub mod any_line;
-pub mod converting;
 pub mod drill;
 pub mod drills;
 pub mod dump;

@@ -1,6 +1,6 @@
 use Rattle.std.proofs.lemmas.Result.{err_from_is_err_and}
 use Rattle.edge_io.specs.laws.Sending.{adds_more, adds_fewer, sends_more}
-use Rattle.kubeconv_cmd.specs.Refusal.{blame_text}
+use Rattle.kubeconv_cmd.specs.Sources.{blame_text}
 use Rattle.kubeconv_cmd.proofs.status.send_blame.Goals as goal
 
 pub returns-in_err-send-clause-sent : goal.returns-in_err-send-clause-sent

@@ -1,7 +1,7 @@
 use Rattle.std.proofs.Common.{◌≡◌, ◌∙◌, ◌<◌, ◌≤◌, List, ℕ, length}
 use Rattle.edge_io.specs.Causes.{Rose}
 use Rattle.crd_versions.specs.Set.{definition_of}
-use Rattle.kubeconv_cmd.specs.inner.Halts.{NoValue, long}
+use Rattle.kubeconv_cmd.specs.inner.Ends.{NoValue, long}
 use Rattle.api_calls.specs.Meaning.{Fault}
 use Rattle.api_calls.specs.Readings.{IsFaulty}
 use Rattle.api_calls.specs.declared.versions.TheConstants.{OBJECT_LEVELS}

@@ -1,6 +1,6 @@
 use Rattle.std.proofs.Common.{◌≡◌, ◌∙◌, ◌<◌, ◌≤◌, List, ℕ, length}
 use Rattle.edge_io.specs.Causes.{Rose}
-use Rattle.kubeconv_cmd.specs.inner.Halts.{NoAnswer, long}
+use Rattle.kubeconv_cmd.specs.inner.Ends.{NoAnswer, long}
 use Rattle.review_batch.specs.Answer.{IsNoRequest}
 use Rattle.kubeconv_cmd.specs.Tasks.{not_review}
 use Rattle.kubeconv_cmd.specs.declared.input.TheConstants.{MOST_INPUT_BYTES}
