@@ -8,5 +8,4 @@ pub mod ServeLaws
 pub mod MigrateLaws
 pub mod DumpLaws
 pub mod LoadLaws
-pub mod ConverterLaws
 pub mod Moving
