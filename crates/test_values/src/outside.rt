@@ -1,5 +1,6 @@
 //! Clocks, files, connections and links: each once where it works and once where it fails.
 ghost use Rattle.std.specs.Prelude.{◌≡◌};
+ghost use Rattle.edge_io.specs.Connections.{IsHandedOn};
 
 use crate::links::{self, add_answer, add_made, one_exchange};
 use crate::streams::{self, one_read, one_write};
@@ -217,9 +218,22 @@ fn one_connection(alloc: Global, ears: &mut MemEars, out: &mut Told) {
 fn one_exchange_of<S: Source, K: Sink>(alloc: Global, source: &mut S, sink: &mut K, out: &mut Told)
     ensures origin { S.origin source.new ≡ S.origin source.old }
     ensures number { K.number sink.new ≡ K.number sink.old }
+    ensures handed_on { IsHandedOn (K.faults sink.new) (K.written sink.new) (K.flushed sink.new) }
 {
     one_read(source, out);
     one_write(alloc, sink, b"xyz", out);
+    hand_on(sink);
+}
+
+// Hands on what was written, where nothing fails.
+fn hand_on<K: Sink>(sink: &mut K)
+    ensures number { K.number sink.new ≡ K.number sink.old }
+    ensures handed_on { IsHandedOn (K.faults sink.new) (K.written sink.new) (K.flushed sink.new) }
+{
+    match sink.flush() {
+        Ok(()) => (),
+        Err(_) => (),
+    }
 }
 
 fn one_failure(ears: &mut MemEars, out: &mut Told) {
