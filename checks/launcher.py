@@ -22,7 +22,7 @@ from typing import Any, Callable, Dict, Iterator, List, NamedTuple, Tuple
 
 TOP = pathlib.Path(__file__).resolve().parent.parent
 # So many seconds something is waited for.
-PATIENCE = 20
+PATIENCE = 120
 REFUSED = "kubeconv: bad command line\n"
 UNPROVED = "kubeconv: compiled, not proved here: .ci/run proves it\n"
 HINT = "./explain with the same files tells where and how to mend it\n"
