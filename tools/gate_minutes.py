@@ -26,6 +26,7 @@ what an earlier run kept counts for nothing. It ends with the process.
 It ends with the command's status. --log FILE before the other words writes the looks into FILE, a line a process, each minute and at
 the end, so that a run that is cut off leaves its table too. Linux only.
 """
+import contextlib
 import os
 import re
 import resource
@@ -201,7 +202,7 @@ def edit_of(pid: int) -> str:
 
 class Work:
     """What a run of `rt ci` has done. A crate that stands was proved by it where a process was seen that did, and is else kept; so are its
-    edits, then."""
+    edits, then, unless one was seen to be tried: a run that was cut off may have proved a crate and not tried its edits."""
 
     def __init__(self) -> None:
         self.crates = order()
@@ -209,22 +210,20 @@ class Work:
         self.tests = {it: self.lines[it] for it in self.crates if has_tests(it)}
         self.edits = {it: edits_of(it) for it in self.crates}
         self.began: Set[str] = set()
+        self.editing: Set[str] = set()
         self.tried: Dict[str, bool] = {}
 
     def look(self, root: int) -> None:
         """Notes what is going on."""
         going = set()
         for pid in below(root):
-            edit = edit_of(pid)
+            edit, found = edit_of(pid), None
+            with contextlib.suppress(OSError, ValueError, IndexError):
+                found = kind_of(pid)
             if edit:
                 going.add(edit)
-                continue
-            try:
-                found = kind_of(pid)
-            except (OSError, ValueError, IndexError):
-                continue
             if found:
-                self.began.add(found[0])
+                (self.editing if edit else self.began).add(found[0])
         self.tried = {it: it not in going for it in {*self.tried, *going}}
 
     def standing(self) -> Set[str]:
@@ -236,12 +235,12 @@ class Work:
         stand = self.standing()
         kept = stand - self.began
         to_do = [it for it in self.crates if it not in kept]
-        whole = sum(self.lines[it] + self.tests.get(it, 0) + EDIT_LINES * self.edits[it] for it in to_do)
+        edits = sum(self.edits[it] for it in {*to_do, *self.editing})
+        whole = sum(self.lines[it] + self.tests.get(it, 0) for it in to_do) + EDIT_LINES * edits
         proved = stand & self.began
         tried = sum(self.tried.values())
         # (the tests of a crate are proved beside it, so they stand about as early)
         done = sum(self.lines[it] + self.tests.get(it, 0) for it in proved) + EDIT_LINES * tried
-        edits = sum(self.edits[it] for it in to_do)
         text = f"after {seconds / 60:.0f} minutes {len(proved)} of {len(to_do)} crates are proved and {min(tried, edits)} of {edits} edits tried"
         text += f", besides {len(kept)} crates that an earlier run kept" if kept else ""
         if not done:
