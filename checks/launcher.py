@@ -263,6 +263,10 @@ def short() -> None:
 
 def main() -> int:
     """Looks at each thing."""
+    # (what this process ignores, as under nohup, its children would ignore as well)
+    for it in (signal.SIGHUP, signal.SIGQUIT, signal.SIGTERM):
+        signal.signal(it, signal.SIG_DFL)
+    signal.signal(signal.SIGINT, signal.default_int_handler)
     wrong = 0
     for look in (short, no_line, helps, versions, passes_on, tells_kinds, builds, ends, hints):
         try:
