@@ -1,0 +1,5 @@
+pub mod Standing
+pub mod Forms
+pub mod Verdicts
+pub mod Admitted
+pub mod Causes

@@ -4,3 +4,5 @@ pub mod Opening
 pub mod Faults
 pub mod DefinitionLaws
 pub mod laws
+pub mod Hook
+pub mod Turning

@@ -19,9 +19,9 @@ use Rattle.crd_meaning.specs.Admission.{Passes}
 use Rattle.crd_meaning.specs.Refusal.{object_path}
 use Rattle.crd_admission.specs.Steps as steps
 use Rattle.converters.specs.Turns.{Turn, answered, refused, failed}
-use Rattle.hook_laws.specs.Hook.{Hooked, version_text, hook_meaning, Admits, Refuses, IsHubOf, no_value, is_early, is_broken, unconverted, too_large}
-use Rattle.hook_laws.proofs.Forms.{by_place}
-use Rattle.hook_laws.specs.Turning.{Becomes, as_it_is, by_turn, AdmitsBy, RefusedBy, FailsBy, Made, turn_to, OfTurns, WasTurned}
+use Rattle.crd_laws.specs.Hook.{Hooked, version_text, hook_meaning, Admits, Refuses, IsHubOf, no_value, is_early, is_broken, unconverted, too_large}
+use Rattle.crd_laws.proofs.Forms.{by_place}
+use Rattle.crd_laws.specs.Turning.{Becomes, as_it_is, by_turn, AdmitsBy, RefusedBy, FailsBy, Made, turn_to, OfTurns, WasTurned}
 use Rattle.hook_versions.specs.inner.Steps.{IsStanding, Turns, NoTurn}
 use Rattle.hook_versions.specs.inner.Weighing.{IsOwn, own_turns, IsPutAt, FailsOwn, IsNotPut, HaveComeBack, AreBack, AreBackThen, IsKept, MayRefuse}
 use Rattle.hook_versions.specs.Taken.{AreFew, no_more, one_more, FailsRequest, own_failed, own_answer, later, ComesBackBy, BlamesRequest}

@@ -7,8 +7,8 @@ use Rattle.api_calls.specs.declared.versions.ConvFault.{ConvFault}
 use Rattle.api_calls.specs.declared.versions.ConvFault.TheVariants as conv
 use Rattle.crd_meaning.specs.Definition.{Definition}
 use Rattle.converters.specs.Turns.{Turn}
-use Rattle.hook_laws.specs.Hook.{Hooked, version_text}
-use Rattle.hook_laws.specs.Turning.{WasTurned, FailsBy, of_failed, of_refused, of_answer, of_another, OfTurns}
+use Rattle.crd_laws.specs.Hook.{Hooked, version_text}
+use Rattle.crd_laws.specs.Turning.{WasTurned, FailsBy, of_failed, of_refused, of_answer, of_another, OfTurns}
 use Rattle.hook_versions.specs.Taken.{BlamesTurn}
 use Rattle.hook_versions.specs.inner.Steps.{IsStanding, Turns}
 use Rattle.hook_versions.specs.inner.Weighing.{IsOwnOf, IsBackBy, IsBackIn, IsBackAt, IsNotBack}

@@ -7,9 +7,9 @@ use Rattle.api_calls.specs.Spelled.{IsTextOf}
 use Rattle.api_calls.specs.laws.SpelledLaws.{stored-text}
 use Rattle.api_calls.specs.Versions.{AreStamps, IsStored}
 use Rattle.crd_meaning.specs.Meant.{no_settings}
-use Rattle.hook_laws.specs.Hook.{Hooked, IsHooked, version_text, Near, IsAt, IsForm, ComesBack, hook_meaning}
-use Rattle.hook_laws.proofs.Forms as laws
-use Rattle.hook_laws.proofs.Standing.{near_stands, stand}
+use Rattle.crd_laws.specs.Hook.{Hooked, IsHooked, version_text, Near, IsAt, IsForm, ComesBack, hook_meaning}
+use Rattle.crd_laws.proofs.Forms as laws
+use Rattle.crd_laws.proofs.Standing.{near_stands, stand}
 use Rattle.hook_versions.specs.inner.Steps.{IsTaken, IsStanding}
 use Rattle.hook_versions.proofs.Standing.{taken_standing, form_near, hub_near}
 use Rattle.hook_versions.proofs.Objects.{stands_standing}

@@ -6,8 +6,8 @@ use Rattle.crd_reading.specs.View.{VersionView}
 use Rattle.crd_reading.specs.Whole.{IsWholeDefinition, HaveSoundDefaults}
 use Rattle.crd_meaning.specs.Definition.{Definition, no_version, count_of, version_at}
 use Rattle.converters.specs.Turned.{Turned, Stays, IgnoresStamps}
-use Rattle.hook_laws.specs.Hook.{IsHooked}
-use Rattle.hook_laws.specs.Hook as hook
+use Rattle.crd_laws.specs.Hook.{IsHooked}
+use Rattle.crd_laws.specs.Hook as hook
 use Rattle.hook_versions.specs.Facts.{hooked, facts}
 
 pub is_hooked : (d : Definition) (honest : Bool) (turned : Turned) → IsWholeDefinition d.view → d.hub < count_of d → (IsTrue honest → Stays turned) → (IsTrue honest → IgnoresStamps turned)

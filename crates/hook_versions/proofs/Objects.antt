@@ -11,7 +11,7 @@ use Rattle.api_calls.specs.Versions.{AreStamps, IsStamp}
 use Rattle.crd_meaning.specs.Definition.{Definition, version_at}
 use Rattle.crd_meaning.proofs.Documents.{depth_document}
 use Rattle.crd_loading.specs.Passed.{IsPassed}
-use Rattle.hook_laws.specs.Hook.{Hooked, Stands, IsWhole}
+use Rattle.crd_laws.specs.Hook.{Hooked, Stands, IsWhole}
 use Rattle.hook_versions.specs.inner.Steps.{IsStanding}
 
 body_within : (a : ℕ) → suc a ≤ 64 → a ≤ 63

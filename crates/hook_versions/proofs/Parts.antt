@@ -9,7 +9,7 @@ use Rattle.object_reading.specs.Refusal.{refusal}
 use Rattle.object_reading.specs.Written.{IsWritable}
 use Rattle.crd_meaning.specs.Definition.{Definition}
 use Rattle.crd_meaning.proofs.Documents.{depth_document}
-use Rattle.hook_laws.specs.Turning.{IsTakenAt, taken_of}
+use Rattle.crd_laws.specs.Turning.{IsTakenAt, taken_of}
 use Rattle.hook_versions.specs.inner.Steps.{IsSent, HasParts, TakesParts, IsTaken}
 
 body_within : (a : ℕ) → suc a ≤ 64 → a ≤ 63

@@ -4,7 +4,7 @@ use Rattle.kube_meta.specs.View.{ObjectView}
 use Rattle.api_calls.specs.Meaning.{Weighs}
 use Rattle.api_calls.specs.Versions.{IsStored}
 use Rattle.crd_meaning.specs.Meant.{Settings}
-use Rattle.hook_laws.specs.Hook.{Hooked, hook_meaning}
+use Rattle.crd_laws.specs.Hook.{Hooked, hook_meaning}
 
 module _ (k : Hooked) (o q : Settings) where
   pub stored_too : (v : ℕ) (h : ObjectView) (bytes : List ℕ) → IsStored (hook_meaning k o) v h bytes → IsStored (hook_meaning k q) v h bytes

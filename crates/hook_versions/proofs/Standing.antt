@@ -4,8 +4,8 @@ use Rattle.std.specs.Prelude.{◌≢◌}
 use Rattle.kj_value.specs.Json.{Json}
 use Rattle.kube_meta.specs.View.{ObjectView}
 use Rattle.crd_meaning.specs.Definition.{Definition}
-use Rattle.hook_laws.specs.Hook.{Near, IsAt}
-use Rattle.hook_laws.specs.Turning.{taken_of}
+use Rattle.crd_laws.specs.Hook.{Near, IsAt}
+use Rattle.crd_laws.specs.Turning.{taken_of}
 use Rattle.hook_versions.specs.inner.Steps.{IsTaken, IsStanding}
 
 module _ (d : Definition) (w v : ℕ) (x y : ObjectView) (j : Json) (s : IsStanding d w x) (t : IsTaken d x v j y) where

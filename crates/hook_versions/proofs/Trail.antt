@@ -3,7 +3,7 @@ use Rattle.std.proofs.Common.{◌≡◌, ◌∙◌, List, [], ◌∷◌, ◌++�
 use Rattle.std.specs.Prelude.{ℕ}
 use Rattle.kj_value.specs.Json.{Json}
 use Rattle.converters.specs.Turns.{Turn, Answer, one_more}
-use Rattle.hook_laws.specs.Turning.{Made, OfTurns}
+use Rattle.crd_laws.specs.Turning.{Made, OfTurns}
 
 abbrev Told : Type 0
 Told = Option (List Turn)

@@ -10,8 +10,8 @@ use Rattle.api_calls.specs.declared.versions.ConvFault.TheVariants as conv
 use Rattle.crd_meaning.specs.Definition.{Definition}
 use Rattle.converters.specs.Turned.{Turned, IsSameAt, Stays}
 use Rattle.converters.specs.Turns.{Turn, answered, refused, failed, one_more}
-use Rattle.hook_laws.specs.Hook.{version_text}
-use Rattle.hook_laws.specs.Turning.{WasTurned, Becomes, as_it_is, by_turn, FailsBy, of_failed, of_refused, of_answer, Made, turn_to, taken_of, OfTurns}
+use Rattle.crd_laws.specs.Hook.{version_text}
+use Rattle.crd_laws.specs.Turning.{WasTurned, Becomes, as_it_is, by_turn, FailsBy, of_failed, of_refused, of_answer, Made, turn_to, taken_of, OfTurns}
 use Rattle.hook_versions.specs.Taken.{BlamesTurn}
 use Rattle.hook_versions.specs.inner.Steps.{IsSent, IsTaken, Turns, NoTurn}
 use Rattle.hook_versions.specs.declared.turning.Unturned.TheVariants as unturned

@@ -12,10 +12,10 @@ use Rattle.crd_meaning.specs.declared.limits.TheConstants.{MAX_MEASURE}
 use Rattle.crd_meaning.specs.Definition.{Definition, count_of}
 use Rattle.crd_meaning.specs.Meant.{no_settings}
 use Rattle.converters.specs.Turns.{Turn}
-use Rattle.hook_laws.specs.Hook.{Hooked, version_text, Near, IsForm, ComesBack, IsWhole, IsLight, hook_meaning}
-use Rattle.hook_laws.specs.Turning.{WasTurned, CameBack, OfTurns}
-use Rattle.hook_laws.proofs.Forms.{one_some}
-use Rattle.hook_laws.proofs.Standing.{near_stands}
+use Rattle.crd_laws.specs.Hook.{Hooked, version_text, Near, IsForm, ComesBack, IsWhole, IsLight, hook_meaning}
+use Rattle.crd_laws.specs.Turning.{WasTurned, CameBack, OfTurns}
+use Rattle.crd_laws.proofs.Forms.{one_some}
+use Rattle.crd_laws.proofs.Standing.{near_stands}
 use Rattle.hook_versions.specs.inner.Steps.{IsStanding}
 use Rattle.hook_versions.specs.inner.Weighing.{IsOwn, own_turns, IsBackIn, IsBackAt, IsHeavier, WeighTo, AreWithin, CameBackAt, CameBackOtherwise, HaveComeBack, AreBack, AreBackThen}
 use Rattle.hook_versions.proofs.Trail.{none_made, both_made, made_so}

@@ -3,7 +3,7 @@ use Rattle.std.specs.Prelude.{◌<◌, ◌≤◌, Bool, IsTrue}
 use Rattle.crd_reading.specs.Accepted.{AreOffered}
 use Rattle.crd_meaning.specs.Definition.{Definition, count_of}
 use Rattle.converters.specs.Turned.{Turned, Stays, IgnoresStamps}
-use Rattle.hook_laws.specs.Hook.{Hooked, IsHooked}
+use Rattle.crd_laws.specs.Hook.{Hooked, IsHooked}
 
 abbrev pub hooked : Definition → Bool → Turned → Hooked
 hooked d honest turned = record { definition = d; honest = honest; turned = turned }

@@ -7,12 +7,12 @@ use Rattle.crd_meaning.specs.Definition.{count_of, opening_of}
 use Rattle.crd_meaning.specs.Meant.{Settings}
 use Rattle.crd_laws.specs.Known.{given}
 use Rattle.crd_laws.specs.Faults.{Fault-set}
-use Rattle.hook_laws.specs.Hook.{Hooked, IsHooked, HaveSoundDefaults, hook_meaning}
-use Rattle.hook_laws.proofs.Standing as standing
-use Rattle.hook_laws.proofs.Forms as forms
-use Rattle.hook_laws.proofs.Verdicts as verdicts
-use Rattle.hook_laws.proofs.Admitted as admission
-use Rattle.hook_laws.proofs.Causes.{one_reason}
+use Rattle.crd_laws.specs.Hook.{Hooked, IsHooked, HaveSoundDefaults, hook_meaning}
+use Rattle.crd_laws.proofs.Standing as standing
+use Rattle.crd_laws.proofs.Forms as forms
+use Rattle.crd_laws.proofs.Verdicts as verdicts
+use Rattle.crd_laws.proofs.Admitted as admission
+use Rattle.crd_laws.proofs.Causes.{one_reason}
 
 module _ (k : Hooked) (o : Settings) where
   pub opens : IsHooked k → AreFlags (count_of k.definition) (opening_of k.definition)

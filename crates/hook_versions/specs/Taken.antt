@@ -15,7 +15,7 @@ use Rattle.crd_meaning.specs.Admission.{Passes}
 use Rattle.crd_meaning.specs.Refusal.{object_path}
 use Rattle.crd_admission.specs.Steps.{RefusesBody}
 use Rattle.converters.specs.Turns.{Turn, answered, failed}
-use Rattle.hook_laws.specs.Turning.{OfTurns, Made, turn_to, WasTurned, IsTakenAt, Becomes, CameBack, FailsBy, RefusedBy}
+use Rattle.crd_laws.specs.Turning.{OfTurns, Made, turn_to, WasTurned, IsTakenAt, Becomes, CameBack, FailsBy, RefusedBy}
 
 -- the tool's fault has its cause in a turn of the call
 abbrev pub BlamesTurn : Definition → Option (List Turn) → Option (List Turn) → ConvFault → Type 0

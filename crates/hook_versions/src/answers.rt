@@ -9,7 +9,7 @@ ghost use Rattle.object_reading.specs.Parts.{object_in, parts_in, whole_in};
 ghost use Rattle.object_reading.specs.Refusal.{refusal};
 ghost use Rattle.object_reading.specs.Written.{IsWritable};
 ghost use Rattle.crd_meaning.specs.Definition.{count_of};
-ghost use Rattle.hook_laws.specs.Turning.{IsTakenAt};
+ghost use Rattle.crd_laws.specs.Turning.{IsTakenAt};
 ghost use Rattle.hook_versions.specs.inner.Steps.{IsFieldsAt, IsSent, IsTaken, HasParts, TakesParts};
 
 use crate::bodies::fitted;

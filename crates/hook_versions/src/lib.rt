@@ -1,7 +1,7 @@
 //! The versions of a definition whose objects a converter turns.
 //!
 //! The one contract: `load_hook` loads a definition without rules, whose hub is named, and `HookSet` implements `Versions` for it by the
-//! meaning of `hook_laws`. What a converter answers is tested: that it is the object that was given, at the version, valid, filled and at
+//! meaning of `crd_laws`. What a converter answers is tested: that it is the object that was given, at the version, valid, filled and at
 //! most 64 levels deep; and at admission that each form turns back to the hub value. An answer that fails a test is the tool's fault, and
 //! counted as one.
 //!

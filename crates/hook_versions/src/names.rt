@@ -1,7 +1,7 @@
 //! The names of the versions.
 ghost use Rattle.std.specs.Prelude.{◌≡◌, ◌≢◌, ◌<◌, ◌≤◌, MatchOption, IfOk, ℕ};
 ghost use Rattle.crd_meaning.specs.Definition.{count_of, version_at};
-ghost use Rattle.hook_laws.specs.Hook.{version_text};
+ghost use Rattle.crd_laws.specs.Hook.{version_text};
 
 use crate::definition::HookDefinition;
 use kj_value::{NoMemory, Txt};

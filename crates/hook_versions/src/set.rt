@@ -14,8 +14,8 @@ ghost use Rattle.crd_meaning.specs.Definition.{count_of};
 ghost use Rattle.crd_laws.specs.laws.OneText.{OneList-prop};
 ghost use Rattle.crd_settings.specs.Pieces.{AreItsPieces, AreItsPieces-prop};
 ghost use Rattle.crd_settings.specs.SettledLaws.{settings_of};
-ghost use Rattle.hook_laws.specs.Hook.{HaveSoundDefaults, Admits, Refuses, IsForm, IsWhole, hook_meaning};
-ghost use Rattle.hook_laws.specs.Turning.{AdmitsBy, Becomes, OfTurns};
+ghost use Rattle.crd_laws.specs.Hook.{HaveSoundDefaults, Admits, Refuses, IsForm, IsWhole, hook_meaning};
+ghost use Rattle.crd_laws.specs.Turning.{AdmitsBy, Becomes, OfTurns};
 ghost use Rattle.hook_versions.specs.Facts.{hooked};
 ghost use Rattle.hook_versions.specs.Taken.{AreFew, BlamesTurn, BlamesRequest};
 

@@ -6,7 +6,7 @@ ghost use Rattle.kube_meta.specs.View.{object_of};
 ghost use Rattle.object_reading.specs.Parts.{whole_in};
 ghost use Rattle.converters.specs.Turns as turns;
 ghost use Rattle.crd_meaning.specs.Definition.{count_of};
-ghost use Rattle.hook_laws.specs.Hook.{version_text};
+ghost use Rattle.crd_laws.specs.Hook.{version_text};
 ghost use Rattle.hook_versions.specs.inner.Steps.{IsSent, Turns, NoTurn, OnRefused, OnFailed};
 
 use crate::answers::taken;

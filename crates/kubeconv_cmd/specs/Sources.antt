@@ -16,7 +16,7 @@ use Rattle.crd_loading.specs.Told.{RefusesIn}
 use Rattle.crd_loading.specs.View.{LoadedView}
 use Rattle.crd_loading.specs.declared.loading.Which.{Which}
 use Rattle.crd_loading.specs.declared.loading.Which.TheVariants.{Crd, Rules}
-use Rattle.hook_laws.specs.Hook.{hook_meaning}
+use Rattle.crd_laws.specs.Hook.{hook_meaning}
 use Rattle.hook_versions.specs.Facts.{hooked}
 use Rattle.hook_versions.specs.Loads.{LoadsHook, HasNoHub}
 use Rattle.built_in.specs.Texts.{definition_text, rules_text}

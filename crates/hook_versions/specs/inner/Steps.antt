@@ -16,8 +16,8 @@ use Rattle.crd_meaning.specs.Definition.{Definition, version_at}
 use Rattle.crd_meaning.specs.Objects.{IsMeta}
 use Rattle.crd_meaning.specs.Admission.{IsFilling}
 use Rattle.converters.specs.Turns.{Turn, answered, refused, failed, one_more}
-use Rattle.hook_laws.specs.Hook.{version_text, Stands}
-use Rattle.hook_laws.specs.Turning.{IsTakenAt, taken_of}
+use Rattle.crd_laws.specs.Hook.{version_text, Stands}
+use Rattle.crd_laws.specs.Turning.{IsTakenAt, taken_of}
 use Rattle.hook_versions.specs.declared.turning.Unturned.{Unturned}
 use Rattle.hook_versions.specs.declared.turning.Unturned.TheVariants as unturned
 

@@ -16,8 +16,8 @@ use Rattle.crd_meaning.specs.Definition.{Definition, count_of}
 use Rattle.crd_meaning.specs.Request.{breaks}
 use Rattle.crd_meaning.specs.Refusal.{object_path}
 use Rattle.converters.specs.Turns.{Turn, answered, refused, failed}
-use Rattle.hook_laws.specs.Hook.{Hooked, version_text, Near, IsForm, ComesBack}
-use Rattle.hook_laws.specs.Turning.{IsTakenAt, WasTurned, FailsBy, Made, turn_to, OfTurns}
+use Rattle.crd_laws.specs.Hook.{Hooked, version_text, Near, IsForm, ComesBack}
+use Rattle.crd_laws.specs.Turning.{IsTakenAt, WasTurned, FailsBy, Made, turn_to, OfTurns}
 use Rattle.hook_versions.specs.inner.Steps.{IsSent, IsStanding}
 
 -- what is known of a hub value before its forms are made

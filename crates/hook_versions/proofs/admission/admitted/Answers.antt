@@ -12,8 +12,8 @@ use Rattle.crd_meaning.specs.Definition.{count_of}
 use Rattle.crd_meaning.specs.Meant.{no_settings}
 use Rattle.crd_loading.specs.Passed.{IsPassed}
 use Rattle.crd_admission.specs.Steps.{with_rules, RefusesBody}
-use Rattle.hook_laws.specs.Hook.{Admits, hook_meaning}
-use Rattle.hook_laws.specs.Turning.{AdmitsBy, OfTurns}
+use Rattle.crd_laws.specs.Hook.{Admits, hook_meaning}
+use Rattle.crd_laws.specs.Turning.{AdmitsBy, OfTurns}
 use Rattle.hook_versions.specs.Facts.{hooked}
 use Rattle.hook_versions.specs.Taken.{AreFew}
 use Rattle.hook_versions.specs.inner.Weighing.{IsOwnOf, AreBackThen, IsKept}

@@ -1,6 +1,6 @@
 use Rattle.std.proofs.Common.{◌≡◌, ◌∙◌, ℕ, Some, sym, subst}
 use Rattle.kube_meta.specs.View.{object_of}
-use Rattle.hook_laws.specs.Hook.{version_text}
+use Rattle.crd_laws.specs.Hook.{version_text}
 use Rattle.hook_versions.specs.Facts.{hooked}
 use Rattle.hook_versions.specs.inner.Steps.{Turns}
 use Rattle.hook_versions.proofs.Admitting.{put_turned}

@@ -7,8 +7,8 @@ use Rattle.api_calls.specs.Spelled.{IsTextOf}
 use Rattle.api_calls.specs.Versions.{IsStored}
 use Rattle.api_calls.specs.declared.versions.TheConstants.{OBJECT_LEVELS}
 use Rattle.crd_meaning.specs.Meant.{no_settings}
-use Rattle.hook_laws.specs.Hook.{version_text, hook_meaning}
-use Rattle.hook_laws.specs.Turning.{Becomes, OfTurns}
+use Rattle.crd_laws.specs.Hook.{version_text, hook_meaning}
+use Rattle.crd_laws.specs.Turning.{Becomes, OfTurns}
 use Rattle.hook_versions.specs.Facts.{hooked}
 use Rattle.hook_versions.specs.inner.Steps.{Turns}
 use Rattle.hook_versions.proofs.Forming.{form_text, read_standing, read_text, stored_itself, stored_back}

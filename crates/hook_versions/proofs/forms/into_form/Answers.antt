@@ -3,8 +3,8 @@ use Rattle.kj_value.specs.Json.{depth}
 use Rattle.kube_meta.specs.Document.{document}
 use Rattle.kube_meta.specs.View.{ObjectView, object_of}
 use Rattle.api_calls.specs.declared.versions.TheConstants.{OBJECT_LEVELS}
-use Rattle.hook_laws.specs.Hook.{version_text, IsForm}
-use Rattle.hook_laws.specs.Turning.{Becomes, OfTurns}
+use Rattle.crd_laws.specs.Hook.{version_text, IsForm}
+use Rattle.crd_laws.specs.Turning.{Becomes, OfTurns}
 use Rattle.hook_versions.specs.Facts.{hooked}
 use Rattle.hook_versions.specs.inner.Steps.{Turns}
 use Rattle.hook_versions.proofs.Forming.{itself, form_of}

@@ -1,7 +1,7 @@
 use Rattle.std.proofs.Common.{◌≡◌, ℕ, Some, length, subst}
 use Rattle.kube_meta.specs.View.{ObjectView, object_of}
-use Rattle.hook_laws.specs.Hook.{version_text}
-use Rattle.hook_laws.specs.Turning.{WasTurned, OfTurns}
+use Rattle.crd_laws.specs.Hook.{version_text}
+use Rattle.crd_laws.specs.Turning.{WasTurned, OfTurns}
 use Rattle.hook_versions.specs.inner.Steps.{Turns}
 use Rattle.hook_versions.proofs.Turned.{turned_once}
 use Rattle.hook_versions.proofs.Backs.{not_back_turn, not_back_other}

@@ -4,7 +4,7 @@ use Rattle.kube_meta.specs.Shapes.{shaped}
 use Rattle.kube_meta.specs.View.{object_of}
 use Rattle.kube_meta.specs.declared.object.Shape.{Shape}
 use Rattle.crd_meaning.specs.Definition.{count_of}
-use Rattle.hook_laws.specs.Hook.{IsForm}
+use Rattle.crd_laws.specs.Hook.{IsForm}
 use Rattle.hook_versions.specs.Facts.{hooked}
 use Rattle.hook_versions.specs.inner.Weighing.{AreBackThen}
 use Rattle.hook_versions.proofs.Backs.{blames_later}

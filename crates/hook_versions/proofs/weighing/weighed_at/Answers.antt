@@ -3,7 +3,7 @@ use Rattle.std.specs.Prelude.{◌==◌, IsTrue, option_map}
 use Rattle.kube_meta.specs.Shapes.{shaped}
 use Rattle.kube_meta.specs.View.{object_of}
 use Rattle.kube_meta.specs.declared.object.Shape.{Shape}
-use Rattle.hook_laws.specs.Hook.{IsForm}
+use Rattle.crd_laws.specs.Hook.{IsForm}
 use Rattle.hook_versions.specs.Facts.{hooked}
 use Rattle.hook_versions.proofs.Results.{some_more}
 use Rattle.hook_versions.proofs.Weights.{then_hub, then_elsewhere, shaped_form, same_number}

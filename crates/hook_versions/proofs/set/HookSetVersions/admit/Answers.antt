@@ -3,7 +3,7 @@ use Rattle.kube_meta.specs.View.{object_of}
 use Rattle.api_calls.specs.Meaning.{Weighs}
 use Rattle.crd_meaning.specs.Meant.{no_settings}
 use Rattle.crd_settings.specs.SettledLaws.{settings_of}
-use Rattle.hook_laws.specs.Hook.{hook_meaning}
+use Rattle.crd_laws.specs.Hook.{hook_meaning}
 use Rattle.hook_versions.specs.Facts.{hooked}
 use Rattle.hook_versions.proofs.Results.{one_ok}
 use Rattle.hook_versions.proofs.Settled.{weighs_too}

@@ -9,8 +9,8 @@ use Rattle.api_calls.specs.Versions.{IsOneToOne}
 use Rattle.api_calls.specs.declared.versions.TheConstants.{OBJECT_LEVELS}
 use Rattle.crd_meaning.specs.Definition.{count_of}
 use Rattle.crd_meaning.specs.Meant.{Settings}
-use Rattle.hook_laws.specs.Hook.{Hooked, IsHooked, version_text, IsAt, IsForm, IsWhole, hook_meaning}
-use Rattle.hook_laws.proofs.Standing.{stand}
+use Rattle.crd_laws.specs.Hook.{Hooked, IsHooked, version_text, IsAt, IsForm, IsWhole, hook_meaning}
+use Rattle.crd_laws.proofs.Standing.{stand}
 
 same_place : (v w : ℕ) → (v == w) ≡ true → v ≡ w
 same_place v w e = grind (arith, nat_tests)

@@ -10,7 +10,7 @@ use Rattle.crd_meaning.specs.Definition.{Definition, count_of, opening_of}
 use Rattle.crd_meaning.specs.Meant.{Settings}
 use Rattle.crd_meaning.proofs.Documents.{sound_document, depth_document}
 use Rattle.crd_laws.specs.Opening.{opening_flags, names_apart}
-use Rattle.hook_laws.specs.Hook.{Hooked, IsHooked, version_text, IsAt, Stands, Near, IsForm, ComesBack, IsWhole, hook_meaning}
+use Rattle.crd_laws.specs.Hook.{Hooked, IsHooked, version_text, IsAt, Stands, Near, IsForm, ComesBack, IsWhole, hook_meaning}
 
 body_within : (a : ℕ) → suc a ≤ 64 → a ≤ 63
 body_within a h = omega arith

@@ -10,7 +10,7 @@ use Rattle.api_calls.specs.declared.versions.TheConstants.{OBJECT_LEVELS}
 use Rattle.crd_meaning.specs.Definition.{Definition, count_of}
 use Rattle.crd_meaning.specs.Admission.{Passes}
 use Rattle.converters.specs.Turns.{Turn, Answer, answered, refused, failed}
-use Rattle.hook_laws.specs.Hook.{version_text, IsBodyAt}
+use Rattle.crd_laws.specs.Hook.{version_text, IsBodyAt}
 
 -- ---- one answer
 

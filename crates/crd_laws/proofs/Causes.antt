@@ -14,8 +14,8 @@ use Rattle.crd_meaning.specs.Refusal.{IsNoValue, IsBroken, object_path}
 use Rattle.crd_meaning.specs.Given.{Given}
 use Rattle.crd_meaning.proofs.Filled.{taken_filled, sound_at}
 use Rattle.crd_meaning.proofs.Verdicts.{some_none, taken_one, passes_one}
-use Rattle.hook_laws.specs.Hook.{Hooked, HaveSoundDefaults, version_text, IsHubOf, IsUnconverted, IsTooLarge, Refuses, no_value, is_early, is_broken, unconverted, too_large}
-use Rattle.hook_laws.proofs.Verdicts.{broken_passes}
+use Rattle.crd_laws.specs.Hook.{Hooked, HaveSoundDefaults, version_text, IsHubOf, IsUnconverted, IsTooLarge, Refuses, no_value, is_early, is_broken, unconverted, too_large}
+use Rattle.crd_laws.proofs.Verdicts.{broken_passes}
 
 -- what is refused of a body that is read as a value
 data Told (k : Hooked) (r : Request) (j : Json) (f : Fault) : Type 0 where

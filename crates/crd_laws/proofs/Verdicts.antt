@@ -17,8 +17,8 @@ use Rattle.crd_meaning.specs.Refusal as refusal
 use Rattle.crd_meaning.specs.Meant.{Settings}
 use Rattle.crd_meaning.specs.Given.{Given}
 use Rattle.crd_meaning.proofs.Verdicts.{some_none, taken_one, passes_one, unread}
-use Rattle.hook_laws.specs.Hook.{Hooked, version_text, IsHubOf, IsLight, Admits, Refuses, no_value, is_early, is_broken, unconverted, too_large, hook_meaning}
-use Rattle.hook_laws.proofs.Forms.{by_place, one_some}
+use Rattle.crd_laws.specs.Hook.{Hooked, version_text, IsHubOf, IsLight, Admits, Refuses, no_value, is_early, is_broken, unconverted, too_large, hook_meaning}
+use Rattle.crd_laws.proofs.Forms.{by_place, one_some}
 
 module _ (known : Given) (d : Definition) (r : Request) where
   -- what passes isn't refused before

@@ -8,7 +8,7 @@ use Rattle.api_calls.specs.Versions.{IsAdmitted, AdmitsWhole}
 use Rattle.crd_meaning.specs.Request.{placed}
 use Rattle.crd_meaning.specs.Meant.{Settings}
 use Rattle.crd_meaning.proofs.Verdicts.{says, if_some_along}
-use Rattle.hook_laws.specs.Hook.{Hooked, Admits, hook_meaning}
+use Rattle.crd_laws.specs.Hook.{Hooked, Admits, hook_meaning}
 
 -- a field of metadata that isn't labels nor annotations
 module _ (k : Hooked) (o : Settings) (r : Request) (h : ObjectView) (e : Option ℕ) (a : Admits k r h e) where

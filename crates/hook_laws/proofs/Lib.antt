@@ -1,5 +1,0 @@
-pub mod Standing
-pub mod Forms
-pub mod Verdicts
-pub mod Admitted
-pub mod Causes

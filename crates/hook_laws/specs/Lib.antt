@@ -1,2 +1,0 @@
-pub mod Hook
-pub mod Turning
