@@ -49,7 +49,7 @@ OWN_WORDS = {
     "object_reading/specs/Fields": "Fields and items as plain lists; a null stands for nothing.",
     "object_reading/specs/Written": "Which objects have a document that is read back as they are.",
     "document_text/specs/FieldLaws": "The text of an object's fields around one of them, and of a document around number and uid.",
-    "crontab_example/specs/Documents": "The definition and the rules of the shared example: the documents that their texts read as.",
+    "built_in/specs/Example": "The definition and the rules of the shared example: the documents that their texts read as.",
     "crd_meaning/specs/Meant": "The meaning of a loaded definition (`meaning_of`), where what bodies say of flags is left open.",
     "crd_versions/specs/Set": "What the versions of a loaded definition show to contracts.",
     "review_forms/specs/Request": "The request of a review, and the document that spells it.",

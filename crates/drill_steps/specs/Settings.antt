@@ -2,7 +2,8 @@
 use Rattle.std.specs.Prelude.{ℕ, ◌%◌, Bool, not, List, [], ◌∷◌, ◌==◌, codes}
 use Rattle.kj_value.specs.Json.{Json, text}
 use Rattle.kj_value.specs.Text.{text_of}
-use Rattle.crontab_example.specs.Documents.{fields, items, version, hub_schema, stored_schema, names}
+use Rattle.built_in.specs.Texts.{fields, items}
+use Rattle.built_in.specs.Example.{version, hub_schema, stored_schema, names}
 use Rattle.drill_requests.specs.Bodies.{hub_version, spoke_version}
 
 -- the definition of the example, stored at its hub or at its spoke

@@ -20,7 +20,7 @@ use Rattle.crd_laws.specs.Hook.{hook_meaning}
 use Rattle.hook_versions.specs.Facts.{hooked}
 use Rattle.hook_versions.specs.Loads.{LoadsHook, HasNoHub}
 use Rattle.built_in.specs.Texts.{definition_text, rules_text}
-use Rattle.crontab_example.specs.Documents.{definition_document, rules_document}
+use Rattle.built_in.specs.Example.{definition_document, rules_document}
 use Rattle.drill_steps.specs.Drilling.{Tells, drilled}
 use Rattle.http_address.specs.Address.{AddressView, IsAddress}
 use Rattle.command_lines.specs.Lines.{Source, built_in, by_rules, by_converter}

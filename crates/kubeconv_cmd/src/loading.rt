@@ -14,7 +14,7 @@ ghost use Rattle.kubeconv_cmd.specs.Sources.{IsExample, IsTaken, IsUnfit, LoadsS
 ghost use Rattle.kubeconv_cmd.specs.inner.Ends.{Stops, StopsBy};
 
 use crate::stop::{Stop, Why};
-use built_in::accepted;
+use built_in::{accepted, example};
 use converters::Converter;
 use crd_versions::{LoadFault, VersionSet, Which, load};
 use edge_io::{FileFault, Files};
@@ -56,10 +56,10 @@ pub(crate) fn load_example(alloc: Global) -> Result<VersionSet, NoMemory>
     ensures { IfOk result (λ s. IsExample (definition_of s)) }
 {
     // Asked for what their clauses say: nothing of texts that read so is refused, and a text reads as one value.
-    crontab_example::accepted();
+    example::accepted();
     one_reading();
-    let definition = crontab_example::definition();
-    let rules = crontab_example::rules();
+    let definition = example::definition();
+    let rules = example::rules();
     match load(alloc, definition.as_bytes(), rules.as_bytes()) {
         Ok(versions) => Ok(versions),
         Err(LoadFault::NoMemory) => Err(NoMemory),

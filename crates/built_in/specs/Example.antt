@@ -1,23 +1,15 @@
 -- The definition of the example, a CustomResourceDefinition of apiextensions.k8s.io/v1, and its rules of conversion: the
 -- documents that their texts read as.
 use Rattle.std.specs.Prelude.{ℕ, pos, List, [], ◌∷◌, Bool, true, false, codes}
-use Rattle.kj_value.specs.Json.{Json, null, boolean, whole, text, list, object, items_of, members_of}
+use Rattle.kj_value.specs.Json.{Json, null, boolean, whole, text}
 use Rattle.kj_value.specs.Fields.{Pairs}
-
-abbrev pub fields : Pairs → Json
-fields ps = object (members_of ps)
-
-abbrev pub items : List Json → Json
-items js = list (items_of js)
+use Rattle.built_in.specs.Texts.{fields, items, text_schema, metadata}
 
 -- ---- schemas
 
 -- a node of a type with no other keyword
 abbrev pub typed : List ℕ → Json
 typed t = fields ((codes "type", text t) ∷ [])
-
-abbrev pub text_schema : Json
-text_schema = typed (codes "string")
 
 abbrev pub whole_schema : Json
 whole_schema = typed (codes "integer")
@@ -112,7 +104,7 @@ unfoldable pub definition_document : Json
 definition_document = fields (
     (codes "apiVersion", text (codes "apiextensions.k8s.io/v1"))
     ∷ (codes "kind", text (codes "CustomResourceDefinition"))
-    ∷ (codes "metadata", fields ((codes "name", text (codes "crontabs.example.com")) ∷ []))
+    ∷ (codes "metadata", metadata)
     ∷ (codes "spec", spec)
     ∷ [])
 

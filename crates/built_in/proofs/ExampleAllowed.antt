@@ -10,7 +10,7 @@ use Rattle.crd_reading.specs.First.{first_refusal}
 use Rattle.rule_reading.specs.Words.{word}
 use Rattle.crd_loading.specs.Words.{hub_name, spokes_name}
 use Rattle.crd_loading.specs.Fits.{rules_blame}
-use Rattle.crontab_example.specs.Documents.{definition_document, rules_document}
+use Rattle.built_in.specs.Example.{definition_document, rules_document}
 
 pub definition_allowed : first_refusal definition_document ≡ None
 unfolding definition_document first_refusal spelled api_version document_kind namespaced is_kind_name is_name is_namespace keyword keyword_named meta_type type_named

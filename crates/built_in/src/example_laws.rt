@@ -4,7 +4,7 @@ ghost use Rattle.kj_value.specs.Reading.{Reads};
 ghost use Rattle.crd_loading.specs.Blame.{Blame};
 ghost use Rattle.crd_loading.specs.Load.{Loads, RefusesDefinition, RefusesRules};
 ghost use Rattle.crd_loading.specs.View.{LoadedView};
-ghost use Rattle.crontab_example.specs.Documents.{definition_document, rules_document};
+ghost use Rattle.built_in.specs.Example.{definition_document, rules_document};
 
 use kj_value::one_reading;
 

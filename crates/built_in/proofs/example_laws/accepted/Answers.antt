@@ -3,9 +3,9 @@ use Rattle.kj_value.specs.Json.{Json}
 use Rattle.kj_value.specs.Reading.{Reads}
 use Rattle.built_in.proofs.Read.{AreValue}
 use Rattle.built_in.proofs.Standing.{definition_stands, rules_stand, both_load}
-use Rattle.crontab_example.specs.Documents.{definition_document, rules_document}
-use Rattle.crontab_example.proofs.Allowed.{definition_allowed, rules_allowed}
-use Rattle.crontab_example.proofs.laws.accepted.Goals as goal
+use Rattle.built_in.specs.Example.{definition_document, rules_document}
+use Rattle.built_in.proofs.ExampleAllowed.{definition_allowed, rules_allowed}
+use Rattle.built_in.proofs.example_laws.accepted.Goals as goal
 
 pub returns : goal.returns
 returns c =

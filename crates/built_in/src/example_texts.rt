@@ -1,6 +1,6 @@
 //! The two documents, as JSON texts.
 ghost use Rattle.kj_value.specs.Reading.{Reads};
-ghost use Rattle.crontab_example.specs.Documents.{definition_document, rules_document};
+ghost use Rattle.built_in.specs.Example.{definition_document, rules_document};
 
 const DEFINITION: &str = r#"{
   "apiVersion": "apiextensions.k8s.io/v1",
