@@ -2,7 +2,7 @@ mod Lookup
 mod Depths
 mod Schemas
 mod Lists
-mod Refusing
+pub mod Refusing
 mod Rows
 mod Numerals
 mod Ready
@@ -17,3 +17,11 @@ mod PassedObjects
 mod Weights
 mod Results
 mod VersionTexts
+mod NamedVersions
+mod DocumentRows
+mod SubmittedDocuments
+mod DocumentDepths
+mod StandingDocuments
+mod Crossed
+mod PassedDocuments
+mod Notes

@@ -33,7 +33,7 @@ fn annotation_path(alloc: Global, key: &str) -> Result<Txt, NoMemory>
 
 /// What is told of an annotation that can't be read, in an object of that name: `Invalid` at the annotation, with the rule
 /// `Kept`.
-pub fn badly_kept(alloc: Global, name: Txt, fault: KeepFault) -> Result<AdmitFault, NoMemory>
+pub(crate) fn badly_kept(alloc: Global, name: Txt, fault: KeepFault) -> Result<AdmitFault, NoMemory>
     ensures { IfOk result (Refused (IsTold name.bytes fault) ⊥) }
 {
     match fault {

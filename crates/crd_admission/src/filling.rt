@@ -22,7 +22,7 @@ use struct_schema::{CheckFault, Schema, check};
 
 /// The object with its body filled, which breaks no rule of the schema. `Invalid` names the first rule that the filled body
 /// breaks, at its path.
-pub fn filled(alloc: Global, s: &Schema, o: Object) -> Result<Object, AdmitFault>
+pub(crate) fn filled(alloc: Global, s: &Schema, o: Object) -> Result<Object, AdmitFault>
     ensures filling { IfOk result (λ p. IsFilling (shape_of s.now) o.body p.body) }
     ensures valid { IfOk result (λ p. valid (shape_of s.now) (object (members_of p.body)) ≡ true) }
     ensures rest { IfOk result (λ p. object_of p ≡ record (object_of o) { body = p.body }) }

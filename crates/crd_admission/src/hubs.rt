@@ -9,17 +9,18 @@ ghost use Rattle.keep_laws.specs.Over.{IsFirstBad};
 ghost use Rattle.spoke_keep.specs.Fault.{IsFaultOf};
 ghost use Rattle.crd_meaning.specs.Definition.{count_of, seat};
 ghost use Rattle.crd_meaning.specs.Admission.{own_name, IsHubOf, IsLight};
-ghost use Rattle.crd_meaning.specs.Objects.{IsFormAt};
+ghost use Rattle.crd_meaning.specs.Objects.{IsFormAt, IsWholeValue};
 ghost use Rattle.crd_meaning.specs.Meant.{meant};
 ghost use Rattle.crd_loading.specs.Passed.{IsPassed};
 ghost use Rattle.crd_admission.specs.NoHub.{HasNoHub};
+ghost use Rattle.crd_admission.specs.inner.Documents.{IsOfVersion, HasHub};
 
 use crate::faults::{too_large, unread};
 use crate::weighing::weigh;
 use api_calls::AdmitFault;
 use crd_loading::LoadedVersions;
-use crd_meaning::{going_over, one_hub};
-use keep_laws::object_laws::settling;
+use crd_meaning::one_hub;
+use keep_laws::object_laws::{given, settling};
 use kj_value::{NoMemory, Txt};
 use kube_meta::{Object, Shape};
 use spoke_keep::{KeepFault, settle, to_hub};
@@ -86,16 +87,24 @@ pub fn hub_value(
     }
 }
 
-fn hub_of(alloc: Global, set: &LoadedVersions, v: u8, x: Object) -> Result<Object, KeepFault>
-    requires known { v < count_of set.now }
-    requires passed { IsPassed set.now v (object_of x) }
-    ensures hub { IfOk result (λ h. IsHubOf set.now v (object_of x) (object_of h)) }
+/// The object at the hub that is one with what is left of an object of version `v`. It is a hub value, where that one is an object that
+/// passed; and else the first annotation by key is named that is read and spells no entries.
+pub(crate) fn hub_of(
+    alloc: Global,
+    set: &LoadedVersions,
+    v: u8,
+    x: Object,
+) -> Result<Object, KeepFault>
+    requires { IsOfVersion set.now v (object_of x) }
+    ensures hub { IfOk result (λ h. HasHub set.now v (object_of x) (object_of h)) }
+    ensures value { IsPassed set.now v (object_of x) → IfOk result (λ h. IsWholeValue set.now (object_of h)) }
     ensures bad { IfErr result (IsFaultOf set.now.spokes (own_name (seat set.now v)) x.meta.annotations) }
 {
-    going_over();
+    given();
     settling();
     let _ = set.hub();
     let _ = set.definition().versions();
+    let _ = x.body.len();
     match set.place(v) {
         None => settle(alloc, set.spokes(), None, x),
         Some(p) => to_hub(alloc, set.spokes(), p, x),

@@ -98,7 +98,7 @@ fn name_path(alloc: Global) -> Result<Txt, NoMemory>
 
 /// The path of a field of the metadata; of the empty one, the metadata's own.
 #[tactic(auto, unfolding(crd_meaning::specs::Request::metadata_path, crd_meaning::specs::Request::metadata_prefix))]
-pub fn metadata_field(alloc: Global, field: &str) -> Result<Txt, NoMemory>
+pub(crate) fn metadata_field(alloc: Global, field: &str) -> Result<Txt, NoMemory>
     ensures { IfOk result (λ t. t.bytes ≡ metadata_field field.now) }
 {
     if field.is_empty() {

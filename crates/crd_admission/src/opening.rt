@@ -15,7 +15,7 @@ use crd_reading::Definition;
 use kube_meta::Object;
 
 /// Each default of the version's schema is its own filling, and with the levels above it no deeper than an object may be.
-pub fn defaults_of(set: &LoadedVersions, v: u8)
+pub(crate) fn defaults_of(set: &LoadedVersions, v: u8)
     requires { v < count_of set.now }
     ensures own { HasOwnDefaults (version_at set.now v).schema }
     ensures low { HasLowDefaults 0 (version_at set.now v).schema }

@@ -4,7 +4,7 @@ ghost use Rattle.std.specs.Str.{bytes_eq};
 ghost use Rattle.keep_laws.specs.Spokes.{slash, api_version};
 
 /// Whether a text is GROUP/VERSION. It takes no memory.
-pub fn is_version_text(text: &str, group: &str, version: &str) -> bool
+pub(crate) fn is_version_text(text: &str, group: &str, version: &str) -> bool
     ensures { result ≡ bytes_eq text.now (api_version group.now version.now) }
 {
     match text.as_bytes().strip_prefix(group.as_bytes()) {

@@ -4,11 +4,12 @@ ghost use Rattle.kube_meta.specs.View.{ObjectView, object_of};
 ghost use Rattle.api_calls.specs.Meaning.{chunks};
 ghost use Rattle.keep_laws.specs.WholeHub.{IsWholeHub};
 ghost use Rattle.crd_meaning.specs.declared.limits.TheConstants.{MAX_MEASURE};
-ghost use Rattle.crd_meaning.specs.Definition.{Definition, IsLoaded, count_of};
+ghost use Rattle.crd_meaning.specs.Definition.{Definition, count_of};
 ghost use Rattle.crd_meaning.specs.Objects.{IsFormAt, IsWholeValue};
 ghost use Rattle.crd_admission.specs.inner.Weighing.{IsKept, IsMeasure, IsWeightOf, form_of};
 
 use crate::measuring::{measure_shape, measure_within};
+use crate::versions::count;
 use crd_loading::LoadedVersions;
 use crd_meaning::{MAX_MEASURE, one_to_one};
 use kj_value::NoMemory;
@@ -31,13 +32,6 @@ fn heavier(most: u64, bytes: u64) -> u64
     ensures { result ≡ max most (chunks bytes) }
 {
     most.max(chunks(bytes))
-}
-
-fn count(set: &LoadedVersions) -> u8
-    ensures count { result ≡ count_of set.now }
-    ensures loaded { IsLoaded set.now }
-{
-    set.definition().versions().len() as u8
 }
 
 // What the hub value becomes at the version, or `None` at the hub, where it stays what it is.

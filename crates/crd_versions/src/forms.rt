@@ -7,11 +7,12 @@ ghost use Rattle.api_calls.specs.declared.versions.TheConstants.{OBJECT_LEVELS};
 ghost use Rattle.crd_meaning.specs.Definition.{count_of};
 ghost use Rattle.crd_meaning.specs.Objects.{IsWholeValue, IsFormAt};
 
+use crd_admission::form_at;
 use crd_loading::LoadedVersions;
 use crd_meaning::standing;
 use kj_value::NoMemory;
 use kube_meta::{Object, copy_object};
-use spoke_keep::{from_hub, into_spoke};
+use spoke_keep::from_hub;
 use std::alloc::Global;
 
 /// The object at a version, counted from 0, that is one with a hub value: a copy of it at the hub. It is at most 64 levels
@@ -44,8 +45,5 @@ pub fn into_form(
 {
     standing();
     let _ = set.hub();
-    match set.place(v) {
-        Some(p) => into_spoke(alloc, set.spokes(), p, hub),
-        None => Ok(hub),
-    }
+    form_at(alloc, set, v, hub)
 }

@@ -17,7 +17,7 @@ use crate::forms::{form, into_form};
 use crate::hub_values::hub_of;
 use crate::names::{count, find, name};
 use api_calls::{AdmitFault, Admitted, ConvFault, Flags, Incoming, NoTool, StoredList, Versions};
-use crd_documents::convert;
+use crd_admission::convert;
 use crd_loading::LoadedVersions;
 use crd_settings::{Pieces, opening, read_flags, read_keep};
 use kept_entries::one_list;

@@ -3,7 +3,8 @@ use Rattle.kube_meta.specs.View.{object_of}
 use Rattle.api_calls.specs.Versions.{request_of}
 use Rattle.crd_meaning.specs.Refusal.{RefusesRequest}
 use Rattle.crd_admission.specs.NoHub.{HasNoHub}
-use Rattle.crd_versions.proofs.Refusing.{refused_as, no_hub}
+use Rattle.crd_admission.proofs.Refusing.{refused_more}
+use Rattle.crd_versions.proofs.Refusing.{no_hub}
 use Rattle.crd_versions.proofs.admission.admitted.Goals as goal
 
 pub returns-in_err-weighed-clause-refused : goal.returns-in_err-weighed-clause-refused
@@ -13,4 +14,4 @@ returns-in_err-weighed-clause-refused c =
     let x = object_of c.in_ok-passed.passed.object in
     let p = err_from_is_err_and c.from_residual-in_err-weighed.result c.from_residual-in_err-weighed.ensures.1 in
     rw (p.1, p.2)
-    (refused_as (HasNoHub d r.version x) (RefusesRequest d r) (no_hub d r x c.in_ok-passed.passed.expected c.in_ok-passed.ensures.passes) _ c.in_err-weighed.ensures.refused)
+    (refused_more (HasNoHub d r.version x) (RefusesRequest d r) _ (no_hub d r x c.in_ok-passed.passed.expected c.in_ok-passed.ensures.passes) c.in_err-weighed.ensures.refused)

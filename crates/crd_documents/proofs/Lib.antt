@@ -1,9 +1,0 @@
-pub mod Versions
-pub mod Rows
-pub mod Submitted
-pub mod Depths
-pub mod Standing
-pub mod Crossed
-pub mod Passed
-pub mod Notes
-pub mod Refusing
