@@ -4,16 +4,16 @@ use Rattle.std.specs.Prelude.{◌≢◌}
 use Rattle.kj_value.specs.Json.{depth}
 use Rattle.kj_value.specs.declared.rule.Rule.TheVariants as rule
 use Rattle.kube_meta.specs.Document.{document}
-use Rattle.kube_meta.specs.View.{MetaView, ObjectView}
+use Rattle.kube_meta.specs.View.{MetaView, ObjectView, object_of}
 use Rattle.api_calls.specs.Cause.{why_of, cause_of}
 use Rattle.api_calls.specs.Meaning.{Request, Fault, Weighs, bad_request, invalid}
 use Rattle.api_calls.specs.Versions.{Refused}
-use Rattle.kube_meta.specs.declared.object.Shape.{Shape}
+use Rattle.api_calls.specs.declared.versions.Admitted.{Admitted}
 use Rattle.api_calls.specs.declared.versions.AdmitFault.{AdmitFault}
 use Rattle.api_calls.specs.declared.versions.AdmitFault.TheVariants as fault
 use Rattle.api_calls.specs.declared.versions.TheConstants.{OBJECT_LEVELS}
 use Rattle.crd_meaning.specs.Definition.{Definition, count_of}
-use Rattle.crd_meaning.specs.Meant.{no_settings}
+use Rattle.crd_meaning.specs.Meant.{Settings}
 use Rattle.crd_meaning.specs.Request.{breaks}
 use Rattle.crd_meaning.specs.Admission.{Passes}
 use Rattle.crd_meaning.specs.Refusal.{object_path}
@@ -23,7 +23,7 @@ use Rattle.crd_laws.specs.Hook.{Hooked, version_text, hook_meaning, Admits, Refu
 use Rattle.crd_laws.proofs.Forms.{by_place}
 use Rattle.crd_laws.specs.Turning.{Becomes, as_it_is, by_turn, AdmitsBy, RefusedBy, FailsBy, Made, turn_to, OfTurns, WasTurned}
 use Rattle.hook_versions.specs.inner.Steps.{IsStanding, Turns, NoTurn}
-use Rattle.hook_versions.specs.inner.Weighing.{IsOwn, own_turns, IsPutAt, FailsOwn, IsNotPut, HaveComeBack, AreBack, AreBackThen, IsKept, MayRefuse}
+use Rattle.hook_versions.specs.inner.Weighing.{IsOwn, own_turns, IsPutAt, FailsOwn, IsNotPut, HaveComeBack, AreBack, AreBackThen, IsKept, CameIn, MayRefuse}
 use Rattle.hook_versions.specs.Taken.{AreFew, no_more, one_more, FailsRequest, own_failed, own_answer, later, ComesBackBy, BlamesRequest}
 use Rattle.hook_versions.specs.declared.turning.Unturned.TheVariants as unturned
 use Rattle.hook_versions.proofs.Trail.{none_made, one_made, both_made, made_so, made_first}
@@ -92,25 +92,25 @@ module _ (k : Hooked) (r : Request) (x h : ObjectView) (e : Option ℕ) (p : Pas
   hub_value : (weight : Option ℕ) → Then weight → IsHubOf k r.version x h
   hub_value weight t = record { near = put.near; whole = weights.whole k h a c own put.hub weight (back weight t); turned = put.turned }
 
-  pub admits : (w : ℕ) → Then (Some w) → Admits k r h e
+  admits : (w : ℕ) → Then (Some w) → Admits k r h e
   admits w t = record { object = x; passes = p; hub = hub_value (Some w) t; light = weights.light k h a c own put.hub w (back (Some w) t) }
 
   -- of what is let in
-  module _ (y : ObjectView) (f : Option ℕ) (same : y ≡ h) (number : f ≡ e) (w : ℕ) (t : Then (Some w)) where
-    pub let_in : Admits k r y f
-    let_in = subst (λ (z : ObjectView). Admits k r z f) (sym same) (subst (λ (o : Option ℕ). Admits k r h o) (sym number) (admits w t))
+  module _ (storage : ℕ) (m : Admitted) (t : CameIn k b c own h e storage m) where
+    pub let_in : Admits k r (object_of m.hub) m.expected
+    let_in = subst (λ (z : ObjectView). Admits k r z m.expected) (sym t.0) (subst (λ (o : Option ℕ). Admits k r h o) (sym t.1) (admits m.weight t.3))
 
-    pub weighs_in : 0 < count_of k.definition → IsTrue k.honest → Weighs (hook_meaning k no_settings) y w
-    weighs_in versions honest = subst (λ (z : ObjectView). Weighs (hook_meaning k no_settings) z w) (sym same) (weights.weighs k h a c own put.hub w versions (back (Some w) t) honest)
+    pub weighs_in : (o : Settings) → 0 < count_of k.definition → IsTrue k.honest → Weighs (hook_meaning k o) (object_of m.hub) m.weight
+    weighs_in o versions honest = subst (λ (z : ObjectView). Weighs (hook_meaning k o) z m.weight) (sym t.0) (weights.weighs k h a c own put.hub m.weight versions (back (Some m.weight) t.3) honest o)
 
-    pub some_in : 0 < count_of k.definition → 0 < w
-    some_in versions = (back (Some w) t).some versions
+    pub some_in : 0 < count_of k.definition → 0 < m.weight
+    some_in versions = (back (Some m.weight) t.3).some versions
 
-    pub levels_in : depth (document y) ≤ OBJECT_LEVELS
-    levels_in = subst (λ (z : ObjectView). depth (document z) ≤ OBJECT_LEVELS) (sym same) put.hub.sent.levels
+    pub levels_in : depth (document (object_of m.hub)) ≤ OBJECT_LEVELS
+    levels_in = subst (λ (z : ObjectView). depth (document z) ≤ OBJECT_LEVELS) (sym t.0) put.hub.sent.levels
 
-  pub kept_in : (v : ℕ) (s : Option Shape) (y : ObjectView) → y ≡ h → IsKept k v h s → IsKept k v y s
-  kept_in v s y same kept = subst (λ (z : ObjectView). IsKept k v z s) (sym same) kept
+    pub kept_in : IsKept k storage (object_of m.hub) m.shape
+    kept_in = subst (λ (z : ObjectView). IsKept k storage z m.shape) (sym t.0) t.2
 
   -- ---- the turns that it took
 
@@ -123,14 +123,15 @@ module _ (k : Hooked) (r : Request) (x h : ObjectView) (e : Option ℕ) (p : Pas
   becomes_more us vs (as_it_is e same) = as_it_is e same
   becomes_more us vs (by_turn other t) = by_turn other (record { answer = t.answer; made = made_first us vs _ t.made; good = t.good; taken = t.taken })
 
-  pub admits_by : (w : ℕ) → Then (Some w) → OfTurns a c (λ ts. AdmitsBy k.definition ts r h e)
+  admits_by : (w : ℕ) → Then (Some w) → OfTurns a c (λ ts. AdmitsBy k.definition ts r h e)
   admits_by w t =
       made_so a c (λ ts. IsOwn k.definition ts own h × HaveComeBack k.definition ts own h (count_of k.definition)) (λ ts. AdmitsBy k.definition ts r h e)
       (λ ts m. record { object = x; passes = p; becomes = becomes ts m.0; back = weights.came_back k h ts own m.1 }) (back (Some w) t).turns
 
-  pub let_in_by : (y : ObjectView) (f : Option ℕ) → y ≡ h → f ≡ e → (w : ℕ) → Then (Some w) → OfTurns a c (λ ts. AdmitsBy k.definition ts r y f)
-  let_in_by y f same number w t =
-      subst (λ (z : ObjectView). OfTurns a c (λ ts. AdmitsBy k.definition ts r z f)) (sym same) (subst (λ (o : Option ℕ). OfTurns a c (λ ts. AdmitsBy k.definition ts r h o)) (sym number) (admits_by w t))
+  pub let_in_by : (storage : ℕ) (m : Admitted) → CameIn k b c own h e storage m → OfTurns a c (λ ts. AdmitsBy k.definition ts r (object_of m.hub) m.expected)
+  let_in_by storage m t =
+      subst (λ (z : ObjectView). OfTurns a c (λ ts. AdmitsBy k.definition ts r z m.expected)) (sym t.0)
+      (subst (λ (o : Option ℕ). OfTurns a c (λ ts. AdmitsBy k.definition ts r h o)) (sym t.1) (admits_by m.weight t.3))
 
   -- ---- how many there were
 
@@ -153,10 +154,10 @@ module _ (k : Hooked) (r : Request) (x h : ObjectView) (e : Option ℕ) (p : Pas
             let form = m.1 r.version known spoke in
             one_more x form.0 e p spoke form.1 (λ same. form.3 (mine ∙ ap Some (sym same))) (omega (arith, past, one))
 
-    pub few_in : (y : ObjectView) → y ≡ h → (w : ℕ) → Then (Some w) → OfTurns a c (AreFew k.definition r y)
-    few_in y same w t =
-        subst (λ (z : ObjectView). OfTurns a c (AreFew k.definition r z)) (sym same)
-        (made_so a c (λ ts. IsOwn k.definition ts own h × HaveComeBack k.definition ts own h (count_of k.definition)) (AreFew k.definition r h) (λ ts m. few ts m.1) (back (Some w) t).turns)
+  pub few_in : (storage : ℕ) (m : Admitted) → CameIn k b c own h e storage m → r.version < count_of k.definition → k.definition.hub < count_of k.definition → OfTurns a c (AreFew k.definition r (object_of m.hub))
+  few_in storage m t known hub =
+      subst (λ (z : ObjectView). OfTurns a c (AreFew k.definition r z)) (sym t.0)
+      (made_so a c (λ ts. IsOwn k.definition ts own h × HaveComeBack k.definition ts own h (count_of k.definition)) (AreFew k.definition r h) (λ ts q. few known hub ts q.1) (back (Some m.weight) t.3).turns)
 
   -- ---- what is refused of its hub value
 

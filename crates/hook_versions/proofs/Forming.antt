@@ -6,7 +6,7 @@ use Rattle.kube_meta.specs.View.{MetaView, ObjectView}
 use Rattle.api_calls.specs.Spelled.{IsTextOf}
 use Rattle.api_calls.specs.laws.SpelledLaws.{stored-text}
 use Rattle.api_calls.specs.Versions.{AreStamps, IsStored}
-use Rattle.crd_meaning.specs.Meant.{no_settings}
+use Rattle.crd_meaning.specs.Meant.{Settings}
 use Rattle.crd_laws.specs.Hook.{Hooked, IsHooked, version_text, Near, IsAt, IsForm, ComesBack, hook_meaning}
 use Rattle.crd_laws.proofs.Forms as laws
 use Rattle.crd_laws.proofs.Standing.{near_stands, stand}
@@ -31,14 +31,14 @@ module _ (k : Hooked) where
 
   -- ---- back from a stored form
 
-  module _ (is : IsHooked k) (v : ℕ) (g : ObjectView) (bytes : List ℕ) (s : IsStored (hook_meaning k no_settings) v g bytes) where
+  module _ (o : Settings) (is : IsHooked k) (v : ℕ) (g : ObjectView) (bytes : List ℕ) (s : IsStored (hook_meaning k o) v g bytes) where
     pub form_standing : IsStanding k.definition v s.form
     form_standing =
-        stands_standing k.definition v s.form (near_stands k no_settings v g s.form s.whole.stands s.pairs.near)
+        stands_standing k.definition v s.form (near_stands k o v g s.form s.whole.stands s.pairs.near)
         (subst (λ (m : MetaView). AreStamps m.created m.deleted m.generation) (sym s.pairs.near.meta) s.whole.stamps)
 
     pub form_text : IsTextOf s.form bytes
-    form_text = stored-text (hook_meaning k no_settings) v g bytes (stand k no_settings is) s
+    form_text = stored-text (hook_meaning k o) v g bytes (stand k o is) s
 
     pub read_standing : (x : ObjectView) → x ≡ s.form → IsStanding k.definition v x
     read_standing x same = subst (λ (z : ObjectView). IsStanding k.definition v z) (sym same) form_standing
@@ -46,18 +46,18 @@ module _ (k : Hooked) where
     pub read_text : (x : ObjectView) → x ≡ s.form → IsTextOf x bytes
     read_text x same = subst (λ (z : ObjectView). IsTextOf z bytes) (sym same) form_text
 
-    pub stored_itself : (x : ObjectView) → v ≡ k.definition.hub → x ≡ s.form → IsStored (hook_meaning k no_settings) v x bytes
+    pub stored_itself : (x : ObjectView) → v ≡ k.definition.hub → x ≡ s.form → IsStored (hook_meaning k o) v x bytes
     stored_itself x e same =
-        subst (λ (h : ObjectView). IsStored (hook_meaning k no_settings) v h bytes) (sym (same ∙ s.pairs.near.hub e)) s
+        subst (λ (h : ObjectView). IsStored (hook_meaning k o) v h bytes) (sym (same ∙ s.pairs.near.hub e)) s
 
     pub stored_back : (x y : ObjectView) (j : Json) → v ≢ k.definition.hub → x ≡ s.form → IsTaken k.definition x k.definition.hub j y
-        → (IsTrue k.honest → k.turned x (version_text k.definition k.definition.hub) ≡ Some y) → IsStored (hook_meaning k no_settings) v y bytes
+        → (IsTrue k.honest → k.turned x (version_text k.definition k.definition.hub) ≡ Some y) → IsStored (hook_meaning k o) v y bytes
     stored_back x y j spoke same t e =
         let standing : IsStanding k.definition v x = subst (λ (z : ObjectView). IsStanding k.definition v z) (sym same) form_standing in
         let hub = taken_standing k.definition v k.definition.hub x y j standing t in
         let is_g : IsTrue k.honest → g ≡ y = λ honest.
         laws.one_some (k.turned x (version_text k.definition k.definition.hub)) g y
-        (subst (λ (z : ObjectView). k.turned z (version_text k.definition k.definition.hub) ≡ Some g) (sym same) (laws.back k no_settings is honest v g s.form s.known spoke s.whole s.pairs))
+        (subst (λ (z : ObjectView). k.turned z (version_text k.definition k.definition.hub) ≡ Some g) (sym same) (laws.back k o is honest v g s.form s.known spoke s.whole s.pairs))
         (e honest) in record {
           form = s.form;
           known = s.known;

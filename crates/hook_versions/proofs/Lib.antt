@@ -17,4 +17,3 @@ pub mod Loaded
 pub mod Asked
 pub mod Results
 pub mod Known
-pub mod Settled

@@ -10,7 +10,7 @@ use Rattle.kube_meta.specs.declared.object.Shape.{Shape}
 use Rattle.api_calls.specs.Meaning.{Weighs, chunks, measure}
 use Rattle.crd_meaning.specs.declared.limits.TheConstants.{MAX_MEASURE}
 use Rattle.crd_meaning.specs.Definition.{Definition, count_of}
-use Rattle.crd_meaning.specs.Meant.{no_settings}
+use Rattle.crd_meaning.specs.Meant.{Settings, no_settings}
 use Rattle.converters.specs.Turns.{Turn}
 use Rattle.crd_laws.specs.Hook.{Hooked, version_text, Near, IsForm, ComesBack, IsWhole, IsLight, hook_meaning}
 use Rattle.crd_laws.specs.Turning.{WasTurned, CameBack, OfTurns}
@@ -224,8 +224,8 @@ module _ (k : Hooked) (h : ObjectView) where
     pub light : (w : ℕ) → AreBack k a b own h (count_of k.definition) (Some w) → IsTrue k.honest → IsLight k h
     light w back honest v x known f = ((back.weigh honest).0 v x known f).0
 
-    pub weighs : (w : ℕ) → 0 < count_of k.definition → AreBack k a b own h (count_of k.definition) (Some w) → IsTrue k.honest → Weighs (hook_meaning k no_settings) h w
-    weighs w versions back honest = record {
+    pub weighs : (w : ℕ) → 0 < count_of k.definition → AreBack k a b own h (count_of k.definition) (Some w) → IsTrue k.honest → (o : Settings) → Weighs (hook_meaning k o) h w
+    weighs w versions back honest o = record {
       within = λ v x known f. ((back.weigh honest).0 v x known f).1;
       met = by_met (back.weigh honest).1;
     }

@@ -8,7 +8,7 @@ ghost use Rattle.api_calls.specs.Meaning.{Weighs};
 ghost use Rattle.api_calls.specs.Versions.{Refused, request_of};
 ghost use Rattle.api_calls.specs.declared.versions.TheConstants.{OBJECT_LEVELS};
 ghost use Rattle.crd_meaning.specs.Definition.{count_of};
-ghost use Rattle.crd_meaning.specs.Meant.{no_settings};
+ghost use Rattle.crd_settings.specs.SettledLaws.{settings_of};
 ghost use Rattle.crd_laws.specs.Hook.{Admits, Refuses, hook_meaning};
 ghost use Rattle.crd_laws.specs.Turning.{AdmitsBy, OfTurns};
 ghost use Rattle.hook_versions.specs.Taken.{AreFew, BlamesRequest};
@@ -118,7 +118,7 @@ pub(crate) fn admitted<C: Converter>(
     ensures ok { IfOk result (λ a. Admits (hooked set.now C.HONEST C.turned) (request_of input.now) (object_of a.hub) a.expected) }
     ensures rests { IfOk result (λ a. OfTurns (C.turns tool.old) (C.turns tool.new) (λ ts. AdmitsBy set.now ts (request_of input.now) (object_of a.hub) a.expected)) }
     ensures few { IfOk result (λ a. OfTurns (C.turns tool.old) (C.turns tool.new) (AreFew set.now (request_of input.now) (object_of a.hub))) }
-    ensures weighs { IfOk result (λ a. IsTrue C.HONEST → Weighs (hook_meaning (hooked set.now C.HONEST C.turned) no_settings) (object_of a.hub) a.weight) }
+    ensures weighs { IfOk result (λ a. IsTrue C.HONEST → Weighs (hook_meaning (hooked set.now C.HONEST C.turned) (settings_of set.now.view)) (object_of a.hub) a.weight) }
     ensures weight { IfOk result (λ a. 0 < a.weight) }
     ensures shape { IfOk result (λ a. IsKept (hooked set.now C.HONEST C.turned) storage (object_of a.hub) a.shape) }
     ensures levels { IfOk result (λ a. depth (document (object_of a.hub)) ≤ OBJECT_LEVELS) }

@@ -132,7 +132,7 @@ fn with_parts(
         meta,
         body,
     } = o;
-    let Some(body) = fitted(alloc, &set.version(v).schema, body)? else {
+    let Some(body) = fitted(alloc, &set.version(v).schema, body) else {
         return Ok(None);
     };
     let meta = with_texts(alloc, &x.meta, meta)?;

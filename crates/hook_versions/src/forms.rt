@@ -7,7 +7,7 @@ ghost use Rattle.api_calls.specs.Spelled.{IsTextOf};
 ghost use Rattle.api_calls.specs.Versions.{IsStored};
 ghost use Rattle.api_calls.specs.declared.versions.TheConstants.{OBJECT_LEVELS};
 ghost use Rattle.crd_meaning.specs.Definition.{count_of};
-ghost use Rattle.crd_meaning.specs.Meant.{no_settings};
+ghost use Rattle.crd_settings.specs.SettledLaws.{settings_of};
 ghost use Rattle.crd_laws.specs.Hook.{version_text, IsForm, IsWhole, hook_meaning};
 ghost use Rattle.crd_laws.specs.Turning.{Becomes, OfTurns};
 ghost use Rattle.hook_versions.specs.inner.Steps.{IsSent, Turns};
@@ -101,9 +101,9 @@ pub(crate) fn into_form<C: Converter>(
     if v == set.hub() {
         return Ok(hub);
     }
-    let form = turned_or_fault(alloc, set, tool, &hub, v);
+    let made = form(alloc, set, tool, v, &hub);
     drop(hub);
-    form
+    made
 }
 
 /// The hub value whose stored text at a version these bytes are.
@@ -114,8 +114,8 @@ pub(crate) fn hub_of<C: Converter>(
     v: u8,
     stored: &[u8],
 ) -> Result<Object, ConvFault>
-    requires { (h : ObjectView) × IsStored (hook_meaning (hooked set.now C.HONEST C.turned) no_settings) v h stored.now }
-    ensures hub { IfOk result (λ h. IsStored (hook_meaning (hooked set.now C.HONEST C.turned) no_settings) v (object_of h) stored.now) }
+    requires { (h : ObjectView) × IsStored (hook_meaning (hooked set.now C.HONEST C.turned) (settings_of set.now.view)) v h stored.now }
+    ensures hub { IfOk result (λ h. IsStored (hook_meaning (hooked set.now C.HONEST C.turned) (settings_of set.now.view)) v (object_of h) stored.now) }
     ensures becomes { IfOk result (λ h. (x : ObjectView) × IsTextOf x stored.now × OfTurns (C.turns tool.old) (C.turns tool.new) (λ ts. Becomes set.now ts v x set.now.hub (object_of h))) }
     ensures blames { IfErr result (BlamesTurn set.now (C.turns tool.old) (C.turns tool.new)) }
     ensures levels { IfOk result (λ h. depth (document (object_of h)) ≤ OBJECT_LEVELS) }

@@ -3,10 +3,11 @@ use Rattle.std.specs.Prelude.{◌≡◌, ◌≢◌, ◌<◌, ◌≤◌, ◌+◌,
 use Rattle.kj_value.specs.Json.{Json}
 use Rattle.kj_value.specs.declared.rule.Rule.TheVariants as rule
 use Rattle.kube_meta.specs.Shapes.{shaped}
-use Rattle.kube_meta.specs.View.{ObjectView}
+use Rattle.kube_meta.specs.View.{ObjectView, object_of}
 use Rattle.kube_meta.specs.declared.object.Shape.{Shape}
 use Rattle.api_calls.specs.Cause.{cause_of}
 use Rattle.api_calls.specs.Meaning.{Fault, invalid, chunks, measure}
+use Rattle.api_calls.specs.declared.versions.Admitted.{Admitted}
 use Rattle.api_calls.specs.declared.versions.AdmitFault.{AdmitFault}
 use Rattle.api_calls.specs.declared.versions.AdmitFault.TheVariants as fault
 use Rattle.api_calls.specs.declared.versions.ConvFault.{ConvFault}
@@ -153,3 +154,8 @@ MayRefuse k before now own h rose fault.NoMemory = ⊤
 -- where a shape is kept, h becomes by it its form at the version
 abbrev pub IsKept : Hooked → ℕ → ObjectView → Option Shape → Type 0
 IsKept k v h o = IfSome o (λ p. IsForm k v h (shaped p h))
+
+-- the hub value h is let in with the number e: it came back from each other version, and what it becomes at the storage version is kept
+abbrev pub CameIn : Hooked → Option (List Turn) → Option (List Turn) → Option ObjectView → ObjectView → Option ℕ → ℕ → Admitted → Type 0
+CameIn k before now own h e storage a =
+    (object_of a.hub ≡ h) × (a.expected ≡ e) × IsKept k storage h a.shape × AreBackThen k before now own h 0 (Some 0) (count_of k.definition) (Some a.weight)

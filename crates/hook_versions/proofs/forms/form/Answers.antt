@@ -1,4 +1,5 @@
 use Rattle.std.proofs.Common.{◌≡◌, ◌∙◌, ◌≤◌, IsTrue, Some, sym, subst}
+use Rattle.std.specs.Prelude.{◌≢◌}
 use Rattle.kj_value.specs.Json.{depth}
 use Rattle.kube_meta.specs.Document.{document}
 use Rattle.kube_meta.specs.View.{ObjectView, object_of}
@@ -35,31 +36,22 @@ turned_or_fault-requires-clause-sent g c =
     let k = hooked c.args.set.now g.C.Converter.HONEST g.C.Converter.turned in
     (whole_standing k (object_of c.args.hub.now) c.requires.whole).sent
 
-pub returns-clause-form : goal.returns-clause-form
-returns-clause-form g c =
-    let k = hooked c.args.set.now g.C.Converter.HONEST g.C.Converter.turned in
-    let h = object_of c.args.hub.now in
-    let before = g.C.Converter.turns c.args.tool.now in
-    let now = g.C.Converter.turns c.turned_or_fault.new.tool in
-    both_ok (λ y. Turns c.args.set.now before now h c.args.v (object_of y)) (λ y. k.turned h (version_text c.args.set.now c.args.v) ≡ Some (object_of y)) (λ y. IsForm k c.args.v h (object_of y)) c.turned_or_fault.result
-    (λ y t e. form_of k c.args.v h (object_of y) t.answer (whole_standing k h c.requires.whole) (λ same. c.if-v-hub.false (same ∙ sym c.hub.ensures.value)) t.taken e)
-    c.turned_or_fault.ensures.turns c.turned_or_fault.ensures.turned
-
-pub returns-clause-becomes : goal.returns-clause-becomes
-returns-clause-becomes g c =
-    let d = c.args.set.now in
-    let h = object_of c.args.hub.now in
-    let before = g.C.Converter.turns c.args.tool.now in
-    let now = g.C.Converter.turns c.turned_or_fault.new.tool in
-    one_ok (λ y. Turns d before now h c.args.v (object_of y)) (λ y. OfTurns before now (λ ts. Becomes d ts d.hub h c.args.v (object_of y))) c.turned_or_fault.result
-    (λ y t. becomes_turned d before now h c.args.v d.hub (object_of y) (λ same. c.if-v-hub.false (sym same ∙ sym c.hub.ensures.value)) t) c.turned_or_fault.ensures.turns
-
-pub returns-clause-levels : goal.returns-clause-levels
-returns-clause-levels g c =
+pub returns : goal.returns
+returns g c =
     let k = hooked c.args.set.now g.C.Converter.HONEST g.C.Converter.turned in
     let d = c.args.set.now in
     let h = object_of c.args.hub.now in
     let before = g.C.Converter.turns c.args.tool.now in
     let now = g.C.Converter.turns c.turned_or_fault.new.tool in
-    one_ok (λ y. Turns d before now h c.args.v (object_of y)) (λ y. depth (document (object_of y)) ≤ OBJECT_LEVELS) c.turned_or_fault.result
-    (λ y t. (taken_standing d d.hub c.args.v h (object_of y) t.answer (whole_standing k h c.requires.whole) t.taken).sent.levels) c.turned_or_fault.ensures.turns
+    let standing = whole_standing k h c.requires.whole in
+    let spoke : c.args.v ≢ d.hub = λ same. c.if-v-hub.false (same ∙ sym c.hub.ensures.value) in record {
+      form = both_ok (λ y. Turns d before now h c.args.v (object_of y)) (λ y. k.turned h (version_text d c.args.v) ≡ Some (object_of y)) (λ y. IsForm k c.args.v h (object_of y)) c.turned_or_fault.result
+          (λ y t e. form_of k c.args.v h (object_of y) t.answer standing spoke t.taken e) c.turned_or_fault.ensures.turns c.turned_or_fault.ensures.turned;
+      becomes = one_ok (λ y. Turns d before now h c.args.v (object_of y)) (λ y. OfTurns before now (λ ts. Becomes d ts d.hub h c.args.v (object_of y))) c.turned_or_fault.result
+          (λ y t. becomes_turned d before now h c.args.v d.hub (object_of y) (λ same. spoke (sym same)) t) c.turned_or_fault.ensures.turns;
+      blames = c.turned_or_fault.ensures.blames;
+      levels = one_ok (λ y. Turns d before now h c.args.v (object_of y)) (λ y. depth (document (object_of y)) ≤ OBJECT_LEVELS) c.turned_or_fault.result
+          (λ y t. (taken_standing d d.hub c.args.v h (object_of y) t.answer standing t.taken).sent.levels) c.turned_or_fault.ensures.turns;
+      tool = c.turned_or_fault.ensures.tool;
+      rises = c.turned_or_fault.ensures.rises;
+    }
