@@ -1,0 +1,6 @@
+pub mod Fields
+pub mod Cells
+pub mod Back
+pub mod Total
+pub mod Stays
+pub mod Settled

@@ -1,0 +1,9 @@
+pub mod Cell
+pub mod Kinds
+pub mod Frame
+pub mod Kept
+pub mod Over
+pub mod Body
+pub mod Alive
+pub mod Known
+pub mod Stays
