@@ -6,7 +6,7 @@ import sys
 import unittest
 
 sys.path.insert(0, str(pathlib.Path(__file__).resolve().parent.parent))
-import yaml_text  # noqa: E402
+import yaml2json  # noqa: E402
 
 GOOD = {
     "a: 1\nb: -0x1f\nc: 1.5\nd: 1e3\ne: 010\nf: +7": {"a": 1, "b": -31, "c": 1.5, "d": 1000.0, "e": 8, "f": 7},
@@ -42,20 +42,20 @@ class Yaml(unittest.TestCase):
     def test_what_is_read(self):
         for text, wanted in GOOD.items():
             with self.subTest(text):
-                self.assertEqual(list(yaml_text.documents(text)), [wanted])
+                self.assertEqual(list(yaml2json.of_yaml(text)), [wanted])
 
     def test_what_is_refused(self):
         for text, wanted in BAD.items():
-            with self.subTest(text), self.assertRaises(yaml_text.NotYaml) as came:
-                list(yaml_text.documents(text))
+            with self.subTest(text), self.assertRaises(yaml2json.NotYaml) as came:
+                list(yaml2json.of_yaml(text))
             self.assertEqual(str(came.exception), wanted)
 
     def test_documents(self):
-        self.assertEqual(list(yaml_text.documents("a: 1\n---\n---\n# c\n--- \n- 2\n--- {b: 3}\n")), [{"a": 1}, [2], {"b": 3}])
+        self.assertEqual(list(yaml2json.of_yaml("a: 1\n---\n---\n# c\n--- \n- 2\n--- {b: 3}\n")), [{"a": 1}, [2], {"b": 3}])
 
     def test_the_command(self):
         def ask(text):
-            tool = pathlib.Path(yaml_text.__file__).with_name("yaml2json.py")
+            tool = pathlib.Path(yaml2json.__file__).with_name("yaml2json.py")
             pipes = {"stdout": subprocess.PIPE, "stderr": subprocess.PIPE}
             done = subprocess.run([sys.executable, tool, "-"], input=text, universal_newlines=True, **pipes)
             return done.returncode, done.stdout or done.stderr
