@@ -32,18 +32,13 @@ def crontab(name, version="v1beta1", **fields):
 
 
 class Walk:
-    """The commands, one after the other, and how many failed."""
+    """The commands, one after the other, by kubectl, whose words differ from release to release."""
 
     def __init__(self, kubectl, running):
-        self.kubectl = kubectl
-        self.running = running
-        self.minor = self.release()
+        self.kubectl, self.running = kubectl, running
+        told = subprocess.run([kubectl, "version", "--client", "-o", "json"], capture_output=True, text=True)
+        self.minor = int(json.loads(told.stdout)["clientVersion"]["minor"].rstrip("+"))
         self.use(running.front(), "http")
-
-    def release(self):
-        """The minor number of kubectl's release. Words that it prints differ from release to release."""
-        told = subprocess.run([self.kubectl, "version", "--client", "-o", "json"], capture_output=True, text=True)
-        return int(json.loads(told.stdout)["clientVersion"]["minor"].rstrip("+"))
 
     def use(self, address, scheme, **cluster):
         """Goes to a front from now on, with folders of kubectl's own that are empty."""
@@ -66,9 +61,10 @@ class Walk:
     def run(self, words, document=None, **more):
         """Runs kubectl, with a document on its standard input where there is one."""
         given = "" if document is None else json.dumps(document)
-        environment = {**self.environment, **more}
         try:
-            return subprocess.run([self.kubectl, *words], input=given, capture_output=True, text=True, timeout=60, env=environment)
+            return subprocess.run(
+                [self.kubectl, *words], input=given, capture_output=True, text=True, timeout=60, env={**self.environment, **more}
+            )
         except subprocess.TimeoutExpired as error:
             return subprocess.CompletedProcess(words, "none in 60 seconds", str(error.stdout), str(error.stderr))
 
@@ -78,21 +74,17 @@ class Walk:
         words = line if isinstance(line, list) else line.split()
         done = self.run(words, document, **more)
         output = done.stdout + done.stderr
-        if callable(wanted):
-            held = wanted(done.stdout)
-        else:
-            held = all(re.search(pattern, output, re.MULTILINE) for pattern in ([wanted] if isinstance(wanted, str) else wanted))
-        why = f"status {done.returncode}, not {status}, or not {wanted}:\n{output}"
-        self.tell(" ".join(words), held and done.returncode == status, why)
-
-    @staticmethod
-    def tell(heading, held, why=""):
-        """Prints the line of a step."""
-        check(held, heading + ("" if held else f"\n{why}"))
+        patterns = [wanted] if isinstance(wanted, str) else wanted
+        held = wanted(done.stdout) if callable(wanted) else all(re.search(it, output, re.MULTILINE) for it in patterns)
+        tell(" ".join(words), held and done.returncode == status, f"status {done.returncode}, not {status}, or not {wanted}:\n{output}")
 
     def read(self, line):
         """What a line of kubectl prints, read as JSON."""
         return json.loads(self.run(line.split()).stdout or "{}")
+
+
+def tell(heading, held, why=""):
+    check(held, heading + ("" if held else f"\n{why}"))
 
 
 def rows(*patterns):
@@ -203,7 +195,7 @@ def edits(walk):
     seen = walk.read("get crontab a -o json")
     held = [seen.get(name) for name in ("host", "owner", "note")] == ["edited", "me", "x"]
     noted = seen["metadata"].get("annotations") == {"note": "one"} and not seen["metadata"].get("labels")
-    walk.tell("each edit stands in the end", held and noted, json.dumps(seen))
+    tell("each edit stands in the end", held and noted, json.dumps(seen))
     walk.step("replace -f -", rows("crontab.example.com/a replaced"), {**seen, "host": "replaced"})
     walk.step("replace -f -", r"\(Conflict\)", {**seen, "host": "late"}, status=1)
     walk.step("replace -f -", rows("crontab.example.com/a replaced"), crontab("a", "v1", host="whole", port="1"))
