@@ -1,4 +1,4 @@
-"""What the webhook and the front for kubectl share: a server with a thread for each connection, with TLS on demand, that reads bodies of a
+"""What the servers of these examples share: a server with a thread for each connection, with TLS on demand, that reads bodies of a
 given length or in chunks, lets silent peers go, and answers the requests that are there before it ends."""
 import contextlib
 import http.server
@@ -123,10 +123,14 @@ class Handler(http.server.BaseHTTPRequestHandler):
         if self.server.stopping:
             self.close_connection = True
         head = [f"HTTP/1.1 {answer.code} {self.responses.get(answer.code, ('Unknown',))[0]}", f"Date: {self.date_time_string()}"]
-        head += [f"Content-Type: {answer.media}", f"Content-Length: {len(answer.body)}"]
+        length, body = self.framed(answer.body)
+        head += [f"Content-Type: {answer.media}", length]
         head += [f"{name}: {value}" for name, value in answer.headers] + ["Connection: close"] * self.close_connection
-        body = b"" if self.command == "HEAD" else answer.body
-        self.wfile.write("\r\n".join([*head, "", ""]).encode("latin-1", "replace") + body)
+        self.wfile.write("\r\n".join([*head, "", ""]).encode("latin-1", "replace") + (b"" if self.command == "HEAD" else body))
+
+    def framed(self, body):
+        """The field that tells how long a body is, and the bytes that carry it."""
+        return f"Content-Length: {len(body)}", body
 
     # ---- the body
 
