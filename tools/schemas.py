@@ -11,41 +11,14 @@ from typing import Any, Dict, Iterator, List, Optional, Tuple
 from fault_texts import Document, Edit, alike, at, inside, list_at, shown
 from prepare_schema import CHECKS_ALONE
 from program_asks import Program, definition
+from rule_fields import HUB, ONLY, SIDES, SPOKE, Rule, Spot, kind_of, names_of
 
-SPOKE, HUB = SIDES = (0, 1)
 OF_OBJECT = ("apiVersion", "kind", "metadata")
 MIXED, OPEN = "x-kubernetes-int-or-string", "x-kubernetes-preserve-unknown-fields"
-ONLY = ("spokeOnly", "hubOnly")
 PASSED = {"description", "title", "example", "externalDocs"}
 INSIDE = {"properties", "items", "additionalProperties"}
 UNITS = (1000, 60, 3600, 1000000, 1000000000, 1024, 24, 86400, 100)
 Node = Dict[str, Any]
-Rule = Dict[str, Any]
-Spot = Tuple[int, str]
-
-
-def kind_of(rule: Any) -> str:
-    return next(iter(rule)) if isinstance(rule, dict) and len(rule) == 1 else ""
-
-
-def names_of(rule: Any) -> List[Spot]:
-    """The names of a rule with their sides, those of the spoke first; none where it isn't of its form."""
-    kind = kind_of(rule)
-    v = rule[kind] if kind else None
-    if kind in ONLY:
-        found = [(ONLY.index(kind), v)]
-    else:
-        named = [at(v, "spoke"), *list_at(v, "hub")] if kind == "split" else v if kind == "same" else at(v, "names")
-        found = list(zip((SPOKE, HUB, HUB), named)) if isinstance(named, list) else []
-    return [it for it in found if isinstance(it[1], str)]
-
-
-def with_names(rule: Rule, names: List[str]) -> Rule:
-    """A rule with other names."""
-    (kind, v), = rule.items()
-    if kind == "split":
-        return {kind: {**v, "spoke": names[0], "hub": names[1:]}}
-    return {kind: names[0] if kind in ONLY else names if kind == "same" else {**v, "names": names}}
 
 
 def is_closed(node: Any) -> bool:
