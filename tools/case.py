@@ -44,7 +44,6 @@ def compared(given: str, wanted: str, printed: str) -> Tuple[int, List[str]]:
 
 
 def main(words: List[str]) -> int:
-    """Reads the words, and prints the cases."""
     if len(words) not in (1, 2) or words[0] in ("-h", "--help"):
         print(__doc__, end="", file=sys.stdout if words[:1] in (["-h"], ["--help"]) else sys.stderr)
         return int(words not in (["-h"], ["--help"]))

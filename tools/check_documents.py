@@ -290,7 +290,6 @@ def of_examples(program):
 
 
 def main():
-    """Reads the words, and prints what is wrong."""
     parser = argparse.ArgumentParser(description=__doc__, formatter_class=argparse.RawDescriptionHelpFormatter)
     parser.add_argument("--program", type=pathlib.Path, help="the built program")
     program = parser.parse_args().program

@@ -127,7 +127,6 @@ def items(found: List[Any]) -> Iterator[Any]:
 
 
 def objects_of(path: str) -> List[Text]:
-    """The objects of a file: its documents, and the items of Lists."""
     found, one = documents_of(path)
     several = [one] if one else [written(path, it) for it in items(found)]
     if not several:
@@ -192,7 +191,6 @@ def kept_in(doc: Any) -> Dict[str, str]:
 
 
 def entries(text: str) -> List[Any]:
-    """The entries of an annotation's text."""
     try:
         found = json.loads(text)
     except (ValueError, RecursionError):

@@ -236,7 +236,6 @@ class Search:
         return Told(fault, says + cure, [self.crd.drop(level.node(*it) or {}, "default") for level, it in has])
 
     def all(self) -> List[Told]:
-        """All faults, the first one first."""
         if self.forms() and all(self.spoke(name) for name in self.versions() if name != self.rules.value["hub"]):
             fault = self.first()
             while fault and self.tell(self.late(fault)):

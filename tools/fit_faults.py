@@ -96,7 +96,6 @@ class Case:
         return f"`{path}` is required at {level.versions[side]} and{lacks} not at {level.versions[other]}"
 
     def why(self) -> str:
-        """What is wrong."""
         level, word, two = self.level, self.fault.word, self.nodes()
         if word == "NameTwice" or self.kind == "move":
             return f"`{self.fault.path}` is named twice" if word == "NameTwice" else "there is no rule `move`"

@@ -38,8 +38,6 @@ text.code{font-family:ui-monospace,Menlo,Consolas,monospace;font-size:12px}
 
 
 class Box:
-    """A rectangle with a title and lines."""
-
     def __init__(self, words, parts):
         self.name, self.kind = words[1], words[6]
         self.x, self.y, self.w, self.h = map(int, words[2:6])

@@ -45,7 +45,6 @@ class Unsaid(Exception):
 
 
 def scalar(text: str, tell: Optional[Callable[[str], Any]] = None) -> Any:
-    """The value of a plain scalar."""
     if text in WORDS:
         return WORDS[text]
     if NUMBER.match(text):

@@ -24,7 +24,6 @@ from serving import Answer  # noqa: E402
 
 GROUP = "example.com"
 KIND = "Certificate"
-VERSIONS = ("v1", "v1beta1")
 KEPT = "converter.example.com/v1"
 MOVED = {"algorithm": "keyAlgorithm", "size": "keySize"}  # of spec.privateKey to spec
 REVIEW = {"apiVersion": "apiextensions.k8s.io/v1", "kind": "ConversionReview"}
@@ -92,7 +91,6 @@ def to_v1(item):
 
 
 def converted(item, wanted):
-    """One object at the version that is wanted."""
     if not isinstance(item, dict) or item.get("kind") != KIND:
         raise Refused(f"kind isn't {KIND}")
     here = item.get("apiVersion")
@@ -105,7 +103,6 @@ def converted(item, wanted):
 
 
 def response(request):
-    """The response to a request of a review."""
     try:
         wanted = request.get("desiredAPIVersion")
         objects = [converted(item, wanted) for item in request.get("objects", [])]
@@ -116,8 +113,6 @@ def response(request):
 
 
 class Converter(serving.Handler):
-    """Answers the requests of a connection, one after the other."""
-
     seconds, longest = 30, 16_777_216
     wants_length = True
 

@@ -29,7 +29,6 @@ class Asker(http.client.HTTPConnection):
     """The connection of one request."""
 
     def ask(self, method, target, body=None):
-        """The reply to a question."""
         try:
             self.request(method, target, body, {"Content-Type": "application/json"} if body else {})
             response = self.getresponse()
@@ -61,7 +60,6 @@ class Backend:
 
     @contextlib.contextmanager
     def asker(self):
-        """Lends what one request asks by."""
         if not self.places.acquire(timeout=MOST_WAIT_SECONDS):
             raise Refused(503, "all connections to kubeconv serve are in use")
         try:

@@ -26,8 +26,6 @@ CONNECTIONS = 256
 
 
 class Handler(serving.Handler):
-    """One connection of a client."""
-
     def answered(self, body):
         try:
             return self.server.front.answer(taken_apart(self.command, self.path, self.headers, body))
@@ -57,7 +55,6 @@ class Server(serving.Server):
 
 
 def address_of(text):
-    """The host and the port of an address."""
     host, _, port = text.removeprefix("http://").rstrip("/").rpartition(":")
     if not port.isdecimal() or int(port) > 65535:
         raise argparse.ArgumentTypeError(f"{text!r} isn't a host and a port")
@@ -65,7 +62,6 @@ def address_of(text):
 
 
 def definition(path):
-    """The definition that a file holds."""
     try:
         with open(path, encoding="utf-8") as file:
             found = json.load(file)

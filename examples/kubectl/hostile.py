@@ -75,8 +75,6 @@ AGES = [
 
 
 class Client:
-    """One connection to a front."""
-
     def __init__(self, address):
         self.address = address_of(address)
         self.connection = http.client.HTTPConnection(*self.address, timeout=90)
@@ -129,12 +127,10 @@ class Cases:
 
 
 def crontab(name, **fields):
-    """A CronTab at the hub version."""
     return {"apiVersion": "example.com/v1", "kind": "CronTab", "metadata": {"name": name}, **fields}
 
 
 def operation(verb, path, *more):
-    """An operation of a JSON patch."""
     name = "from" if verb in ("move", "copy") else "value"
     return {"op": verb, "path": path, **({name: more[0]} if more else {})}
 
@@ -219,7 +215,6 @@ def heads(cases):
 
 
 def targets(cases):
-    """Paths, queries and media types."""
     at = f"{LIST}/a"
     at_objects = f"{LIST}/a/status", f"{LIST}/A_", f"{LIST}/"
     for path in ("/", "/api/v2", "/apis/none", "/apis/example.com/v9", "/apis//", "/openapi/v3/apis/x/v1", *at_objects):
@@ -246,7 +241,6 @@ def targets(cases):
 
 
 def edits(cases):
-    """Patches, one after the other."""
     at = f"{LIST}/a"
     _, seen = cases.client.ask("GET", at)
     number = seen["metadata"]["resourceVersion"]
@@ -371,7 +365,6 @@ def pretend(server, told):
 
 
 def main(words):
-    """Runs the cases."""
     cases = Cases(pathlib.Path(words[0] if words else HERE.parent.parent / "kubeconv").resolve())
     try:
         for part in (parts, bodies, heads, targets, edits, patchers, absent, encrypted, behind):

@@ -95,7 +95,6 @@ def kinds(spec):
 
 
 def parameters(names, version):
-    """Parameters of a path or of an operation."""
     place = "path" if names and names[0] in ("name", "namespace") else "query"
     kind = {"schema": TEXT} if version == 3 else TEXT
     return [{"name": name, "in": place, "required": place == "path", **kind} for name in names]
@@ -165,7 +164,6 @@ def for_v2(schema):
 
 
 def document_v2(spec):
-    """The OpenAPI 2 document of all groups."""
     schemas, told = {META: METADATA}, {}
     for place, (kind, plural, namespaced, schema) in kinds(spec).items():
         schemas[component(*place, kind)] = for_v2(whole(schema, (*place, kind), "#/definitions/"))
@@ -201,7 +199,6 @@ def field(place, *values):
 
 
 def named(schemas):
-    """Schemas by their names."""
     return b"".join(field(ONLY, field(NAME, name), field(VALUE, encoded_schema(value))) for name, value in schemas.items())
 
 
@@ -222,6 +219,5 @@ def encoded_schema(schema):
 
 
 def encoded(document):
-    """The document of version 2, of the one in JSON."""
     info = [field(place, document["info"][name]) for place, name in enumerate(("title", "version"), 1)]
     return field(SWAGGER, document["swagger"]) + field(INFO, *info) + field(SCHEMAS, named(document["definitions"]))

@@ -16,7 +16,6 @@ MOST_TOLD = 16
 
 
 def merged(target, patch):
-    """What a merge patch makes of a value."""
     if not isinstance(patch, dict):
         return patch
     made = dict(target) if isinstance(target, dict) else {}
@@ -135,7 +134,6 @@ def stepped(value, operation, left):
 
 
 def check_operations(patch):
-    """Refuses what isn't a list of operations."""
     if not isinstance(patch, list) or not all(isinstance(operation, dict) for operation in patch):
         raise Refused(400, "a JSON patch is a list of operations")
     if len(patch) > MOST_OPERATIONS:
@@ -143,7 +141,6 @@ def check_operations(patch):
 
 
 def operated(target, patch):
-    """What a JSON patch makes of a value."""
     made, left = copy.deepcopy(target), [MOST_COPIED]
     for operation in patch:
         made = stepped(made, operation, left)

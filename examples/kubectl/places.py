@@ -81,7 +81,6 @@ class Request(typing.NamedTuple):
 
 
 def taken_apart(method, target, headers, body):
-    """The request that a head and a body spell."""
     try:
         parts = urllib.parse.urlsplit(target)
         segments = tuple(urllib.parse.unquote(part, errors="strict") for part in parts.path.split("/")[1:])
@@ -127,7 +126,6 @@ def requirement(text):
 
 
 def by_labels(selector):
-    """What takes the objects that a label selector asks for."""
     asked = [requirement(part) for part in COMMA.split(selector)]
     return lambda item: all(holds(item.get("metadata", {}).get("labels") or {}) for holds in asked)
 

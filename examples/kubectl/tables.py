@@ -95,7 +95,6 @@ def spelled(seconds, day=86400):
 
 
 def age(text):
-    """The time since a stamp."""
     try:
         stamp = datetime.datetime.fromisoformat(text.replace("Z", "+00:00"))
         return spelled(int((datetime.datetime.now(datetime.timezone.utc) - stamp).total_seconds()))
@@ -142,7 +141,6 @@ def shown(item, include):
 
 
 def table(document, columns, include):
-    """The table of a list, or of one object."""
     is_list = "items" in document
     items = document["items"] if is_list else [document]
     kept = ("continue", "remainingItemCount", "resourceVersion")

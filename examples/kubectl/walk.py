@@ -27,7 +27,6 @@ AGE = r"\d+[sm]"
 
 
 def crontab(name, version="v1beta1", **fields):
-    """A CronTab as a client writes it."""
     return {**object_of(version, name), **fields}
 
 
@@ -93,7 +92,6 @@ def rows(*patterns):
 
 
 def discovers(walk):
-    """What there is."""
     walk.step("version", r"Server Version: .*v1\.\d+\.\d+\+kubeconv")
     at_hub = r"crontabs +ct +example\.com/v1 +true +CronTab"
     definitions = r"customresourcedefinitions +crd,crds +apiextensions\.k8s\.io/v1 +false +CustomResourceDefinition"
@@ -110,7 +108,6 @@ def discovers(walk):
 
 
 def creates(walk):
-    """Creates, and applies."""
     walk.step("create -f -", rows("crontab.example.com/a created"), crontab("a", hostPort="localhost:80", timeoutSeconds=30))
     walk.step("create -f -", r"\(AlreadyExists\)", crontab("a", hostPort="localhost:80"), status=1)
     first = crontab("b", hostPort="b.example.com:80", legacy="old")
@@ -160,9 +157,7 @@ def gets(walk):
 
 
 def selects(walk):
-    """Selectors."""
     def names(*numbers):
-        """Takes the names of these objects."""
         return rows(*(f"crontab.example.com/e{number}" for number in numbers))
 
     many = ["get", "crontabs", "-n", "many", "-o", "name"]
@@ -241,7 +236,6 @@ def upgrades(walk):
 
 
 def deletes(walk):
-    """Deletes."""
     walk.step("delete crontab a", rows('crontab.example.com "a" deleted.*'))
     walk.step("delete crontab a", r"\(NotFound\)", status=1)
     walk.step("delete crontab a --ignore-not-found", r"\A\Z")
@@ -275,7 +269,6 @@ def encrypted(walk):
 
 
 def main():
-    """Runs the walk."""
     parser = parser_of(__doc__, None, kubectl="kubectl")
     parser.add_argument("program", nargs="?", default=str(HERE.parent.parent / "kubeconv"))
     given = parser.parse_args()

@@ -148,8 +148,6 @@ class Reviews:
 
 
 class Webhook(serving.Handler):
-    """The requests of one connection."""
-
     seconds, longest = SECONDS, 67_108_864
     wants_length = True
 
