@@ -70,11 +70,11 @@ class Peer(io.RawIOBase):
 
 
 class Handler(http.server.BaseHTTPRequestHandler):
-    """The requests of one connection. A server says what answers one (`answered`), and what refuses one (`refusal`)."""
+    """The requests of one connection. A server says what answers one (`answered`), and may say what refuses one."""
 
     protocol_version = default_request_version = "HTTP/1.1"
     seconds, longest = 60, 1 << 20  # for a request and for its answer; bytes of a body
-    wants_length = False
+    wants_length = is_told = False  # whether a body has to have a length, and whether refusals are told on standard error
 
     def setup(self):
         self.peer = self.wfile = Peer(self.request, self.seconds)
@@ -113,6 +113,13 @@ class Handler(http.server.BaseHTTPRequestHandler):
         answer = self.answered(body)
         self.peer.renew()
         self.say(answer)
+
+    def refusal(self, code, why):
+        return Answer(code, why.encode(), "text/plain")
+
+    def log_message(self, form, *words):
+        if self.is_told:
+            super().log_message(form, *words)
 
     def send_error(self, code, message=None, explain=None):
         """Refuses a head that can't be read, or a method that is none."""

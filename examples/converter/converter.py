@@ -132,18 +132,11 @@ class Converter(serving.Handler):
         except (ValueError, KeyError, TypeError, AttributeError, RecursionError) as wrong:
             return self.refusal(400, f"no review: {type(wrong).__name__}")
 
-    def refusal(self, code, why):
-        return Answer(code, why.encode(), "text/plain")
-
     def framed(self, body):
         if not self.server.asked.chunked:
             return super().framed(body)
         pieces = [body[begin : begin + CHUNK] for begin in range(0, len(body), CHUNK)]
         return "Transfer-Encoding: chunked", b"".join(b"%x\r\n%b\r\n" % (len(it), it) for it in [*pieces, b""])
-
-    def log_message(self, *_words):
-        pass
-
 
 def at_least(least):
     def number(text):

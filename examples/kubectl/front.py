@@ -41,9 +41,6 @@ class Handler(serving.Handler):
         code = 405 if code == 501 else code
         return serving.Answer(code, written(Refused(code, why).document))
 
-    def log_message(self, *_words):
-        """Writes no line for a request."""
-
     do_GET = do_HEAD = do_POST = do_PUT = do_PATCH = do_DELETE = serving.Handler.serve
 
 

@@ -58,12 +58,6 @@ class Webhook(serving.Handler):
         review["response"] = {"uid": asked["uid"], "convertedObjects": objects, "result": {"status": "Success"}}
         return serving.Answer(200, json.dumps(review).encode())
 
-    def refusal(self, code, why):
-        return serving.Answer(code, why.encode(), "text/plain")
-
-    def log_message(self, *_words):
-        pass
-
 
 if __name__ == "__main__":
     if len(sys.argv) != 2:

@@ -149,7 +149,7 @@ class Reviews:
 
 class Webhook(serving.Handler):
     seconds, longest = SECONDS, 67_108_864
-    wants_length = True
+    wants_length = is_told = True
 
     def do_GET(self):
         if self.path == "/healthz":
@@ -171,7 +171,7 @@ class Webhook(serving.Handler):
 
     def refusal(self, code, why):
         self.log_message("%s %s: %s", self.requestline, code, why)
-        return Answer(code, f"kubeconv: {why}\n".encode(), "text/plain")
+        return super().refusal(code, f"kubeconv: {why}\n")
 
 
 # ---- the program and the words
