@@ -151,19 +151,18 @@ def whole(value):
 
 def keyword(prepared, name, value, path):
     """The value of a keyword that holds no schema, at a node of this path, or None where it is left out."""
+    why = None
     if name in WHOLE:
-        bound = whole(value)
-        if bound is None:
-            prepared.leave(path, name, "not a whole number")
-        return bound
-    if name == "format" and value not in ("int32", "int64"):
-        prepared.leave(path, name, f"{value}")
-        return None
-    if name in (OPEN, MIXED) and value is not True:
-        prepared.leave(path, name, "false")
-        return None
-    if not is_readable(value):
-        prepared.leave(path, name, "holds a number that isn't whole")
+        value = whole(value)
+        why = "not a whole number" if value is None else None
+    elif name == "format" and value not in ("int32", "int64"):
+        why = f"{value}"
+    elif name in (OPEN, MIXED) and value is not True:
+        why = "false"
+    elif not is_readable(value):
+        why = "holds a number that isn't whole"
+    if why is not None:
+        prepared.leave(path, name, why)
         return None
     prepared.shown[name] += name in SHOWN
     return value
@@ -185,14 +184,13 @@ def unsaid(value, kind):
 
 def try_node(prepared, value, kind, path):
     """Tells what a node can't be prepared for."""
-    if value.get(MIXED) is True and kind is not None:
-        prepared.cannot(f"{at(path, MIXED)} stands beside a type")
-    if kind is None and value.get(MIXED) is not True and value.get(OPEN) is not True:
-        prepared.cannot(f"{at(path, 'type')} isn't there")
-    for name, why in unsaid(value, kind):
+    is_mixed, others = value.get(MIXED) is True, value.get("additionalProperties", False)
+    told = [(MIXED, "stands beside a type")] if is_mixed and kind is not None else []
+    told += [("type", "isn't there")] if kind is None and not is_mixed and value.get(OPEN) is not True else []
+    told += unsaid(value, kind)
+    told += [("additionalProperties", "stands beside properties")] if "properties" in value and not isinstance(others, bool) else []
+    for name, why in told:
         prepared.cannot(f"{at(path, name)} {why}")
-    if value.get("additionalProperties") is not True and "properties" in value and value.get("additionalProperties", False) is not False:
-        prepared.cannot(f"{at(path, 'additionalProperties')} stands beside properties")
 
 
 def typed(prepared, value, path):
@@ -332,15 +330,12 @@ def places(path):
 
 def put_open(schema, place):
     """Opens the part at a place, and tells whether there is one."""
-    *way, last = [(KEYS.get(step), step) for step in place]
-    for keyword, step in way:
-        schema = schema.get(keyword) if keyword else (schema.get("properties") or {}).get(step)
+    for step in place:
+        within, name = (schema, KEYS[step]) if step in KEYS else (schema.get("properties") or {}, step)
+        schema = within.get(name)
         if not isinstance(schema, dict):
             return False
-    within, name = (schema, last[0]) if last[0] else (schema.get("properties") or {}, last[1])
-    if not isinstance(within.get(name), dict):
-        return False
-    within[name] = opened(within[name])
+    within[name] = opened(schema)
     return True
 
 
@@ -380,8 +375,7 @@ def try_sizes(prepared, schemas):
     """Tells where a version has more nodes, or deeper ones, than kubeconv takes."""
     for version, schema in schemas.items():
         found = sizes(schema)
-        deep = max(map(len, found))
-        if found[()] > NODES:
-            prepared.cannot(f"the schema of {version} has {found[()]} nodes, and kubeconv takes {NODES}: {MEND}")
-        if deep > NESTING:
-            prepared.cannot(f"the schema of {version} is nested {deep} deep, and kubeconv takes {NESTING}: {MEND}")
+        count, deep = found[()], max(map(len, found))
+        has = [(f"has {count} nodes", NODES)] * (count > NODES) + [(f"is nested {deep} deep", NESTING)] * (deep > NESTING)
+        for what, most in has:
+            prepared.cannot(f"the schema of {version} {what}, and kubeconv takes {most}: {MEND}")
