@@ -6,7 +6,7 @@ import re
 import sys
 from typing import Iterator, List, NamedTuple, TextIO, Tuple
 
-import yaml_text
+import yaml2json
 
 CHUNK = 262_144  # characters that are read at once
 DEEPEST = 128  # levels of an object; kubeconv takes 64
@@ -38,8 +38,8 @@ class Text(NamedTuple):
     def value(self) -> object:
         """What it says; an object that is too deep to be looked at is nothing."""
         try:
-            value = yaml_text.read(self.text, self.line) if self.line else json.loads(self.text)
-        except yaml_text.NotYaml as why:
+            value = yaml2json.read(self.text, self.line) if self.line else json.loads(self.text)
+        except yaml2json.NotYaml as why:
             raise Unreadable(f"{self.path}: {why}" if self.path else str(why)) from None
         may_be_deep = self.line or self.text.count("{") + self.text.count("[") > DEEPEST
         return None if may_be_deep and is_deeper(value, DEEPEST) else value

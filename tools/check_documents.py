@@ -22,11 +22,13 @@ begins on a line of its own, don't count.
 
 import argparse
 import difflib
+import itertools
 import pathlib
 import re
 import shlex
 import subprocess
 import sys
+import textwrap
 
 TOP = pathlib.Path(__file__).resolve().parent.parent
 sys.path[:0] = [str(TOP / "examples/upgrade"), str(TOP / "checks")]
@@ -61,12 +63,12 @@ PLAIN = ("README.md", "docs/COMMANDS.md", "docs/RULES.md", "docs/OPERATORS.md")
 MARKED = {"README.md": 1, "docs/COMMANDS.md": 3}
 MARK = re.compile(r"<!-- run(?:: (.*))? -->")
 PATIENCE = 60
-SHARED = ["--crd", "examples/crontabs.json", "--rules", "examples/crontabs.rules.json"]
+SHARED = "--crd examples/crontabs.json --rules examples/crontabs.rules.json"
 
 
 def documents():
     """The path of each document in the repository, and its lines with what each is."""
-    found = [*TOP.glob("*.md"), *TOP.glob("docs/*.md"), *TOP.glob("bench/*.md"), *TOP.glob("checks/*.md"), *TOP.glob("examples/**/*.md"), *TOP.glob("crates/*/*.md")]
+    found = [it for at in ("*", "docs/*", "bench/*", "checks/*", "examples/**/*", "crates/*/*") for it in TOP.glob(f"{at}.md")]
     return {str(it.relative_to(TOP)): kinds_of(it.read_text().split("\n")[:-1]) for it in sorted(found)}
 
 
@@ -90,34 +92,23 @@ def bounds(name, lines):
     """What goes beyond the bounds of a document."""
     widest = {} if name == "README.md" else {"code": CODE, "row": ROW}
     for number, (line, kind) in enumerate(lines, 1):
-        most = widest.get(kind, TEXT)
+        most, words = widest.get(kind, TEXT), len(line.replace("|", " ").split())
         if len(line) > most:
             yield f"{name}:{number}: {len(line)} columns, at most {most}"
-        words = len(line.replace("|", " ").split())
         if kind == "row" and words > WORDS.get(name, words):
             yield f"{name}:{number}: a row of {words} words, at most {WORDS[name]}"
-    for number, (line, kind) in enumerate(lines, 1):
         own = OWN.search(line) if name in PLAIN and kind in ("text", "row") else None
         if own:
             yield f"{name}:{number}: {own[0]} is a word of ours"
-    most_lines, most_words = PAGES.get(name, (len(lines), None))
-    if len(lines) > most_lines:
-        yield f"{name}: {len(lines)} lines, at most {most_lines}"
-    words = sum(len(line.split()) for line, _ in lines)
-    if most_words and words > most_words:
-        yield f"{name}: {words} words, at most {most_words}"
+    has = {"lines": len(lines), "words": sum(len(line.split()) for line, _ in lines)}
+    yield from (f"{name}: {has[it]} {it}, at most {most}" for it, most in zip(has, PAGES.get(name, ())) if has[it] > most)
     heading, most_rows = ROWS.get(name, (None, 0))
     if heading:
-        rows = rows_below(heading, lines)
+        kinds = [kind for _, kind in lines[[line for line, _ in lines].index(heading) :]]
+        first = kinds.index("row")
+        rows = next((at for at, kind in enumerate(kinds[first:]) if kind != "row"), len(kinds) - first) - 2
         if rows > most_rows:
             yield f"{name}: {rows} rows below {heading}, at most {most_rows}"
-
-
-def rows_below(heading, lines):
-    """How many rows the first table behind a heading has, without its head."""
-    kinds = [kind for _, kind in lines[[line for line, _ in lines].index(heading) :]]
-    first = kinds.index("row")
-    return next((at for at, kind in enumerate(kinds[first:]) if kind != "row"), len(kinds) - first) - 2
 
 
 # ---- links
@@ -169,22 +160,15 @@ def functions(lines):
 # ---- the lines of the program
 
 VALUES = {
-    "FILE": "/nowhere/file",
-    "VERSION": "v1",
-    "URL": "http://127.0.0.1:1/apis/example.com/v1/crontabs",
-    "ADDRESS": "127.0.0.1:0",
-    "N": "1",
-    "START": "1",
-    "COUNT": "1",
-}
+    "FILE": "/nowhere/file", "VERSION": "v1", "URL": "http://127.0.0.1:1/apis/example.com/v1/crontabs", "ADDRESS": "127.0.0.1:0",
+    "N": "1", "START": "1", "COUNT": "1",
+}  # fmt: skip
 
 
 def lines_of_program(lines):
     """The lines of the first table of docs/COMMANDS.md, with values, each with and without what may be left out."""
     start = next(at for at, (line, _) in enumerate(lines) if line == "| line | does |")
-    for line, kind in lines[start + 2 :]:
-        if kind != "row":
-            return
+    for line, _ in itertools.takewhile(lambda it: it[1] == "row", lines[start + 2 :]):
         words = re.match(r"\| `([^`]*)` \|", line)[1]
         for shown in {re.sub(r"\[.*?\]", "", words), re.sub(r"[\[\]]", "", words)}:
             yield [VALUES.get(word, word) for word in shown.split()]
@@ -193,8 +177,7 @@ def lines_of_program(lines):
 def refused_lines(lines, program):
     """The lines of docs/COMMANDS.md that the program doesn't take for a line."""
     for words in lines_of_program(lines):
-        ran = subprocess.run([program, *words], stdin=subprocess.DEVNULL, stdout=subprocess.DEVNULL, stderr=subprocess.DEVNULL, timeout=PATIENCE)
-        if ran.returncode == 2:
+        if subprocess.run([program, *words], stdin=subprocess.DEVNULL, capture_output=True, timeout=PATIENCE).returncode == 2:
             yield f"docs/COMMANDS.md tells a line that the program refuses: {' '.join(words)}"
 
 
@@ -215,26 +198,16 @@ def is_shown(wanted, printed):
 
 
 def marked_blocks(lines):
-    """The number of the line of each mark, what it says, and the block behind it."""
+    """The number of the line of each mark, what it says, and the block behind it, without the blanks that make it one."""
     for at, (line, kind) in enumerate(lines):
         found = MARK.fullmatch(line.strip()) if kind == "text" else None
+        block = []
+        for more, of in lines[at + 1 :] if found else ():
+            if of != "code" and block and (more.strip() or of == "fence"):
+                break
+            block += [more] if of == "code" else [""] * bool(block)
         if found:
-            block = []
-            for more, of in lines[at + 1 :]:
-                if of == "code":
-                    block.append(more)
-                elif block and more.strip() or of == "fence" and block:
-                    break
-                elif block:
-                    block.append("")
-            yield at + 1, found[1] or "", unindented(block)
-
-
-def unindented(block):
-    """The lines of a block, without the blanks that make it one, and without empty lines at its end."""
-    while block and not block[-1].strip():
-        block.pop()
-    return [line[4:] for line in block] if block and all(line[:4].strip() == "" for line in block) else block
+            yield at + 1, found[1] or "", textwrap.dedent("\n".join(block)).rstrip("\n").split("\n") if block else []
 
 
 def commands_of(block):
@@ -258,7 +231,7 @@ def run(command, program):
     """The status of a command and what it prints, with the program in the place of ./kubeconv."""
     line = re.sub(r"(?<![\w./-])\./kubeconv(?![\w./-])", lambda _: shlex.quote(str(program)), command)
     try:
-        ran = subprocess.run(["sh", "-c", line], cwd=TOP, stdin=subprocess.DEVNULL, stdout=subprocess.PIPE, stderr=subprocess.PIPE, timeout=PATIENCE)
+        ran = subprocess.run(["sh", "-c", line], cwd=TOP, stdin=subprocess.DEVNULL, capture_output=True, timeout=PATIENCE)
     except subprocess.TimeoutExpired:
         return None, ""
     return ran.returncode, ran.stdout.decode(errors="replace")
@@ -297,38 +270,26 @@ def marked(name, lines, program):
 # ---- the examples
 
 
-def answered(program, given, words):
-    """The status of a run of `pipe` on a file of requests, and a line for each answer."""
-    with open(TOP / given, "rb") as it:
-        ran = subprocess.run([program, "pipe", *words], cwd=TOP, stdin=it, stdout=subprocess.PIPE, timeout=PATIENCE)
-    return ran.returncode, "".join(f"{status}\n{walk.masked(body)}\n" for status, body in walk.answers(ran.stdout))
-
-
-def of_rules(program):
-    """The requests of each rule are answered as the file beside them tells."""
+def of_examples(program):
+    """What the examples tell: the requests of each rule are answered as the file beside them tells."""
     for file in sorted(TOP.glob("examples/rules/*.http")):
-        name = file.relative_to(TOP).with_suffix("")
-        status, told = answered(program, file, ["--crd", f"{name}.json", "--rules", f"{name}.rules.json"])
+        name, wanted = file.relative_to(TOP).with_suffix(""), file.with_suffix(".answers").read_text()
+        status, told = run(f"./kubeconv pipe --crd {name}.json --rules {name}.rules.json < {name}.http", program)
         if status:
             yield f"{name}.http ended with status {status}"
-        yield from compared(f"{name}.http", (TOP / f"{name}.answers").read_text(), told)
-
-
-def of_examples(program):
-    """The other examples."""
-    words = " ".join(SHARED)
-    steps = f"./kubeconv pipe {words} --turns 1"
-    for command in (f"python3 examples/upgrade/walk.py --check {steps}", f"./kubeconv pipe {words} < examples/crontabs.http"):
+        told = "".join(f"{status}\n{walk.masked(body)}\n" for status, body in walk.answers(told.encode()))
+        yield from compared(f"{name}.http", wanted, told)
+    steps = f"./kubeconv pipe {SHARED} --turns 1"
+    for command in (f"python3 examples/upgrade/walk.py --check {steps}", f"./kubeconv pipe {SHARED} < examples/crontabs.http"):
         status, printed = run(command, program)
         if status:
             yield f"{command} ended with status {status}: {printed}"
-    review = f"./kubeconv review {words} < examples/webhook/review.json"
+    review = f"./kubeconv review {SHARED} < examples/webhook/review.json"
     yield from compared(review, (TOP / "examples/webhook/answer.json").read_text(), run(review, program)[1])
     yield from compared("drill 7 1000", drill_model.drill(7, 1000), run("./kubeconv drill 7 1000", program)[1])
 
 
 def main():
-    """Reads the words, and prints what is wrong."""
     parser = argparse.ArgumentParser(description=__doc__, formatter_class=argparse.RawDescriptionHelpFormatter)
     parser.add_argument("--program", type=pathlib.Path, help="the built program")
     program = parser.parse_args().program
@@ -341,7 +302,7 @@ def main():
         wrong += refused_lines(all_lines["docs/COMMANDS.md"], program)
         for name, lines in all_lines.items():
             wrong += marked(name, lines, program)
-        wrong += [*of_rules(program), *of_examples(program)]
+        wrong += of_examples(program)
     print("".join(f"{it}\n" for it in wrong), end="", file=sys.stderr)
     return 1 if wrong else 0
 

@@ -11,41 +11,26 @@ import sys
 TOP = pathlib.Path(__file__).resolve().parent.parent
 NAMES = set("APIGroup ConversionReview CustomResourceDefinition DELETE GET List Namespaced POST PUT Status "
             "StorageVersionMigration StorageVersionMigrationList True".split())
-ELSEWHERE = re.compile(r"_tests$|^test_|_fixture$|_example$|^built_in$|^drill_")
-
-
-def defined():
-    """The words of the definitions, and the texts of error lines."""
-    words = set()
-    for folder in sorted((TOP / "crates").iterdir()):
-        if ELSEWHERE.search(folder.name):
-            continue
-        for file in folder.glob("specs/**/*.antt"):
-            texts = re.findall(r'codes "([^"]*)"', file.read_text())
-            words |= {text for text in texts if re.fullmatch(r"[A-Z][A-Za-z]+", text)}
-            words |= {text[len("bad request: "):] for text in texts if text.startswith("bad request: ")} - {""}
-    status = (TOP / "crates/kubeconv_cmd/specs/Status.antt").read_text()
-    return words - NAMES | set(re.findall(r'(?:then|else) codes "([^"]*)"', status))
-
-
-def listed():
-    """The words of the table, without what stands behind them."""
-    part = (TOP / "docs/API.md").read_text().split("\n## Words\n")[1].split("\n## ")[0]
-    words = set()
-    for row in re.findall(r"(?m)^\| (`.*?) \|", part):
-        words |= {re.sub(r" [A-Z]+$", "", word) for word in re.findall(r"`([^`]*)`", row)}
-    return words
+ELSEWHERE = re.compile(r"_tests/|/test_|_fixture/|_example/|/built_in/|/drill_")
+# Rows of other words; `Duplicate` is one of ./explain.
+EXTRA = {"NotReview", "answer", "line", "no version", "Duplicate"}
 
 
 def main():
-    there, said = defined(), listed()
-    # (`Duplicate` is a word of ./explain)
-    extra = {"NotReview", "answer", "line", "no version", "Duplicate"}
-    for word in sorted(there - said):
-        print(f"docs/API.md has no row for the word {word}", file=sys.stderr)
-    for word in sorted(said - there - extra):
-        print(f"docs/API.md has a row for {word}, which no definition writes", file=sys.stderr)
-    return 1 if there - said or said - there - extra else 0
+    texts = set()
+    for file in TOP.glob("crates/*/specs/**/*.antt"):
+        if not ELSEWHERE.search(str(file.relative_to(TOP))):
+            texts.update(re.findall(r'codes "([^"]*)"', file.read_text()))
+    bad = {text[len("bad request: ") :] for text in texts if text.startswith("bad request: ")} - {""}
+    status = re.findall(r'(?:then|else) codes "([^"]*)"', (TOP / "crates/kubeconv_cmd/specs/Status.antt").read_text())
+    there = {it for it in texts | bad if it in bad or re.fullmatch(r"[A-Z][A-Za-z]+", it)} - NAMES | set(status)
+    table = (TOP / "docs/API.md").read_text().split("\n## Words\n")[1].split("\n## ")[0]
+    cells = " ".join(re.findall(r"(?m)^\| (`.*?) \|", table))
+    said = {re.sub(r" [A-Z]+$", "", word) for word in re.findall(r"`([^`]*)`", cells)}
+    wrong = [f"docs/API.md has no row for the word {word}" for word in sorted(there - said)]
+    wrong += [f"docs/API.md has a row for {word}, which no definition writes" for word in sorted(said - there - EXTRA)]
+    print("".join(f"{it}\n" for it in wrong), end="", file=sys.stderr)
+    return int(bool(wrong))
 
 
 if __name__ == "__main__":

@@ -7,7 +7,8 @@ from typing import Any, Dict, Iterator, List, Tuple
 
 from fault_texts import alike, at, shown
 from program_asks import Program
-from schemas import HUB, ONLY, SIDES, SPOKE, Level, Rule, kind_of, levels, names_of, root_level
+from rule_fields import HUB, ONLY, SIDES, SPOKE, Rule, kind_of, names_of
+from schemas import Level, levels, root_level
 
 # How wide the columns are at least.
 WIDTHS = (1, 32, 12, 32)

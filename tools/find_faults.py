@@ -9,11 +9,11 @@ import re
 from typing import Any, Dict, List, Optional, Tuple
 
 from document_faults import Told, definition_told, spot
-from fault_case import Case
 from fault_texts import Document, at, is_whole, list_at, nearest, shown, text_at
-from fit_faults import KEPT, WAYS as FIT, elsewhere, fit_told
+from fit_faults import KEPT, WAYS as FIT, Case, elsewhere, fit_told
 from program_asks import Fault, Program
-from schemas import HUB, ONLY, SIDES, SPOKE, UNITS, Level, Rule, drafts, fits, kept, kind_of, levels, names_of, root_level
+from rule_fields import HUB, ONLY, SIDES, SPOKE, Rule, kind_of, names_of
+from schemas import UNITS, Level, drafts, fits, kept, levels, root_level
 
 MOST_ROUNDS = 500
 PLAIN = ("same", "scale")
@@ -236,7 +236,6 @@ class Search:
         return Told(fault, says + cure, [self.crd.drop(level.node(*it) or {}, "default") for level, it in has])
 
     def all(self) -> List[Told]:
-        """All faults, the first one first."""
         if self.forms() and all(self.spoke(name) for name in self.versions() if name != self.rules.value["hub"]):
             fault = self.first()
             while fault and self.tell(self.late(fault)):

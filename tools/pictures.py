@@ -22,8 +22,7 @@ import pathlib
 import sys
 import textwrap
 
-TOP = pathlib.Path(__file__).resolve().parent.parent
-DOCS = TOP / "docs"
+DOCS = pathlib.Path(__file__).resolve().parent.parent / "docs"
 OUTSIDE = "tests and examples"
 
 STYLE = """
@@ -39,22 +38,15 @@ text.code{font-family:ui-monospace,Menlo,Consolas,monospace;font-size:12px}
 
 
 class Box:
-    """A rectangle with a title and lines."""
-
     def __init__(self, words, parts):
-        self.name = words[1]
-        self.x, self.y, self.w, self.h = (int(word) for word in words[2:6])
-        self.kind = words[6]
-        self.title = parts[0] if parts else self.name
-        self.lines = parts[1:]
-
-    def middle(self):
-        return self.x + self.w / 2, self.y + self.h / 2
+        self.name, self.kind = words[1], words[6]
+        self.x, self.y, self.w, self.h = map(int, words[2:6])
+        self.title, self.lines = parts[0] if parts else self.name, parts[1:]
+        self.middle = self.x + self.w / 2, self.y + self.h / 2
 
     def border(self, point):
         """Where the way from the middle to a point leaves the box; straight down, up or to a side where the point stands beside it."""
-        px, py = point
-        mx, my = self.middle()
+        (px, py), (mx, my) = point, self.middle
         if self.x + 8 <= px <= self.x + self.w - 8:
             return px, (self.y if py < my else self.y + self.h)
         if self.y + 8 <= py <= self.y + self.h - 8:
@@ -67,41 +59,38 @@ class Box:
 class Picture:
     """What stands in a text: the size, the title, the boxes by name, and the rest in the order of the text."""
 
-    def __init__(self):
-        self.size, self.title = (0, 0), ""
-        self.boxes, self.tiles, self.notes, self.edges, self.arrows = {}, [], [], [], []
+    def __init__(self, file):
+        self.size, self.title, self.boxes, self.edges = (0, 0), "", {}, []
+        self.tiles, self.arrows, self.notes = [], [], []  # as they are drawn
+        for line in file.read_text().splitlines():
+            if line.strip() and not line.startswith("#"):
+                self.take(file, *[part.strip() for part in line.split("|")])
+
+    def take(self, file, head, *parts):
+        kind, *words = head.split()
+        text = parts[0] if parts else ""
+        if kind == "size":
+            self.size = (int(words[0]), int(words[1]))
+        elif kind == "title":
+            self.title = head[len("title ") :]
+        elif kind == "box":
+            self.boxes[words[0]] = Box([kind, *words], list(parts))
+        elif kind == "tile":
+            x, y, width, height = map(int, words[:4])
+            self.tiles.append(f'<rect class="box {words[4]}" x="{x}" y="{y}" width="{width}" height="{height}" rx="4"/>')
+            self.tiles += [text_at(x + width / 2, y + height / 2 + 4.5, text, "soft")] if text else []
+        elif kind == "note":
+            self.notes.append(text_at(int(words[0]), int(words[1]), text, "soft", "start"))
+        elif kind == "edge":
+            self.edges.append((words[0], words[1], points_of(words[2:]), text))
+        elif kind == "arrow":
+            self.arrows += drawn_way(points_of(words), text)
+        else:
+            sys.exit(f"{file}: {head}")
 
 
 def points_of(words):
     return [tuple(float(n) for n in word.split(",")) for word in words]
-
-
-def read(file):
-    """The picture of a text."""
-    it = Picture()
-    for line in file.read_text().splitlines():
-        if not line.strip() or line.startswith("#"):
-            continue
-        head, *parts = [part.strip() for part in line.split("|")]
-        words = head.split()
-        text = parts[0] if parts else ""
-        if words[0] == "size":
-            it.size = (int(words[1]), int(words[2]))
-        elif words[0] == "title":
-            it.title = head[len("title ") :]
-        elif words[0] == "box":
-            it.boxes[words[1]] = Box(words, parts)
-        elif words[0] == "tile":
-            it.tiles.append((*map(int, words[1:5]), words[5], text))
-        elif words[0] == "note":
-            it.notes.append((int(words[1]), int(words[2]), text))
-        elif words[0] == "edge":
-            it.edges.append((words[1], words[2], points_of(words[3:]), text))
-        elif words[0] == "arrow":
-            it.arrows.append((points_of(words[1:]), text))
-        else:
-            sys.exit(f"{file}: {line}")
-    return it
 
 
 def escaped(text):
@@ -115,39 +104,25 @@ def text_at(x, y, text, kinds="", anchor="middle"):
 
 
 def drawn_box(box):
-    x, _ = box.middle()
-    rows = 1 + len(box.lines)
-    first = box.y + (box.h - 17 * (rows - 1)) / 2 + 4.5
-    out = [f'<rect class="box {box.kind}" x="{box.x}" y="{box.y}" width="{box.w}" height="{box.h}" rx="7"/>']
-    out.append(text_at(x, first, box.title, "title"))
-    out += [text_at(x, first + 17 * (i + 1), line, "soft") for i, line in enumerate(box.lines)]
-    return out
+    x, first = box.middle[0], box.y + (box.h - 17 * len(box.lines)) / 2 + 4.5
+    yield f'<rect class="box {box.kind}" x="{box.x}" y="{box.y}" width="{box.w}" height="{box.h}" rx="7"/>'
+    yield text_at(x, first, box.title, "title")
+    yield from (text_at(x, first + 17 * i, line, "soft") for i, line in enumerate(box.lines, 1))
 
 
 def drawn_edge(boxes, edge):
     one, other, points, label = edge
-    way = [boxes[one].border(points[0] if points else boxes[other].middle())]
-    way += points
-    way.append(boxes[other].border(points[-1] if points else boxes[one].middle()))
-    return drawn_way(way, label)
+    first, last = (points[0], points[-1]) if points else (boxes[other].middle, boxes[one].middle)
+    return drawn_way([boxes[one].border(first), *points, boxes[other].border(last)], label)
 
 
 def drawn_way(way, label):
     """An arrow by way of points, with its label over the middle one of its parts."""
     path = "M" + " L".join(f"{x:.1f} {y:.1f}" for x, y in way)
-    out = [f'<path class="edge" d="{path}" marker-end="url(#head)"/>']
-    if label:
-        half = len(way) // 2
-        (ax, ay), (bx, by) = way[half - 1], way[half]
-        for i, line in enumerate(label.split(" / ")):
-            out.append(text_at((ax + bx) / 2, (ay + by) / 2 - 6 + 15 * i, line, "soft halo"))
-    return out
-
-
-def drawn_tile(tile):
-    x, y, width, height, kind, text = tile
-    out = [f'<rect class="box {kind}" x="{x}" y="{y}" width="{width}" height="{height}" rx="4"/>']
-    return out + ([text_at(x + width / 2, y + height / 2 + 4.5, text, "soft")] if text else [])
+    yield f'<path class="edge" d="{path}" marker-end="url(#head)"/>'
+    (ax, ay), (bx, by) = way[len(way) // 2 - 1 : len(way) // 2 + 1]
+    for i, line in enumerate(label.split(" / ") if label else ()):
+        yield text_at((ax + bx) / 2, (ay + by) / 2 - 6 + 15 * i, line, "soft halo")
 
 
 def drawn(it):
@@ -160,70 +135,46 @@ def drawn(it):
         '<path class="head" d="M0 1 L9 5 L0 9 z"/></marker></defs>',
         f'<rect class="back" width="{width}" height="{height}"/>',
     ]
-    for edge in it.edges:
-        out += drawn_edge(it.boxes, edge)
-    for box in it.boxes.values():
-        out += drawn_box(box)
-    for tile in it.tiles:
-        out += drawn_tile(tile)
-    for points, label in it.arrows:
-        out += drawn_way(points, label)
-    out += [text_at(x, y, text, "soft", "start") for x, y, text in it.notes]
-    return "\n".join(out + ["</svg>", ""])
+    out += [line for edge in it.edges for line in drawn_edge(it.boxes, edge)]
+    out += [line for box in it.boxes.values() for line in drawn_box(box)]
+    return "\n".join([*out, *it.tiles, *it.arrows, *it.notes, "</svg>", ""])
 
 
-def rooms_in_list():
-    """What crates.txt says of each room, and which rooms its crates name."""
-    says, room_of, names = {}, {}, {}
-    room = ""
-    for line in (TOP / "crates.txt").read_text().splitlines():
+def with_rooms(it):
+    """The picture of the rooms: its text says where they stand, and crates.txt what they are, and which stands on which."""
+    says, room_of, names, room = {}, {}, {}, ""
+    for line in (DOCS.parent / "crates.txt").read_text().splitlines():
+        head, _, rest = line.strip("# ").partition(":")
         if line.startswith("#"):
-            room, _, said = line[1:].strip().partition(":")
-            says[room] = said.strip()
+            room, says[head] = head, rest.strip()
         elif ":" in line:
-            head, _, below = line.partition(":")
             crate = head.split()[0]
-            room_of[crate], names[crate] = room, below.split()
+            room_of[crate], names[crate] = room, rest.split()
     pairs = {(room_of[c], room_of[b]) for c, below in names.items() for b in below if b in room_of}
-    return says, {(a, b) for a, b in pairs if a != b and OUTSIDE not in (a, b)}
-
-
-def reached(start, pairs):
-    seen, left = set(), [start]
-    while left:
-        now = left.pop()
-        for a, b in pairs:
-            if a == now and b not in seen:
-                seen.add(b)
-                left.append(b)
-    return seen
-
-
-def rooms(it):
-    """The picture of the rooms: its text says where they stand, and crates.txt which stands on which."""
-    says, pairs = rooms_in_list()
+    pairs = {(a, b) for a, b in pairs if a != b and OUTSIDE not in (a, b)}
     it.boxes = {name: box for name, box in it.boxes.items() if name in says}
     missing = set(says) - {OUTSIDE} - set(it.boxes)
     if missing:
         sys.exit(f"docs/rooms.txt has no box for {', '.join(sorted(missing))}")
     for box in it.boxes.values():
-        if not box.lines:
-            box.lines = textwrap.wrap(says[box.name], box.w // 7)
+        box.lines = box.lines or textwrap.wrap(says[box.name], box.w // 7)
+
+    def reached(start):
+        return {start}.union(*(reached(b) for a, b in pairs if a == start))
+
     points = {(one, other): by for one, other, by, _ in it.edges}
-    short = {(a, b) for a, b in pairs if not any(b in reached(c, pairs) for x, c in pairs if x == a and c != b)}
-    it.edges = [(a, b, points.get((a, b), []), "") for a, b in sorted(short)]
+    direct = {(a, b) for a, b in pairs if not any(b in reached(c) for x, c in pairs if x == a and c != b)}
+    it.edges = [(a, b, points.get((a, b), []), "") for a, b in sorted(direct)]
     return it
 
 
 def main():
     asked = argparse.ArgumentParser(description=__doc__.split("\n")[0])
     asked.add_argument("--check", action="store_true", help="write nothing, and end with 1 where a picture is an old one")
-    check = asked.parse_args().check
-    old = 0
+    check, old = asked.parse_args().check, 0
     for source in sorted(DOCS.glob("*.txt")):
-        it = read(source)
-        text = drawn(rooms(it) if source.stem == "rooms" else it)
-        file = source.with_suffix(".svg")
+        it = Picture(source)
+        text, file = drawn(with_rooms(it) if source.stem == "rooms" else it), source.with_suffix(".svg")
         if check and (not file.exists() or file.read_text() != text):
             print(f"docs/{file.name} isn't what tools/pictures.py draws", file=sys.stderr)
             old = 1

@@ -23,8 +23,7 @@ import os
 import sys
 
 import yaml2json
-from prepare_open import open_large, open_named, try_sizes
-from prepare_schema import Prepared, at, is_readable, node
+from prepare_schema import Prepared, at, is_readable, node, open_large, open_named, try_sizes
 
 TOP = {"apiVersion", "kind", "metadata", "spec", "status"}
 SPEC = {"group", "scope", "names", "versions", "conversion", "preserveUnknownFields"}
@@ -40,15 +39,12 @@ def version(prepared, value, place):
     path = value["name"] if isinstance(value, dict) and isinstance(value.get("name"), str) else place
     prepared.versions.add(path)
     kept = prepared.fields(value, VERSION, path)
-    if "deprecated" in kept and kept["deprecated"] is not False:
+    if kept.get("deprecated", False) is not False:
         prepared.leave(path, "deprecated")
         del kept["deprecated"]
-    if "schema" not in kept:
-        prepared.cannot(f"{at(path, 'schema')} isn't there")
-        return kept
-    schema = prepared.fields(kept["schema"], {SCHEMA}, at(path, "schema"))
+    schema = prepared.fields(kept["schema"], {SCHEMA}, at(path, "schema")) if "schema" in kept else {}
     if SCHEMA not in schema:
-        prepared.cannot(f"{at(path, f'schema.{SCHEMA}')} isn't there")
+        prepared.cannot(f"{at(path, f'schema.{SCHEMA}' if 'schema' in kept else 'schema')} isn't there")
         return kept
     prepared.version = kept.get("name", "")
     kept["schema"] = {SCHEMA: node(prepared, schema[SCHEMA], path)}
@@ -77,16 +73,9 @@ def with_added(prepared, versions, name):
     return [*versions, {**copy.deepcopy(stored), "name": name, "served": True, "storage": False}]
 
 
-def try_versions(prepared, versions):
-    if len(versions) == 1 and prepared.for_webhook:
-        prepared.put("kept", "spec.versions", "one alone, so nothing is converted; --add-version NAME gives a second one")
-    elif not 2 <= len(versions) <= VERSIONS:
-        mend = "; --add-version NAME gives a second one" if len(versions) == 1 else ""
-        prepared.cannot(f"spec.versions has {len(versions)} of them, and kubeconv takes 2 to {VERSIONS}{mend}")
-
-
-def names_of(prepared, kept):
-    """What a definition has beside its spec."""
+def definition(prepared, document, opens=(), added=None):
+    """The definition that kubeconv takes, of which parts are opened, and to which a version is added."""
+    kept = prepared.fields(copy.deepcopy(document), TOP, "")
     if kept.get("apiVersion") != "apiextensions.k8s.io/v1" or kept.get("kind") != "CustomResourceDefinition":
         old = "; a cluster of today gives that: kubectl get crd NAME -o yaml" if kept.get("apiVersion") == "apiextensions.k8s.io/v1beta1" else ""
         prepared.cannot(f"the document isn't a CustomResourceDefinition of apiextensions.k8s.io/v1{old}")
@@ -97,47 +86,33 @@ def names_of(prepared, kept):
         if name != "name":
             prepared.leave("metadata", name)
     kept["metadata"] = {"name": prepared.expect(metadata.get("name"), str, "metadata.name")}
-
-
-def scope(prepared, spec):
-    if spec.get("scope") == "Namespaced":
-        return
+    spec = kept["spec"] = prepared.fields(kept.get("spec"), SPEC, "spec")
     if prepared.for_webhook and spec.get("scope") == "Cluster":
         spec["scope"] = "Namespaced"
         prepared.put("set", "spec.scope", "Namespaced, which a webhook doesn't look at")
-    else:
+    elif spec.get("scope") != "Namespaced":
         prepared.cannot("spec.scope isn't Namespaced")
-
-
-def unreadable(prepared, spec):
-    """Leaves out what holds numbers that kubeconv doesn't read, beside schemas."""
-    columns = [(str(item.get("name")), item, "additionalPrinterColumns") for item in spec["versions"]]
-    for path, holder, name in [("spec", spec, "conversion"), *columns]:
-        if name in holder and not is_readable(holder[name]):
-            prepared.leave(path, name, "holds a number that isn't whole")
-            del holder[name]
-
-
-def definition(prepared, document, opens=(), added=None):
-    """The definition that kubeconv takes, of which parts are opened, and to which a version is added."""
-    kept = prepared.fields(copy.deepcopy(document), TOP, "")
-    names_of(prepared, kept)
-    spec = prepared.fields(kept.get("spec"), SPEC, "spec")
-    kept["spec"] = spec
-    scope(prepared, spec)
     if spec.get("preserveUnknownFields") is True:
         prepared.cannot("spec.preserveUnknownFields is true")
     spec["names"] = prepared.fields(spec.get("names"), NAMES, "spec.names")
     versions = prepared.expect(spec.get("versions"), list, "spec.versions")
     if added:
         versions = with_added(prepared, versions, added)
-    try_versions(prepared, versions)
+    second = "; --add-version NAME gives a second one" if len(versions) == 1 else ""
+    if second and prepared.for_webhook:
+        prepared.put("kept", "spec.versions", f"one alone, so nothing is converted{second}")
+    elif not 2 <= len(versions) <= VERSIONS:
+        prepared.cannot(f"spec.versions has {len(versions)} of them, and kubeconv takes 2 to {VERSIONS}{second}")
     open_named(prepared, schemas_of(versions), opens)
     spec["versions"] = [version(prepared, item, f"spec.versions[{i}]") for i, item in enumerate(versions)]
     if not prepared.impossible:
         open_large(prepared, schemas_of(spec["versions"]))
         try_sizes(prepared, schemas_of(spec["versions"]))
-    unreadable(prepared, spec)
+    columns = [(str(item.get("name")), item, "additionalPrinterColumns") for item in spec["versions"]]
+    for path, holder, name in [("spec", spec, "conversion"), *columns]:
+        if name in holder and not is_readable(holder[name]):
+            prepared.leave(path, name, "holds a number that isn't whole")
+            del holder[name]
     return kept
 
 
@@ -164,11 +139,10 @@ def chosen(found, name):
     if len(wanted) == 1:
         return wanted[0], None
     names = ", ".join(sorted(map(name_of, held)))
-    if not held:
-        return None, "it holds no CustomResourceDefinition"
-    if name is None:
+    if held and name is None:
         return None, f"it holds {len(held)} CustomResourceDefinitions, of which --name chooses one: {names}"
-    return None, f"it holds {len(wanted)} CustomResourceDefinitions of the name {name}, and these: {names}"
+    several = f"it holds {len(wanted)} CustomResourceDefinitions of the name {name}, and these: {names}"
+    return None, several if held else "it holds no CustomResourceDefinition"
 
 
 def prepare(given):

@@ -36,6 +36,10 @@ SERVED = {"subresources", "selectableFields", "deprecated", "deprecationWarning"
 LOST = ("isn't checked any more", "isn't filled in any more", "isn't served", "goes without effect")
 # What is taken over, and no object is ever touched by.
 SHOWN = PASSED_OVER | {"conversion", "additionalPrinterColumns", "shortNames", "categories", "singular"}
+# Limits of kubeconv: nodes of a version, and how deep they nest.
+NODES, NESTING = 1_024, 32
+KEYS = {"[*]": "items", "*": "additionalProperties"}
+MEND = "an object with x-kubernetes-preserve-unknown-fields may stand for a part: --open PATH"
 KINDS = {dict: "an object", list: "a list", str: "a text", int: "a whole number", bool: "a truth value"}
 
 
@@ -147,19 +151,18 @@ def whole(value):
 
 def keyword(prepared, name, value, path):
     """The value of a keyword that holds no schema, at a node of this path, or None where it is left out."""
+    why = None
     if name in WHOLE:
-        bound = whole(value)
-        if bound is None:
-            prepared.leave(path, name, "not a whole number")
-        return bound
-    if name == "format" and value not in ("int32", "int64"):
-        prepared.leave(path, name, f"{value}")
-        return None
-    if name in (OPEN, MIXED) and value is not True:
-        prepared.leave(path, name, "false")
-        return None
-    if not is_readable(value):
-        prepared.leave(path, name, "holds a number that isn't whole")
+        value = whole(value)
+        why = "not a whole number" if value is None else None
+    elif name == "format" and value not in ("int32", "int64"):
+        why = f"{value}"
+    elif name in (OPEN, MIXED) and value is not True:
+        why = "false"
+    elif not is_readable(value):
+        why = "holds a number that isn't whole"
+    if why is not None:
+        prepared.leave(path, name, why)
         return None
     prepared.shown[name] += name in SHOWN
     return value
@@ -181,14 +184,13 @@ def unsaid(value, kind):
 
 def try_node(prepared, value, kind, path):
     """Tells what a node can't be prepared for."""
-    if value.get(MIXED) is True and kind is not None:
-        prepared.cannot(f"{at(path, MIXED)} stands beside a type")
-    if kind is None and value.get(MIXED) is not True and value.get(OPEN) is not True:
-        prepared.cannot(f"{at(path, 'type')} isn't there")
-    for name, why in unsaid(value, kind):
+    is_mixed, others = value.get(MIXED) is True, value.get("additionalProperties", False)
+    told = [(MIXED, "stands beside a type")] if is_mixed and kind is not None else []
+    told += [("type", "isn't there")] if kind is None and not is_mixed and value.get(OPEN) is not True else []
+    told += unsaid(value, kind)
+    told += [("additionalProperties", "stands beside properties")] if "properties" in value and not isinstance(others, bool) else []
+    for name, why in told:
         prepared.cannot(f"{at(path, name)} {why}")
-    if value.get("additionalProperties") is not True and "properties" in value and value.get("additionalProperties", False) is not False:
-        prepared.cannot(f"{at(path, 'additionalProperties')} stands beside properties")
 
 
 def typed(prepared, value, path):
@@ -297,3 +299,83 @@ def own_name(prepared, kind, value, path):
         prepared.leave(path, name, "holds a number that isn't whole")
         del kept[name]
     return kept
+
+
+# ---- parts that are opened: a part is open in each version that has it, so that versions stay equal in it
+
+
+def below(schema, place=()):
+    """The nodes right below a node, each with its place; without the root's three names."""
+    named = schema.get("properties", {}).items()
+    found = [((*place, name), field) for name, field in named if place or name not in OWN_NAMES]
+    return found + [((*place, step), schema[name]) for step, name in KEYS.items() if name in schema]
+
+
+def sizes(schema, place=()):
+    """How many nodes stand at each place, those inside of it too."""
+    found = {place: 1}
+    for inner, field in below(schema, place):
+        found.update(sizes(field, inner))
+        found[place] += found[inner]
+    return found
+
+
+def spelled(place):
+    return ".".join(place).replace(".[*]", "[*]")
+
+
+def places(path):
+    return tuple(it for it in path.replace("[*]", ".[*]").replace("[]", ".[*]").split(".") if it)
+
+
+def put_open(schema, place):
+    """Opens the part at a place, and tells whether there is one."""
+    for step in place:
+        within, name = (schema, KEYS[step]) if step in KEYS else (schema.get("properties") or {}, step)
+        schema = within.get(name)
+        if not isinstance(schema, dict):
+            return False
+    within[name] = opened(schema)
+    return True
+
+
+def open_named(prepared, schemas, paths):
+    for path in paths:
+        place = places(path)
+        held = [version for version, schema in schemas.items() if place and put_open(schema, place)]
+        if held:
+            prepared.put("opened", spelled(place), f"at {', '.join(held)}, as asked")
+        else:
+            prepared.cannot(f"--open {path}: no version has such a field")
+
+
+def large(prepared, schema):
+    """The part of a schema with too many nodes to be opened: the smallest that is enough, or else the largest. None where there is none.
+    A part that rules look into isn't opened, nor what stands right below the root."""
+    found = sizes(schema)
+    much = found[()] - NODES
+
+    def is_named(place):
+        return any(path[: len(place)] == place for _, path in prepared.named)
+
+    parts = [(size, place) for place, size in found.items() if len(place) > 1 and size > 2 and not is_named(place)]
+    enough = [it for it in parts if it[0] > much]
+    return min(enough)[1] if enough else max(parts)[1] if parts else None
+
+
+def open_large(prepared, schemas):
+    """Opens parts until each version has few enough nodes."""
+    for version, schema in schemas.items():
+        while sizes(schema)[()] > NODES and (place := large(prepared, schema)) is not None:
+            held = [name for name, other in schemas.items() if put_open(other, place)]
+            prepared.put("opened", spelled(place), f"at {', '.join(held)}, since {version} has more than {NODES} nodes")
+
+
+def try_sizes(prepared, schemas):
+    """Tells where a version has more nodes, or deeper ones, than kubeconv takes."""
+    for version, schema in schemas.items():
+        found = sizes(schema)
+        count, deep = found[()], max(map(len, found))
+        has = [(f"has {count} nodes", NODES)] * (count > NODES) + [(f"is nested {deep} deep", NESTING)] * (deep > NESTING)
+        for what, most in has:
+            prepared.cannot(f"the schema of {version} {what}, and kubeconv takes {most}: {MEND}")

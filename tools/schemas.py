@@ -11,41 +11,14 @@ from typing import Any, Dict, Iterator, List, Optional, Tuple
 from fault_texts import Document, Edit, alike, at, inside, list_at, shown
 from prepare_schema import CHECKS_ALONE
 from program_asks import Program, definition
+from rule_fields import HUB, ONLY, SIDES, SPOKE, Rule, Spot, kind_of, names_of
 
-SPOKE, HUB = SIDES = (0, 1)
 OF_OBJECT = ("apiVersion", "kind", "metadata")
 MIXED, OPEN = "x-kubernetes-int-or-string", "x-kubernetes-preserve-unknown-fields"
-ONLY = ("spokeOnly", "hubOnly")
 PASSED = {"description", "title", "example", "externalDocs"}
 INSIDE = {"properties", "items", "additionalProperties"}
 UNITS = (1000, 60, 3600, 1000000, 1000000000, 1024, 24, 86400, 100)
 Node = Dict[str, Any]
-Rule = Dict[str, Any]
-Spot = Tuple[int, str]
-
-
-def kind_of(rule: Any) -> str:
-    return next(iter(rule)) if isinstance(rule, dict) and len(rule) == 1 else ""
-
-
-def names_of(rule: Any) -> List[Spot]:
-    """The names of a rule with their sides, those of the spoke first; none where it isn't of its form."""
-    kind = kind_of(rule)
-    v = rule[kind] if kind else None
-    if kind in ONLY:
-        found = [(ONLY.index(kind), v)]
-    else:
-        named = [at(v, "spoke"), *list_at(v, "hub")] if kind == "split" else v if kind == "same" else at(v, "names")
-        found = list(zip((SPOKE, HUB, HUB), named)) if isinstance(named, list) else []
-    return [it for it in found if isinstance(it[1], str)]
-
-
-def with_names(rule: Rule, names: List[str]) -> Rule:
-    """A rule with other names."""
-    (kind, v), = rule.items()
-    if kind == "split":
-        return {kind: {**v, "spoke": names[0], "hub": names[1:]}}
-    return {kind: names[0] if kind in ONLY else names if kind == "same" else {**v, "names": names}}
 
 
 def is_closed(node: Any) -> bool:
@@ -161,20 +134,18 @@ def fits_loosely(program: Program, level: Level, rules: List[Rule]) -> bool:
     return fits(program, level, rules, [loosened(it) for it in level.nodes])
 
 
-def says_much(node: Node) -> bool:
-    """Whether a schema says more than a type that many fields have."""
-    inner = [it for it in (node.get("items"), node.get("additionalProperties")) if isinstance(it, dict) and "type" in it]
-    return bool(node.get("properties") or inner or len(list_at(node, "enum")) > 1)
-
-
 def same_shaped(level: Level) -> Dict[str, str]:
     """The fields that only the spoke has, each with the one that only the hub has, where these two alone have one schema that says much."""
-    names = [[it for it in level.unpaired(side) if says_much(level.node(side, it) or {})] for side in SIDES]
+
+    def says_much(node: Node) -> bool:
+        inner = [it for it in (node.get("items"), node.get("additionalProperties")) if isinstance(it, dict) and "type" in it]
+        return bool(node.get("properties") or inner or len(list_at(node, "enum")) > 1)
 
     def equal(spoke: str, hub: str) -> bool:
         nodes = level.node(SPOKE, spoke) or {}, level.node(HUB, hub) or {}
         return not any(differences(level.versions, *nodes)) and level.is_required(SPOKE, spoke) == level.is_required(HUB, hub)
 
+    names = [[it for it in level.unpaired(side) if says_much(level.node(side, it) or {})] for side in SIDES]
     pairs = [(one, two) for one in names[SPOKE] for two in names[HUB] if equal(one, two)]
     return {one: two for one, two in pairs if [it[SPOKE] for it in pairs].count(one) == [it[HUB] for it in pairs].count(two) == 1}
 
@@ -194,24 +165,28 @@ def draft(program: Program, level: Level, with_pairs: bool = False) -> List[Rule
     return rules
 
 
-def renames(rules: List[Rule], paths: Tuple[str, str] = ("", "")) -> Iterator[str]:
-    """The pairs of fields with two names, in words."""
-    for rule in rules:
-        names = [inside(path, name) for path, (_, name) in zip(paths, names_of(rule))]
-        if kind_of(rule) == "object":
-            yield from renames(rule["object"]["rules"], (names[0], names[1]))
-        elif kind_of(rule) == "same" and names_of(rule)[0][1] != names_of(rule)[1][1]:
-            yield f"`{names[0]}` and `{names[1]}`"
-
-
 def drafts(program: Program, level: Level) -> Tuple[List[Rule], List[Rule], str]:
     """Rules for a level without rules; those that keep more, or none; and what is asked of the pairs in the first ones."""
+
+    def renames(rules: List[Rule], paths: Tuple[str, str] = ("", "")) -> Iterator[str]:
+        for rule in rules:
+            names = [inside(path, name) for path, (_, name) in zip(paths, names_of(rule))]
+            if kind_of(rule) == "object":
+                yield from renames(rule["object"]["rules"], (names[0], names[1]))
+            elif kind_of(rule) == "same" and names_of(rule)[0][1] != names_of(rule)[1][1]:
+                yield f"`{names[0]}` and `{names[1]}`"
+
     first, other = draft(program, level, True), draft(program, level)
     asked = [f"{it} have the same schema: are they the same field? If not, keep both" for it in renames(first)]
     return first, (other if other != first else []), "".join(f"; {it}" for it in asked)
 
 
 # ---- what differs
+
+
+def parts(node: Node) -> Dict[str, Any]:
+    """The schemas inside of one, by the names of fields or by their keyword."""
+    return {**{it: node[it] for it in INSIDE - {"properties"} if it in node}, **(node.get("properties") or {})}
 
 
 def differences(versions: List[str], one: Node, two: Node, path: str = "") -> Iterator[str]:
@@ -221,9 +196,8 @@ def differences(versions: List[str], one: Node, two: Node, path: str = "") -> It
         if not alike(one.get(name), two.get(name)):
             first, second = (shown(it[name]) if name in it else "none" for it in (one, two))
             yield f"`{name}`{of} is {first} at {versions[0]} and {second} at {versions[1]}"
-    named = [{**{it: node.get(it) for it in INSIDE - {"properties"}}, **node.get("properties", {})} for node in (one, two)]
-    for name in sorted({*named[0], *named[1]}):
-        first, second = (it.get(name) for it in named)
+    for name in sorted({*parts(one), *parts(two)}):
+        first, second = (parts(it).get(name) for it in (one, two))
         if first and second:
             yield from differences(versions, first, second, inside(path, name))
         elif first or second:
@@ -236,8 +210,7 @@ def is_other_unit(one: Node, two: Node) -> bool:
     ends = sorted(it for it in (node.get("maximum") for node in (one, two)) if isinstance(it, int) and it > 0)
     if len(ends) == 2 and any(ends[0] * it <= ends[1] < ends[0] * it + it for it in UNITS):
         return True
-    inner = [[*node.get("properties", {}).items(), *((it, node[it]) for it in INSIDE - {"properties"} if it in node)] for node in (one, two)]
-    return any(is_other_unit(it, other) for name, it in inner[0] for like, other in inner[1] if name == like)
+    return any(is_other_unit(it, parts(two)[name]) for name, it in parts(one).items() if name in parts(two))
 
 
 def widening(crd: Document, one: Node, two: Node) -> Optional[List[Edit]]:
@@ -256,11 +229,10 @@ def widening(crd: Document, one: Node, two: Node) -> Optional[List[Edit]]:
             value = [it for it in has[0] if it in has[1]] or None
         edits += [crd.drop(it, name) for it in (one, two) if value is None and name in it]
         edits += [crd.put(it, name, value) for it in (one, two) if value is not None and not alike(it.get(name), value)]
-    inner = [{**{it: node[it] for it in INSIDE - {"properties"} if it in node}, **(node.get("properties") or {})} for node in (one, two)]
-    if sorted(inner[0]) != sorted(inner[1]):
+    if sorted(parts(one)) != sorted(parts(two)):
         return None
-    for name in sorted(inner[0]):
-        both = [it[name] for it in inner]
+    for name in sorted(parts(one)):
+        both = [parts(it)[name] for it in (one, two)]
         found = widening(crd, *both) if all(isinstance(it, dict) for it in both) else None
         if found is None and not alike(*both):
             return None

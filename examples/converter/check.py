@@ -50,16 +50,19 @@ class Converter(Listening):
     def asked(self, uid, wanted, objects):
         """The objects of a review, each looked at as an API server looks at it."""
         status, text = self.request("POST", "/convert?timeout=30s", review_of(objects, wanted, uid), Connection="close")
-        same("the code", status, 200)
         told = json.loads(text)
-        same("the kind", (told["apiVersion"], told["kind"]), ("apiextensions.k8s.io/v1", "ConversionReview"))
-        same("uid and status", (told["response"]["uid"], told["response"]["result"]["status"]), (uid, "Success"))
-        came = told["response"]["convertedObjects"]
-        same("how many", len(came), len(objects))
-        for one, other in zip(came, objects):
-            same("the version", (one["apiVersion"], one["kind"]), (f"example.com/{wanted}", other["kind"]))
-            same("metadata", fixed(one), fixed(other))
-        return came
+        response = told["response"]
+        came = status, told["apiVersion"], told["kind"], response["uid"], response["result"]["status"]
+        same("the answer", came, (200, "apiextensions.k8s.io/v1", "ConversionReview", uid, "Success"))
+        looks = [(it["apiVersion"], it["kind"], fixed(it)) for it in response["convertedObjects"]]
+        same("versions and metadata", looks, [(f"example.com/{wanted}", it["kind"], fixed(it)) for it in objects])
+        return response["convertedObjects"]
+
+    def raw(self, request):
+        """The bytes of an answer, up to the end of its connection."""
+        with Connection(self.address, 20) as peer:
+            peer.send(request)
+            return peer.rest()
 
 
 def fixed(item):
@@ -88,15 +91,16 @@ def drawn(draw, number):
 
 def ways(converter):
     """One of each way, spelled out."""
-    spec = {"dnsName": "a.example.com", "keyAlgorithm": "RSA", "keySize": 2048}
-    key = {"algorithm": "RSA", "size": 2048}
-    came = converter.asked("u1", "v1", [certificate("v1beta1", spec=spec)])
-    same("to v1", came, [certificate("v1", spec={"dnsName": "a.example.com", "privateKey": key})])
+    spec, key = {"keyAlgorithm": "RSA", "keySize": 2048}, {"algorithm": "RSA", "size": 2048}
     more = certificate("v1", spec={"privateKey": {**key, "rotationPolicy": "Always"}})
     kept = {KEPT: '{"privateKey":{"rotationPolicy":"Always"}}'}
-    came = converter.asked("u2", "v1beta1", [more])
-    same("to v1beta1", came, [certificate("v1beta1", spec={"keyAlgorithm": "RSA", "keySize": 2048}, annotations=kept)])
-    same("to its own version", converter.asked("u3", "v1", [more]), [more])
+    named = {"dnsName": "a.example.com"}
+    for wanted, given, came in (
+        ("v1", certificate("v1beta1", spec={**named, **spec}), certificate("v1", spec={**named, "privateKey": key})),
+        ("v1beta1", more, certificate("v1beta1", spec=spec, annotations=kept)),
+        ("v1", more, more),
+    ):
+        same(f"to {wanted}", converter.asked("u1", wanted, [given]), [came])
 
 
 def there_and_back(converter):
@@ -115,9 +119,8 @@ def example(converter):
 
 def forged(converter):
     """What isn't of its form keeps nothing, and goes."""
-    spec = {"keySize": 2048}
     for text in ("", "[]", "forged", '{"privateKey":3}', '{"privateKey":{"algorithm":"X","other":1}}', '{"annotation":1}'):
-        came = converter.asked("f", "v1", [certificate("v1beta1", spec=spec, annotations={KEPT: text})])
+        came = converter.asked("f", "v1", [certificate("v1beta1", spec={"keySize": 2048}, annotations={KEPT: text})])
         same(text, came, [certificate("v1", spec={"privateKey": {"size": 2048}})])
 
 
@@ -129,17 +132,10 @@ def refusals(converter):
         same("a review that fails", came, (200, "no", "Failure", False))
     for body in ("", "[]", "{}", "[" * 100_000, '{"request":3}', '{"request":{}}'):
         same(f"the code of {body:.20}", converter.request("POST", "/", body)[0], 400)
-    same("without a length", raw(converter, b"POST / HTTP/1.1\r\nHost: a\r\n\r\n")[:12], b"HTTP/1.1 411")
-    same("too long", raw(converter, b"POST / HTTP/1.1\r\nHost: a\r\nContent-Length: 16777217\r\n\r\n")[:12], b"HTTP/1.1 413")
+    same("without a length", converter.raw(b"POST / HTTP/1.1\r\nHost: a\r\n\r\n")[:12], b"HTTP/1.1 411")
+    same("too long", converter.raw(b"POST / HTTP/1.1\r\nHost: a\r\nContent-Length: 16777217\r\n\r\n")[:12], b"HTTP/1.1 413")
     same("its health", converter.request("GET", "/healthz"), (200, b"ok"))
     same("another path", converter.request("GET", "/other")[0], 404)
-
-
-def raw(converter, request):
-    """The bytes of an answer, up to the end of its connection."""
-    with Connection(converter.address, 20) as peer:
-        peer.send(request)
-        return peer.rest()
 
 
 def chunks():
@@ -148,7 +144,7 @@ def chunks():
         there_and_back(converter)
         asked = review_of([certificate("v1", spec={"dnsName": "a" * 5_000})], "v1beta1").decode()
         head = f"POST / HTTP/1.1\r\nHost: a\r\nConnection: close\r\nContent-Length: {len(asked)}\r\n\r\n"
-        head, _, body = raw(converter, (head + asked).encode()).partition(b"\r\n\r\n")
+        head, _, body = converter.raw((head + asked).encode()).partition(b"\r\n\r\n")
         same("the fields", (b"Transfer-Encoding: chunked" in head, b"Content-Length" in head), (True, False))
         same("the chunks", (body.startswith(b"800\r\n"), body.endswith(b"\r\n0\r\n\r\n")), (True, True))
 

@@ -12,30 +12,26 @@ any path is a review, and GET /healthz answers 200. With --chunked answers are s
 SIGTERM and SIGINT end it.
 """
 import argparse
-import http.server
 import itertools
 import json
-import signal
+import pathlib
 import sys
-import threading
 import time
+
+sys.path.append(str(pathlib.Path(__file__).resolve().parent.parent))
+import serving  # noqa: E402
+from serving import Answer  # noqa: E402
 
 GROUP = "example.com"
 KIND = "Certificate"
-VERSIONS = ("v1", "v1beta1")
 KEPT = "converter.example.com/v1"
 MOVED = {"algorithm": "keyAlgorithm", "size": "keySize"}  # of spec.privateKey to spec
 REVIEW = {"apiVersion": "apiextensions.k8s.io/v1", "kind": "ConversionReview"}
-MOST = 16_777_216  # bytes of a request's body
-CHUNK = 2_048  # bytes of a chunk
-SECONDS = 30  # a peer may be silent
+CHUNK, CONNECTIONS = 2_048, 512  # bytes of a chunk, and connections at once
 
 
 class Refused(Exception):
     """What can't be converted, and why."""
-
-
-# Objects from one version to the other.
 
 
 def annotated(item, text):
@@ -95,7 +91,6 @@ def to_v1(item):
 
 
 def converted(item, wanted):
-    """One object at the version that is wanted."""
     if not isinstance(item, dict) or item.get("kind") != KIND:
         raise Refused(f"kind isn't {KIND}")
     here = item.get("apiVersion")
@@ -108,7 +103,6 @@ def converted(item, wanted):
 
 
 def response(request):
-    """The response to a request of a review."""
     try:
         wanted = request.get("desiredAPIVersion")
         objects = [converted(item, wanted) for item in request.get("objects", [])]
@@ -118,66 +112,31 @@ def response(request):
     return {**REVIEW, "response": {**result, "uid": request["uid"]}}
 
 
-# The server.
-
-
-class Handler(http.server.BaseHTTPRequestHandler):
-    """Answers the requests of a connection, one after the other."""
-
-    protocol_version = "HTTP/1.1"
-    timeout = SECONDS
+class Converter(serving.Handler):
+    seconds, longest = 30, 16_777_216
+    wants_length = True
 
     def do_GET(self):
-        self.answer(*((200, b"ok") if self.path == "/healthz" else (404, b"not found")))
+        self.say(Answer(200, b"ok", "text/plain") if self.path == "/healthz" else self.refusal(404, "not found"))
 
     def do_POST(self):
-        length = self.headers.get("Content-Length", "")
-        if not length.isdecimal() or int(length) > MOST:
-            self.close_connection = True
-            return self.answer(413 if length.isdecimal() else 411, b"a length is wanted")
-        body = self.rfile.read(int(length))
-        time.sleep(self.server.slow / 1000)
-        if self.server.fail and next(self.server.numbers) % self.server.fail == 0:
-            return self.answer(500, b"told to fail")
+        self.serve()
+
+    def answered(self, body):
+        asked = self.server.asked
+        time.sleep(asked.slow / 1000)
+        if asked.fail and next(self.server.numbers) % asked.fail == 0:
+            return self.refusal(500, "told to fail")
         try:
-            request = json.loads(body)["request"]
-            text = json.dumps(response(request)).encode()
+            return Answer(200, json.dumps(response(json.loads(body)["request"])).encode())
         except (ValueError, KeyError, TypeError, AttributeError, RecursionError) as wrong:
-            return self.answer(400, f"no review: {type(wrong).__name__}".encode())
-        return self.answer(200, text, "application/json")
+            return self.refusal(400, f"no review: {type(wrong).__name__}")
 
-    def answer(self, code, body, kind="text/plain"):
-        self.send_response(code)
-        self.send_header("Content-Type", kind)
-        if self.server.chunked:
-            self.send_header("Transfer-Encoding", "chunked")
-        else:
-            self.send_header("Content-Length", str(len(body)))
-        if self.close_connection:
-            self.send_header("Connection", "close")
-        self.end_headers()
-        self.wfile.write(in_chunks(body) if self.server.chunked else body)
-
-    def log_message(self, *_words):
-        pass
-
-
-def in_chunks(body):
-    pieces = (body[begin : begin + CHUNK] for begin in range(0, len(body), CHUNK))
-    return b"".join(b"%x\r\n%b\r\n" % (len(piece), piece) for piece in pieces) + b"0\r\n\r\n"
-
-
-class Server(http.server.ThreadingHTTPServer):
-    """A thread for each connection."""
-
-    daemon_threads = True
-    request_queue_size = 128
-
-    def __init__(self, words):
-        super().__init__((words.address, words.port), Handler)
-        self.slow, self.fail, self.chunked = words.slow, words.fail, words.chunked
-        self.numbers = itertools.count(1)
-
+    def framed(self, body):
+        if not self.server.asked.chunked:
+            return super().framed(body)
+        pieces = [body[begin : begin + CHUNK] for begin in range(0, len(body), CHUNK)]
+        return "Transfer-Encoding: chunked", b"".join(b"%x\r\n%b\r\n" % (len(it), it) for it in [*pieces, b""])
 
 def at_least(least):
     def number(text):
@@ -188,24 +147,18 @@ def at_least(least):
     return number
 
 
-def words():
+def main():
     parser = argparse.ArgumentParser(description=__doc__, formatter_class=argparse.RawDescriptionHelpFormatter)
     parser.add_argument("--address", default="127.0.0.1")
     parser.add_argument("--chunked", action="store_true")
     parser.add_argument("--slow", type=at_least(0), default=0, metavar="MS")
     parser.add_argument("--fail", type=at_least(1), default=0, metavar="EVERY")
     parser.add_argument("port", type=at_least(0), metavar="PORT")
-    return parser.parse_args()
-
-
-def main():
-    with Server(words()) as server:
-        host, port = server.server_address[:2]
-        print(f"listening on http://{host}:{port}", flush=True)
-        for name in (signal.SIGTERM, signal.SIGINT):
-            signal.signal(name, lambda *_: threading.Thread(target=server.shutdown).start())
-        server.serve_forever()
+    asked = parser.parse_args()
+    server = serving.Server((asked.address, asked.port), Converter, CONNECTIONS)
+    server.asked, server.numbers = asked, itertools.count(1)
+    server.run("http://")
 
 
 if __name__ == "__main__":
-    sys.exit(main())
+    main()

@@ -1,38 +1,82 @@
 """What each request is answered: documents of the front's own, made of what `serve` tells, or what `serve` answers."""
 
 import json
+import random
 import re
 import threading
+import time
 
-import discovery
 import openapi
-import protobuf
-import selecting
+import patches
 import tables
 from backend import Reply
-from discovery import DEFINITIONS, MIGRATIONS
-from places import PAGING, VERSIONS, place_of
-from statuses import Refused, bad_request, no_method, written
-from writes import written_at
+from places import DEFINITIONS, MIGRATIONS, PAGING, VERSIONS, place_of, selected
+from serving import Answer
+from statuses import Refused, read, written
 
-HEALTH = ("livez", "readyz", "healthz")
 NAMESPACE = re.compile(r"[a-z0-9](?:[a-z0-9-]{0,61}[a-z0-9])?")
 PAGE = 500
+# The release of Kubernetes whose API this is. kubectl warns of a server that is more than one release away.
+MAJOR, MINOR = "1", "32"
+MERGE, OPERATIONS = "application/merge-patch+json", "application/json-patch+json"
+# Bodies that `serve` would take for JSON that is wrong.
+NO_JSON = ("application/yaml", "application/vnd.kubernetes.protobuf", "application/cbor")
+# A patch is tried again behind a Conflict so often, and behind pauses of up to so many seconds.
+MOST_TRIES, LONGEST_PAUSE = 30, 0.05
 
 
-class Answer:
-    """The answer to a request."""
-
-    def __init__(self, code, body, media="application/json", headers=()):
-        self.code = code
-        self.body = body
-        self.media = media
-        self.headers = list(headers)
+def no_method(message):
+    return Refused(405, message)
 
 
-def refusal(refused):
-    """The answer that refuses a request."""
-    return Answer(refused.code, written(refused.document()))
+def unsupported(*taken):
+    return Refused(415, "the body of the request was in an unknown format - accepted media types include: " + ", ".join(taken))
+
+
+# ---- which groups, versions and resources there are, and which server this is
+
+
+def version():
+    """What `kubectl version` shows of the server."""
+    unsaid = dict.fromkeys(("gitCommit", "gitTreeState", "goVersion", "compiler", "platform"), "")
+    return {"major": MAJOR, "minor": MINOR, "gitVersion": f"v{MAJOR}.{MINOR}.0+kubeconv", "buildDate": "1970-01-01T00:00:00Z", **unsaid}
+
+
+def group(name, version):
+    told = {"groupVersion": f"{name}/{version}", "version": version}
+    return {"apiVersion": "v1", "kind": "APIGroup", "name": name, "versions": [told], "preferredVersion": told}
+
+
+def resource(name, kind, namespaced, verbs, singular="", **more):
+    return {"name": name, "singularName": singular, "namespaced": namespaced, "kind": kind, "verbs": verbs.split(), **more}
+
+
+def resources(group_version, *found):
+    return {"apiVersion": "v1", "kind": "APIResourceList", "groupVersion": group_version, "resources": found}
+
+
+OF_CORE = resources(
+    "v1", resource("namespaces", "Namespace", False, "get list", "namespace", shortNames=["ns"]),
+    resource("events", "Event", True, "list", "event", shortNames=["ev"]),
+)  # fmt: skip
+DEFINITION = "CustomResourceDefinition"
+OF_DEFINITIONS = resources(
+    "/".join(DEFINITIONS[:2]),
+    resource(DEFINITIONS[2], DEFINITION, False, "get list patch update", DEFINITION.lower(), shortNames=["crd", "crds"]),
+    resource(f"{DEFINITIONS[2]}/status", DEFINITION, False, "get patch update"),
+)
+OF_MIGRATIONS = resources(
+    "/".join(MIGRATIONS[:2]), resource(MIGRATIONS[2], "StorageVersionMigration", False, "create get list", "storageversionmigration")
+)
+
+
+def object_resources(spec, version):
+    """The resource that the definition defines, at one of its versions."""
+    names = spec["names"]
+    more = {name: names[name] for name in ("shortNames", "categories") if names.get(name)}
+    singular = names.get("singular") or names["kind"].lower()
+    found = resource(names["plural"], names["kind"], True, "create delete get list patch update", singular, **more)
+    return resources(f"{spec['group']}/{version}", found)
 
 
 def listed(api_version, kind, items):
@@ -45,18 +89,12 @@ class Front:
 
     def __init__(self, definition, backend):
         spec = definition["spec"]
-        self.group = spec["group"]
-        self.plural = spec["names"]["plural"]
+        self.group, self.plural, self.backend = spec["group"], spec["names"]["plural"], backend
         self.columns = {version["name"]: version.get("additionalPrinterColumns") for version in spec["versions"]}
-        self.backend = backend
+        self.definition_path = f"/apis/{'/'.join(DEFINITIONS)}/{self.plural}.{self.group}"
         self.patching = [threading.Lock() for _ in range(64)]
 
-    def definition_path(self):
-        """Where `serve` has the definition."""
-        return f"/apis/{'/'.join(DEFINITIONS)}/{self.plural}.{self.group}"
-
     def answer(self, request):
-        """The answer to a request."""
         if request.segments == ("livez",):
             return Answer(200, b"ok", "text/plain")
         with self.backend.asker() as asker:
@@ -68,49 +106,43 @@ class Turn:
     """One request, with what asks `serve` for it."""
 
     def __init__(self, front, asker, request):
-        self.front = front
-        self.asker = asker
-        self.request = request
+        self.front, self.asker, self.request = front, asker, request
+        self.is_read = request.method in ("GET", "HEAD")
 
     def ask(self, path):
         """What `serve` tells at a path; refused where it tells nothing."""
         reply = self.asker.ask("GET", path)
         if reply.code != 200:
-            raise Refused(503, "ServiceUnavailable", f"kubeconv serve answered {reply.code} at {path}")
+            raise Refused(503, f"kubeconv serve answered {reply.code} at {path}")
         return reply.document()
 
     def definition(self):
-        """The definition that is served."""
-        return self.ask(self.front.definition_path())
+        return self.ask(self.front.definition_path)
 
     def served(self):
         """The group of the definition, with its served versions."""
         return self.ask(f"/apis/{self.front.group}")
 
+    def served_versions(self):
+        return [version["version"] for version in self.served()["versions"]]
+
+    # ---- the front's own
+
     def own(self):
         """The answer at a path of the front's own, or None at any other."""
         names = self.request.segments
         names = names[:-1] if names[-1:] == ("",) else names
-        if names[:1] not in (("api",), ("apis",), ("version",), ("openapi",)) and names not in tuple((name,) for name in HEALTH):
-            return None
-        made = self.core(names[2:]) if names[:2] == ("api", "v1") else self.of_names(names)
+        if names in (("readyz",), ("healthz",)):
+            return self.health()
+        made = {("version",): version(), ("api",): {"kind": "APIVersions", "versions": ["v1"], "serverAddressByClientCIDRs": []}}.get(names)
+        looks = {"apis": self.groups, "openapi": self.openapi, "api": lambda names: self.core(names[1:]) if names[:1] == ("v1",) else None}
+        if made is None and names[:1] and names[0] in looks:
+            made = looks[names[0]](names[1:])
         if made is None or isinstance(made, Answer):
             return made
-        if self.request.method not in ("GET", "HEAD"):
+        if not self.is_read:
             raise no_method(f"{self.request.method} isn't served at this path")
         return Answer(200, written(made))
-
-    def of_names(self, names):
-        """The document, or the answer, at a path that isn't of the core group."""
-        if names[:1] == ("openapi",):
-            return self.openapi(names[1:])
-        if names[:1] == ("apis",):
-            return self.groups(names[1:])
-        if names[0] in HEALTH:
-            return self.health()
-        if names == ("version",):
-            return discovery.version()
-        return discovery.api_versions() if names == ("api",) else None
 
     def health(self):
         """Whether `serve` answers."""
@@ -122,48 +154,35 @@ class Turn:
 
     def groups(self, names):
         """What stands at /apis and below, as far as it isn't a resource."""
+        own = {(it[0],): group(*it[:2]) for it in (DEFINITIONS, MIGRATIONS)}
         if not names:
-            return discovery.groups(self.served())
-        if len(names) > 2:
-            return None
-        for own, (group, version, _) in zip(discovery.own_groups(), (DEFINITIONS, MIGRATIONS)):
-            if names == (group,):
-                return own
-            if names == (group, version):
-                return discovery.definition_resources() if group == DEFINITIONS[0] else discovery.migration_resources()
-        if len(names) == 2 and names[0] == self.front.group:
-            if names[1] in [version["version"] for version in self.served()["versions"]]:
-                return discovery.object_resources(self.definition()["spec"], names[1])
-        return None
+            return {"apiVersion": "v1", "kind": "APIGroupList", "groups": [self.served(), *own.values()]}
+        if len(names) == 2 and names[0] == self.front.group and names[1] in self.served_versions():
+            return object_resources(self.definition()["spec"], names[1])
+        return {**own, DEFINITIONS[:2]: OF_DEFINITIONS, MIGRATIONS[:2]: OF_MIGRATIONS}.get(names)
 
     def openapi(self, names):
-        """The OpenAPI documents."""
-        spec = self.definition()["spec"]
-        served = [version["version"] for version in self.served()["versions"]]
+        spec, served = self.definition()["spec"], self.served_versions()
         spec["versions"] = [version for version in spec["versions"] if version["name"] in served]
-        if names == ("v2",) and any(media in self.request.accept for media in (protobuf.ASKED, protobuf.MEDIA)):
-            return Answer(200, protobuf.document(openapi.document_v2(spec)), protobuf.MEDIA)
+        if names == ("v2",) and any(media in self.request.accept for media in (openapi.ASKED, openapi.MEDIA)):
+            return Answer(200, openapi.encoded(openapi.document_v2(spec)), openapi.MEDIA)
         kinds = [kind.split(";")[0].strip() for kind in self.request.accept.split(",")]
         if not {"", "*/*", "application/*", "application/json"} & set(kinds):
-            raise Refused(406, "NotAcceptable", "only application/json is served here")
-        if names == ("v2",):
-            return openapi.document_v2(spec)
-        if names == ("v3",):
-            return openapi.index(spec)
-        if names[:2] == ("v3", "apis") and len(names) == 4:
-            return openapi.document_v3(spec, *names[2:])
-        return openapi.document_v3(spec, "", "v1") if names == ("v3", "api", "v1") else None
+            raise Refused(406, "only application/json is served here")
+        if names[:2] in (("v3", "apis"), ("v3", "api")) and len(names) == {"apis": 4, "api": 3}[names[1]]:
+            return openapi.document_v3(spec, *(names[2:] if names[1] == "apis" else ("", *names[2:])))
+        return openapi.document_v2(spec) if names == ("v2",) else openapi.index(spec) if names == ("v3",) else None
 
     def core(self, names):
         """The document, or the answer, at /api/v1 and below: namespaces and events."""
         if not names:
-            return discovery.core_resources()
+            return OF_CORE
         if names[-1] == "events" and (len(names) == 1 or len(names) == 3 and names[0] == "namespaces"):
             self.refuse_unserved()
             return self.shown(listed("v1", "EventList", []), tables.OF_EVENTS)
         if names[0] != "namespaces" or len(names) > 2:
             return None
-        if self.request.method not in ("GET", "HEAD"):
+        if not self.is_read:
             raise no_method("namespaces are always there, and aren't created, changed or deleted")
         self.refuse_unserved()
         if len(names) == 2:
@@ -174,13 +193,13 @@ class Turn:
     def namespace(self, name):
         """A namespace. Each that has a valid name is there."""
         if not NAMESPACE.fullmatch(name):
-            raise Refused(404, "NotFound", f'namespaces "{name}" not found', {"kind": "namespaces", "name": name})
+            raise Refused(404, f'namespaces "{name}" not found', kind="namespaces", name=name)
         metadata = {"name": name, "labels": {"kubernetes.io/metadata.name": name}}
         return {"apiVersion": "v1", "kind": "Namespace", "metadata": metadata, "spec": {}, "status": {"phase": "Active"}}
 
     def namespaces(self):
         """The namespaces that a list shows: `default`, and those in which objects stand."""
-        version, found, more = self.served()["versions"][0]["version"], {"default"}, ""
+        version, found, more = self.served_versions()[0], {"default"}, ""
         while True:
             page = self.ask(f"/apis/{self.front.group}/{version}/{self.front.plural}?limit={PAGE}{more}")
             found.update(item["metadata"]["namespace"] for item in page["items"])
@@ -188,26 +207,23 @@ class Turn:
                 return found
             more = f"&continue={page['metadata']['continue']}"
 
+    # ---- what `serve` answers
+
     def refuse_unserved(self):
         """Refuses what neither the front nor `serve` can do."""
         if self.request.is_on("watch"):
             raise no_method("watch isn't served; ask for the list again")
         if self.request.asked("dryRun"):
-            raise bad_request("a dry run isn't served")
+            raise Refused(400, "a dry run isn't served")
 
     def of_serve(self):
-        """What `serve` answers."""
-        request, front = self.request, self.front
         self.refuse_unserved()
-        place = place_of(request.segments, front.group, front.plural)
-        if request.method in ("POST", "PUT", "PATCH", "DELETE"):
-            reply, warnings = written_at(self, place)
-        else:
-            reply, warnings = self.reading(place), []
+        place = place_of(self.request.segments, self.front.group, self.front.plural)
+        is_write = self.request.method in ("POST", "PUT", "PATCH", "DELETE")
+        reply, warnings = self.writing(place) if is_write else (self.reading(place), [])
         if reply.code == 405:
-            raise no_method(f"{request.method} isn't served at this path")
-        headers = [("Warning", f"299 - {json.dumps(text)}") for text in warnings]
-        return Answer(reply.code, reply.body, "application/json", headers)
+            raise no_method(f"{self.request.method} isn't served at this path")
+        return Answer(reply.code, reply.body, headers=[("Warning", f"299 - {json.dumps(text)}") for text in warnings])
 
     def reading(self, place):
         """The reply to a request that only reads, with what the front makes of it."""
@@ -232,21 +248,17 @@ class Turn:
         least, now = self.request.least(), document["metadata"].get("resourceVersion") or "0"
         if least > int(now):
             causes = [{"reason": "ResourceVersionTooLarge", "message": "Too large resource version"}]
-            raise Refused(504, "Timeout", f"Too large resource version: {least}, current: {now}", {"causes": causes})
+            raise Refused(504, f"Too large resource version: {least}, current: {now}", causes=causes)
 
     def selected(self, document):
         """A list with the items that the request selects. A page may then be shorter than its limit, or empty, while others follow."""
-        labels, fields = self.request.asked("labelSelector"), self.request.asked("fieldSelector")
-        return selecting.selected(document, labels, fields)
+        return selected(document, self.request.asked("labelSelector"), self.request.asked("fieldSelector"))
 
     def shown(self, document, columns):
         """A document, or its table where the client asks for one."""
-        if not self.request.wants_table():
-            return document
-        return tables.table(document, columns, self.request.asked("includeObject"))
+        return tables.table(document, columns, self.request.asked("includeObject")) if self.request.wants_table() else document
 
     def columns(self, place):
-        """The columns of a table."""
         if place.of() in (DEFINITIONS, MIGRATIONS):
             return tables.OF_DEFINITIONS if place.of() == DEFINITIONS else tables.OF_MIGRATIONS
         found = self.front.columns.get(place.version) or self.version(place).get("additionalPrinterColumns")
@@ -254,11 +266,66 @@ class Turn:
 
     def version(self, place):
         """What the served definition says of the place's version."""
-        versions = self.definition()["spec"]["versions"]
-        return next((version for version in versions if version["name"] == place.version), {})
+        return next((version for version in self.definition()["spec"]["versions"] if version["name"] == place.version), {})
 
-    def schema(self, place):
-        """The schema of the place's objects."""
-        if place.of() in (DEFINITIONS, MIGRATIONS):
-            return openapi.definition_schema() if place.of() == DEFINITIONS else openapi.migration_schema()
-        return self.version(place).get("schema", {}).get("openAPIV3Schema", {"x-kubernetes-preserve-unknown-fields": True})
+    # ---- requests that write
+
+    def writing(self, place):
+        """What `serve` answers to a request that writes, and the warnings that go with it."""
+        request, warnings = self.request, []
+        if request.method == "PATCH":
+            return self.patching(place)
+        if place is not None and request.media in NO_JSON:
+            raise unsupported("application/json")
+        if request.method != "DELETE" and place is not None and request.asked("fieldValidation") not in ("", "Ignore"):
+            repeated = []
+            warnings = self.judged(place, read(request.body, repeated), repeated)
+        return self.asker.ask(request.method, request.target(), request.body), warnings
+
+    def judged(self, place, document, repeated):
+        """The warnings of what the request's fieldValidation looks for, or it is refused."""
+        directive = self.request.asked("fieldValidation")
+        if directive in ("", "Ignore"):
+            return []
+        schema = {DEFINITIONS: openapi.DEFINITION, MIGRATIONS: openapi.MIGRATION}.get(place.of())
+        open_schema = {"x-kubernetes-preserve-unknown-fields": True}
+        schema = schema or self.version(place).get("schema", {}).get("openAPIV3Schema", open_schema)
+        return patches.judged(document, schema, repeated, directive, place.version)
+
+    def patching(self, place):
+        """What `serve` answers to a patch, which is a GET and a PUT with the number that was read."""
+        if place is None:
+            raise Refused(404, "the server could not find the requested resource")
+        if not place.name:
+            raise no_method("PATCH isn't served at this path")
+        if self.request.media not in (MERGE, OPERATIONS):
+            raise unsupported(OPERATIONS, MERGE)
+        repeated = []
+        patch = read(self.request.body, repeated)
+        if self.request.media == OPERATIONS:
+            patches.check_operations(patch)
+        elif not isinstance(patch, dict):
+            raise Refused(400, "a merge patch is an object")
+        # Patches of one object wait for each other here, so that few meet a Conflict. The definition has no number to tell one by.
+        with self.front.patching[hash(place._replace(version="", part="")) % len(self.front.patching)]:
+            for number in range(MOST_TRIES):
+                reply, warnings = self.patched(place, patch, repeated)
+                is_conflict = reply.code == 409 and reply.document().get("reason") == "Conflict"
+                if not is_conflict or patches.names_version(patch):
+                    break
+                time.sleep(random.uniform(0, min(LONGEST_PAUSE, 0.001 * 2**number)))
+        return reply, warnings
+
+    def patched(self, place, patch, repeated):
+        """What one GET and one PUT come to."""
+        path = self.request.path.removesuffix("/status") if place.part else self.request.path
+        reply = self.asker.ask("GET", path)
+        if reply.code != 200:
+            return reply, []
+        old = reply.document()
+        new = patches.operated(old, patch) if isinstance(patch, list) else patches.merged(old, patch)
+        if not isinstance(new, dict):
+            raise Refused(400, "the patch leaves no object")
+        patches.hold(old, new)
+        warnings = self.judged(place, new, repeated)
+        return self.asker.ask("PUT", self.request.path, written(new)), warnings

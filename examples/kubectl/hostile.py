@@ -12,34 +12,77 @@ import sys
 import threading
 import time
 
-import patches
-import selecting
-import statuses
-import tables
-from rows import AGES, MERGES, SELECTORS, STEPS
 from running import HERE, Running, certificate
 from harness.client import Connection, Gone, address_of
 from harness.server import at_once
 from harness.told import check, end
+import patches
+import places
+import statuses
+import tables
 
 LIST = "/apis/example.com/v1/namespaces/default/crontabs"
 MERGE, OPERATIONS = "application/merge-patch+json", "application/json-patch+json"
 CLIENTS, EDITS = 8, 20
 MIB = 1 << 20
+# The rows of RFC 7386, appendix A: a value, a patch, and what it makes.
+MERGES = [
+    ({"a": "b"}, {"a": "c"}, {"a": "c"}), ({"a": "b"}, {"b": "c"}, {"a": "b", "b": "c"}), ({"a": "b"}, {"a": None}, {}),
+    ({"a": "b", "b": "c"}, {"a": None}, {"b": "c"}), ({"a": ["b"]}, {"a": "c"}, {"a": "c"}), ({"a": "c"}, {"a": ["b"]}, {"a": ["b"]}),
+    ({"a": {"b": "c"}}, {"a": {"b": "d", "c": None}}, {"a": {"b": "d"}}), ({"a": [{"b": "c"}]}, {"a": [1]}, {"a": [1]}),
+    (["a", "b"], ["c", "d"], ["c", "d"]), ({"a": "b"}, ["c"], ["c"]), ({"a": "foo"}, None, None), ({"a": "foo"}, "bar", "bar"),
+    ({"e": None}, {"a": 1}, {"e": None, "a": 1}), ([1, 2], {"a": "b", "c": None}, {"a": "b"}),
+    ({}, {"a": {"bb": {"ccc": None}}}, {"a": {"bb": {}}}),
+]  # fmt: skip
+# Rows of RFC 6902, appendix A, and beside them: a value, an operation, and what it makes, or None where it is refused.
+STEPS = [
+    ({"foo": "bar"}, ("add", "/baz", "qux"), {"baz": "qux", "foo": "bar"}),
+    ({"foo": ["bar", "baz"]}, ("add", "/foo/1", "qux"), {"foo": ["bar", "qux", "baz"]}),
+    ({"baz": "qux", "foo": "bar"}, ("remove", "/baz"), {"foo": "bar"}),
+    ({"foo": ["bar", "qux", "baz"]}, ("remove", "/foo/1"), {"foo": ["bar", "baz"]}),
+    ({"baz": "qux", "foo": "bar"}, ("replace", "/baz", "boo"), {"baz": "boo", "foo": "bar"}),
+    ({"a": {"w": "f"}, "q": {"c": "g"}}, ("move", "/q/t", "/a/w"), {"a": {}, "q": {"c": "g", "t": "f"}}),
+    ({"foo": ["all", "grass", "cows", "eat"]}, ("move", "/foo/3", "/foo/1"), {"foo": ["all", "cows", "eat", "grass"]}),
+    ({"baz": "qux", "foo": ["a", 2, "c"]}, ("test", "/foo/1", 2), {"baz": "qux", "foo": ["a", 2, "c"]}),
+    ({"baz": "qux"}, ("test", "/baz", "bar"), None),
+    ({"foo": "bar"}, ("add", "/child", {"grandchild": {}}), {"foo": "bar", "child": {"grandchild": {}}}),
+    ({"foo": "bar"}, ("add", "/baz/bat", "qux"), None),
+    ({"/": 9, "~1": 10}, ("test", "/~01", 10), {"/": 9, "~1": 10}),
+    ({"/": 9, "~1": 10}, ("test", "/~01", "10"), None),
+    ({"foo": ["bar"]}, ("add", "/foo/-", ["abc", "def"]), {"foo": ["bar", ["abc", "def"]]}),
+    ({"foo": ["bar"]}, ("add", "/foo/2", 1), None), ({"foo": ["bar"]}, ("add", "/foo/01", 1), None),
+    ({"foo": ["bar"]}, ("remove", "/foo/-"), None), ({"foo": ["bar"]}, ("remove", "/foo/-1"), None),
+    ({"foo": 1}, ("test", "/foo", True), None), ({"foo": [0]}, ("test", "/foo", [False]), None),
+    ({"foo": 1}, ("replace", "/bar", 1), None), ({"foo": {"a": 1}}, ("move", "/foo/b", "/foo"), None),
+    ({"foo": {"a": 1}}, ("copy", "/foo/b", "/foo"), {"foo": {"a": 1, "b": {"a": 1}}}), ({"a": 1}, ("replace", "", {"b": 2}), {"b": 2}),
+    ({"a": 1}, ("remove", ""), None), ({"a": 1}, ("grow", "/a"), None), ({"a": 1}, ("add", "a", 1), None),
+    ({"a": 1}, ("add", "/b"), None),
+]  # fmt: skip
+# Labels, a selector, and whether it takes them.
+SELECTORS = [
+    ({"a": "1"}, "a=1", True), ({"a": "1"}, "a==2", False), ({}, "a!=1", True), ({"a": "1"}, "a in (1,2),a", True),
+    ({}, "a in ()", False), ({"a": ""}, "a in ()", True), ({}, "a notin (1)", True), ({"a": "1"}, "a notin (1, 2)", False),
+    ({"a": "1"}, "!a", False),
+    ({"x.io/a": "1"}, "x.io/a = 1", True), ({"a": "1"}, "a=1,", None), ({"a": "1"}, "a>1", None), ({"a": "1"}, "a in (1", None),
+    ({"a": "1"}, "=1", None), ({"a": "1"}, "a=b c", None),
+]  # fmt: skip
+# Seconds, and how kubectl writes them.
+AGES = [
+    (-5, "<invalid>"), (-1, "0s"), (119, "119s"), (120, "2m"), (185, "3m5s"), (600, "10m"), (10799, "179m"), (10800, "3h"), (11100, "3h5m"),
+    (28800, "8h"), (172799, "47h"), (172800, "2d"), (176400, "2d1h"), (691200, "8d"), (63072000, "2y"), (63158400, "2y1d"),
+    (252288000, "8y"),
+]  # fmt: skip
 
 
 class Client:
-    """One connection to a front."""
-
     def __init__(self, address):
         self.address = address_of(address)
         self.connection = http.client.HTTPConnection(*self.address, timeout=90)
 
     def ask(self, method, path, body=None, media="application/json", **headers):
         """The code of an answer, and its document, which is its text where it isn't JSON."""
-        told = {name.replace("_", "-"): value for name, value in headers.items()}
         data = body if body is None or isinstance(body, bytes) else json.dumps(body).encode()
-        self.connection.request(method, path, data, {"Content-Type": media, **told})
+        self.connection.request(method, path, data, {"Content-Type": media, **headers})
         response = self.connection.getresponse()
         text = response.read()
         try:
@@ -57,8 +100,12 @@ class Client:
             return str(error).encode()
 
 
+def tell(heading, held, why=""):
+    check(held, heading + ("" if held else f"\n{why}"))
+
+
 class Cases:
-    """The cases, and how many failed."""
+    """The programs, and a client of the front."""
 
     def __init__(self, program):
         self.running = Running(program)
@@ -66,58 +113,46 @@ class Cases:
         self.address = self.running.front()
         self.client = Client(self.address)
 
-    @staticmethod
-    def tell(heading, held, why=""):
-        """Prints the line of a case."""
-        check(held, heading + ("" if held else f"\n{why}"))
-
     def case(self, heading, code, *request, says="", **headers):
         """A request that is to be answered by a code, with a Status document where it is refused."""
         found, document = self.client.ask(*request, **headers)
         status = code < 400 or isinstance(document, dict) and (document.get("kind"), document.get("code")) == ("Status", code)
-        self.tell(heading, found == code and status and says in str(document), f"{found} {document}")
+        tell(heading, found == code and status and says in str(document), f"{found} {document}")
 
     def raw(self, heading, code, data):
         """Bytes that are to be answered by one code, after which the connection ends; what is refused, by a Status document."""
-        found = self.client.raw(data)
+        found = self.client.raw(data if isinstance(data, bytes) else data.encode())
         held = found.startswith(b"HTTP/1.1 %d " % code) and (code < 400 or b'"kind":"Status"' in found)
-        self.tell(heading, held, str(found[:400]))
+        tell(heading, held, str(found[:400]))
 
 
 def crontab(name, **fields):
-    """A CronTab at the hub version."""
     return {"apiVersion": "example.com/v1", "kind": "CronTab", "metadata": {"name": name}, **fields}
 
 
-def refused(made, *given):
-    """What a function makes, or None where it refuses."""
-    try:
-        return made(*given)
-    except statuses.Refused:
-        return None
-
-
-def selects(labels, selector):
-    """Whether a selector takes an object with these labels."""
-    return selecting.by_labels(selector)({"metadata": {"labels": labels}})
-
-
 def operation(verb, path, *more):
-    """An operation of a JSON patch."""
     name = "from" if verb in ("move", "copy") else "value"
     return {"op": verb, "path": path, **({name: more[0]} if more else {})}
 
 
-def parts(cases):
+def parts(_cases):
     """Patches, selectors and ages by themselves."""
-    wrong = [row for row in MERGES if patches.merged(row[0], row[1]) != row[2]]
-    cases.tell(f"{len(MERGES)} merge patches", not wrong, str(wrong))
-    wrong = [row for row in STEPS if refused(patches.operated, row[0], [operation(*row[1])]) != row[2]]
-    cases.tell(f"{len(STEPS)} operations of JSON patches", not wrong, str(wrong))
-    wrong = [row for row in SELECTORS if refused(selects, *row[:2]) is not row[2]]
-    cases.tell(f"{len(SELECTORS)} label selectors", not wrong, str(wrong))
-    wrong = [row for row in AGES if tables.spelled(row[0]) != row[1]]
-    cases.tell(f"{len(AGES)} ages", not wrong, str(wrong))
+
+    def came(made, *given):
+        """What a function makes, or None where it refuses."""
+        try:
+            return made(*given)
+        except statuses.Refused:
+            return None
+
+    for what, rows, made in (
+        ("merge patches", MERGES, patches.merged),
+        ("operations of JSON patches", STEPS, lambda value, step: patches.operated(value, [operation(*step)])),
+        ("label selectors", SELECTORS, lambda labels, selector: places.by_labels(selector)({"metadata": {"labels": labels}})),
+        ("ages", AGES, tables.spelled),
+    ):
+        wrong = [row for row in rows if came(made, *row[:-1]) != row[-1]]
+        tell(f"{len(rows)} {what}", not wrong, str(wrong))
 
 
 def bodies(cases):
@@ -149,36 +184,37 @@ def bodies(cases):
 
 def heads(cases):
     """Heads that say two things, or nothing."""
-    post = f"POST {LIST} HTTP/1.1\r\n".encode()
-    body = json.dumps(crontab("chunks")).encode()
-    one = post + b"Transfer-Encoding: chunked\r\nConnection: close\r\n\r\n"
-    pieces = b"".join(b"%x;a=b\r\n%c\r\n" % (1, byte) for byte in body)
-    cases.raw("a body in chunks of one byte, with a trailer", 201, one + pieces + b"0\r\nA: b\r\n\r\n")
+    post = f"POST {LIST} HTTP/1.1\r\n"
+    one = post + "Transfer-Encoding: chunked\r\nConnection: close\r\n\r\n"
+    pieces = "".join(f"1;a=b\r\n{it}\r\n" for it in json.dumps(crontab("chunks")))
+    cases.raw("a body in chunks of one byte, with a trailer", 201, one + pieces + "0\r\nA: b\r\n\r\n")
     for size in (b"", b"x", b"-1", b"0x1", b"1" * 20):
-        cases.raw(f"a chunk of length {size!r}", 400, one + size + b"\r\nx\r\n0\r\n\r\n")
-    cases.raw("a chunk that is longer than it says", 400, one + b"1\r\nxx\r\n0\r\n\r\n")
-    cases.raw("a line between chunks without end", 400, one + b"1" * 10_000)
-    cases.raw("trailers without end", 400, one + b"0\r\n" + b"A: b\r\n" * 200)
-    cases.raw("two lengths", 400, post + b"Content-Length: 2\r\nContent-Length: 3\r\n\r\n{}")
-    cases.raw("a length and chunks", 400, post + b"Content-Length: 2\r\nTransfer-Encoding: chunked\r\n\r\n0\r\n\r\n")
-    cases.raw("another coding", 400, post + b"Transfer-Encoding: gzip, chunked\r\n\r\n0\r\n\r\n")
-    cases.raw("a length that is no number", 400, post + b"Content-Length: +2\r\n\r\n{}")
-    cases.raw("a space behind a field's name", 400, post + b"Transfer-Encoding : chunked\r\n\r\n0\r\n\r\n")
-    cases.raw("a line that is no field", 400, post + b"hello\r\nContent-Length: 2\r\n\r\n{}")
-    cases.raw("a field that goes on", 400, post + b" hello: a\r\nContent-Length: 2\r\n\r\n{}")
-    cases.raw("no request", 400, b"hello\r\n\r\n")
-    cases.raw("a method that is none", 405, b"BREW / HTTP/1.1\r\n\r\n")
-    cases.raw("a field without end", 431, b"GET / HTTP/1.1\r\nA: " + b"a" * 70_000 + b"\r\n\r\n")
-    cases.raw("200 fields", 431, b"GET / HTTP/1.1\r\n" + b"A: a\r\n" * 200 + b"\r\n")
-    cases.raw("a path without end", 414, b"GET /" + b"a" * 70_000 + b" HTTP/1.1\r\n\r\n")
-    cases.raw("a path of bytes that are no text", 400, b"GET /apis/\xc3\x28 HTTP/1.1\r\nConnection: close\r\n\r\n")
-    get = f"GET {LIST}/a HTTP/1.1\r\n".encode()
-    found = cases.client.raw((get + b"\r\n") * 9 + get + b"Connection: close\r\n\r\n")
-    cases.tell("ten requests at once", found.count(b"HTTP/1.1 200 OK") == 10, str(found[:300]))
+        cases.raw(f"a chunk of length {size!r}", 400, one.encode() + size + b"\r\nx\r\n0\r\n\r\n")
+    for heading, code, data in (
+        ("a chunk that is longer than it says", 400, one + "1\r\nxx\r\n0\r\n\r\n"),
+        ("a line between chunks without end", 400, one + "1" * 10_000),
+        ("trailers without end", 400, one + "0\r\n" + "A: b\r\n" * 200),
+        ("two lengths", 400, post + "Content-Length: 2\r\nContent-Length: 3\r\n\r\n{}"),
+        ("a length and chunks", 400, post + "Content-Length: 2\r\nTransfer-Encoding: chunked\r\n\r\n0\r\n\r\n"),
+        ("another coding", 400, post + "Transfer-Encoding: gzip, chunked\r\n\r\n0\r\n\r\n"),
+        ("a length that is no number", 400, post + "Content-Length: +2\r\n\r\n{}"),
+        ("a space behind a field's name", 400, post + "Transfer-Encoding : chunked\r\n\r\n0\r\n\r\n"),
+        ("a line that is no field", 400, post + "hello\r\nContent-Length: 2\r\n\r\n{}"),
+        ("a field that goes on", 400, post + " hello: a\r\nContent-Length: 2\r\n\r\n{}"),
+        ("no request", 400, "hello\r\n\r\n"),
+        ("a method that is none", 405, "BREW / HTTP/1.1\r\n\r\n"),
+        ("a field without end", 431, "GET / HTTP/1.1\r\nA: " + "a" * 70_000 + "\r\n\r\n"),
+        ("200 fields", 431, "GET / HTTP/1.1\r\n" + "A: a\r\n" * 200 + "\r\n"),
+        ("a path without end", 414, "GET /" + "a" * 70_000 + " HTTP/1.1\r\n\r\n"),
+        ("a path of bytes that are no text", 400, b"GET /apis/\xc3\x28 HTTP/1.1\r\nConnection: close\r\n\r\n"),
+    ):
+        cases.raw(heading, code, data)
+    get = f"GET {LIST}/a HTTP/1.1\r\n"
+    found = cases.client.raw(((get + "\r\n") * 9 + get + "Connection: close\r\n\r\n").encode())
+    tell("ten requests at once", found.count(b"HTTP/1.1 200 OK") == 10, str(found[:300]))
 
 
-def places(cases):
-    """Paths, queries and media types."""
+def targets(cases):
     at = f"{LIST}/a"
     at_objects = f"{LIST}/a/status", f"{LIST}/A_", f"{LIST}/"
     for path in ("/", "/api/v2", "/apis/none", "/apis/example.com/v9", "/apis//", "/openapi/v3/apis/x/v1", *at_objects):
@@ -205,7 +241,6 @@ def places(cases):
 
 
 def edits(cases):
-    """Patches, one after the other."""
     at = f"{LIST}/a"
     _, seen = cases.client.ask("GET", at)
     number = seen["metadata"]["resourceVersion"]
@@ -226,7 +261,7 @@ def edits(cases):
     cases.case("a strict patch that says a field twice", 400, "PATCH", strict, b'{"host":"x","host":"y"}', MERGE, says="duplicate")
     cases.case("a patch of a migration", 404, "PATCH", "/apis/storagemigration.k8s.io/v1alpha1/storageversionmigrations/m", {}, MERGE)
     code, seen = cases.client.ask("GET", at)
-    cases.tell("what was refused left nothing behind", seen["host"] == "k" and "hots" not in seen, str(seen))
+    tell("what was refused left nothing behind", seen["host"] == "k" and "hots" not in seen, str(seen))
 
 
 def patchers(cases):
@@ -252,7 +287,7 @@ def patchers(cases):
     wanted = {"first"} | {f"c{client}-{edit}" for client in range(CLIENTS) for edit in range(EDITS)}
     held = codes == [200] * CLIENTS * EDITS and set(seen["metadata"]["labels"]) == wanted
     heading = f"{CLIENTS} clients at two fronts add {EDITS} labels each to one object, in {time.monotonic() - begun:.1f} s"
-    cases.tell(heading, held, f"{sorted(set(codes))} {len(seen['metadata']['labels'])}")
+    tell(heading, held, f"{sorted(set(codes))} {len(seen['metadata']['labels'])}")
 
 
 def absent(cases):
@@ -280,18 +315,18 @@ def encrypted(cases):
     plain = Client(cases.running.front("--cert", cert, "--key", key))
     silent = [socket.create_connection(plain.address) for _ in range(20)]
     found = plain.raw(b"GET /livez HTTP/1.1\r\n\r\n")
-    cases.tell("a client that doesn't speak TLS", not found.startswith(b"HTTP"), str(found))
+    tell("a client that doesn't speak TLS", not found.startswith(b"HTTP"), str(found))
     context = ssl.create_default_context(cafile=cert)
     secret = http.client.HTTPSConnection(*plain.address, timeout=20, context=context)
     for number in range(3):
         secret.request("GET", LIST)
         response = secret.getresponse()
         held = response.status == 200 and response.read()
-        cases.tell(f"list {number} of one that does, beside 20 that say nothing", held, str(response.status))
+        tell(f"list {number} of one that does, beside 20 that say nothing", held, str(response.status))
     secret.putrequest("POST", LIST)
     secret.putheader("Content-Length", str(2 * MIB))
     secret.endheaders(b" " * MIB)
-    cases.tell("a longer body over TLS is 413", secret.getresponse().status == 413)
+    tell("a longer body over TLS is 413", secret.getresponse().status == 413)
     for peer in silent:
         peer.close()
 
@@ -305,7 +340,7 @@ def behind(cases):
     cases.case("a patch while serve is down", 503, "PATCH", f"{LIST}/a", {}, MERGE, says="can't be reached")
     for path, code in (("/livez", 200), ("/readyz", 503), ("/healthz", 503), ("/api", 200), ("/version", 200)):
         found, text = cases.client.ask("GET", path)
-        cases.tell(f"GET {path} while serve is down is {code}", found == code, f"{found} {text}")
+        tell(f"GET {path} while serve is down is {code}", found == code, f"{found} {text}")
     cases.server = cases.running.serve(cases.running.server)
     cases.case("a list once serve is back", 200, "GET", LIST)
     cases.case("a create once serve is back", 201, "POST", LIST, crontab("a"))
@@ -330,10 +365,9 @@ def pretend(server, told):
 
 
 def main(words):
-    """Runs the cases."""
     cases = Cases(pathlib.Path(words[0] if words else HERE.parent.parent / "kubeconv").resolve())
     try:
-        for part in (parts, bodies, heads, places, edits, patchers, absent, encrypted, behind):
+        for part in (parts, bodies, heads, targets, edits, patchers, absent, encrypted, behind):
             part(cases)
     finally:
         cases.running.stop()

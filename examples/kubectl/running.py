@@ -62,18 +62,15 @@ class Running:
         return self.processes[-1].told.rpartition(" ")[2].strip()
 
     def serve(self, listen="127.0.0.1:0"):
-        """Starts `kubeconv serve`."""
         files = ["--crd", self.crd, "--rules", EXAMPLES / "crontabs.rules.json"]
         self.server = self.started([self.program, "serve", *files, "--listen", listen])
         return self.processes[-1]
 
     def front(self, *words):
-        """Starts a front, and gives its address."""
         program = [sys.executable, HERE / "front.py", "--crd", self.crd, "--server", self.server]
         return self.started([*program, "--listen", "127.0.0.1:0", *words])
 
     def stop(self):
-        """Ends what runs."""
         for process in reversed(self.processes):
             process.stop()
         self.folder.cleanup()

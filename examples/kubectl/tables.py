@@ -80,40 +80,26 @@ def walked(values, path):
 
 def spelled(seconds, day=86400):
     """A time as kubectl writes it: in two units where it is short for the larger one, else in one."""
-    if seconds < 0:
-        return "<invalid>" if seconds < -1 else "0s"
     minutes, hours, days = seconds // 60, seconds // 3600, seconds // day
     if seconds < 120:
-        return f"{seconds}s"
-    if minutes < 10:
-        return f"{minutes}m{seconds % 60}s" if seconds % 60 else f"{minutes}m"
-    if minutes < 180:
-        return f"{minutes}m"
-    if hours < 8:
-        return f"{hours}h{minutes % 60}m" if minutes % 60 else f"{hours}h"
-    if hours < 48:
-        return f"{hours}h"
-    if days < 8:
-        return f"{days}d{hours % 24}h" if hours % 24 else f"{days}d"
-    if days < 730:
-        return f"{days}d"
-    if days < 2920 and days % 365:
-        return f"{days // 365}y{days % 365}d"
-    return f"{days // 365}y"
+        return "<invalid>" if seconds < -1 else f"{max(seconds, 0)}s"
+    # Below how many of the unit, whether the rest is shown too, and both.
+    for is_below, with_rest, (count, unit), (rest, of_rest) in (
+        (minutes < 10, True, (minutes, "m"), (seconds % 60, "s")), (minutes < 180, False, (minutes, "m"), (0, "")),
+        (hours < 8, True, (hours, "h"), (minutes % 60, "m")), (hours < 48, False, (hours, "h"), (0, "")),
+        (days < 8, True, (days, "d"), (hours % 24, "h")), (days < 730, False, (days, "d"), (0, "")),
+        (True, days < 2920, (days // 365, "y"), (days % 365, "d")),
+    ):  # fmt: skip
+        if is_below:
+            return f"{count}{unit}" + (f"{rest}{of_rest}" if with_rest and rest else "")
 
 
 def age(text):
-    """The time since a stamp."""
     try:
         stamp = datetime.datetime.fromisoformat(text.replace("Z", "+00:00"))
         return spelled(int((datetime.datetime.now(datetime.timezone.utc) - stamp).total_seconds()))
     except (AttributeError, TypeError, ValueError):
         return "<invalid>"
-
-
-def text_of(values):
-    """The text of what a column's path leads to."""
-    return " ".join(value if isinstance(value, str) else json.dumps(value, separators=(",", ":")) for value in values)
 
 
 def cell(item, column):
@@ -123,12 +109,11 @@ def cell(item, column):
         return None
     kind, value = column["type"], values[0]
     if kind == "string":
-        return text_of(values)
+        return " ".join(it if isinstance(it, str) else json.dumps(it, separators=(",", ":")) for it in values)
     if kind == "date":
         return age(value)
-    if kind == "boolean":
-        return value if isinstance(value, bool) else None
-    return value if isinstance(value, (int, float)) and not isinstance(value, bool) else None
+    is_flag = isinstance(value, bool)
+    return value if is_flag == (kind == "boolean") and isinstance(value, (bool, int, float)) else None
 
 
 def usable(columns):
@@ -156,7 +141,6 @@ def shown(item, include):
 
 
 def table(document, columns, include):
-    """The table of a list, or of one object."""
     is_list = "items" in document
     items = document["items"] if is_list else [document]
     kept = ("continue", "remainingItemCount", "resourceVersion")

@@ -27,23 +27,17 @@ AGE = r"\d+[sm]"
 
 
 def crontab(name, version="v1beta1", **fields):
-    """A CronTab as a client writes it."""
     return {**object_of(version, name), **fields}
 
 
 class Walk:
-    """The commands, one after the other, and how many failed."""
+    """The commands, one after the other, by kubectl, whose words differ from release to release."""
 
     def __init__(self, kubectl, running):
-        self.kubectl = kubectl
-        self.running = running
-        self.minor = self.release()
+        self.kubectl, self.running = kubectl, running
+        told = subprocess.run([kubectl, "version", "--client", "-o", "json"], capture_output=True, text=True)
+        self.minor = int(json.loads(told.stdout)["clientVersion"]["minor"].rstrip("+"))
         self.use(running.front(), "http")
-
-    def release(self):
-        """The minor number of kubectl's release. Words that it prints differ from release to release."""
-        told = subprocess.run([self.kubectl, "version", "--client", "-o", "json"], capture_output=True, text=True)
-        return int(json.loads(told.stdout)["clientVersion"]["minor"].rstrip("+"))
 
     def use(self, address, scheme, **cluster):
         """Goes to a front from now on, with folders of kubectl's own that are empty."""
@@ -66,9 +60,10 @@ class Walk:
     def run(self, words, document=None, **more):
         """Runs kubectl, with a document on its standard input where there is one."""
         given = "" if document is None else json.dumps(document)
-        environment = {**self.environment, **more}
         try:
-            return subprocess.run([self.kubectl, *words], input=given, capture_output=True, text=True, timeout=60, env=environment)
+            return subprocess.run(
+                [self.kubectl, *words], input=given, capture_output=True, text=True, timeout=60, env={**self.environment, **more}
+            )
         except subprocess.TimeoutExpired as error:
             return subprocess.CompletedProcess(words, "none in 60 seconds", str(error.stdout), str(error.stderr))
 
@@ -78,21 +73,17 @@ class Walk:
         words = line if isinstance(line, list) else line.split()
         done = self.run(words, document, **more)
         output = done.stdout + done.stderr
-        if callable(wanted):
-            held = wanted(done.stdout)
-        else:
-            held = all(re.search(pattern, output, re.MULTILINE) for pattern in ([wanted] if isinstance(wanted, str) else wanted))
-        why = f"status {done.returncode}, not {status}, or not {wanted}:\n{output}"
-        self.tell(" ".join(words), held and done.returncode == status, why)
-
-    @staticmethod
-    def tell(heading, held, why=""):
-        """Prints the line of a step."""
-        check(held, heading + ("" if held else f"\n{why}"))
+        patterns = [wanted] if isinstance(wanted, str) else wanted
+        held = wanted(done.stdout) if callable(wanted) else all(re.search(it, output, re.MULTILINE) for it in patterns)
+        tell(" ".join(words), held and done.returncode == status, f"status {done.returncode}, not {status}, or not {wanted}:\n{output}")
 
     def read(self, line):
         """What a line of kubectl prints, read as JSON."""
         return json.loads(self.run(line.split()).stdout or "{}")
+
+
+def tell(heading, held, why=""):
+    check(held, heading + ("" if held else f"\n{why}"))
 
 
 def rows(*patterns):
@@ -101,7 +92,6 @@ def rows(*patterns):
 
 
 def discovers(walk):
-    """What there is."""
     walk.step("version", r"Server Version: .*v1\.\d+\.\d+\+kubeconv")
     at_hub = r"crontabs +ct +example\.com/v1 +true +CronTab"
     definitions = r"customresourcedefinitions +crd,crds +apiextensions\.k8s\.io/v1 +false +CustomResourceDefinition"
@@ -118,7 +108,6 @@ def discovers(walk):
 
 
 def creates(walk):
-    """Creates, and applies."""
     walk.step("create -f -", rows("crontab.example.com/a created"), crontab("a", hostPort="localhost:80", timeoutSeconds=30))
     walk.step("create -f -", r"\(AlreadyExists\)", crontab("a", hostPort="localhost:80"), status=1)
     first = crontab("b", hostPort="b.example.com:80", legacy="old")
@@ -168,9 +157,7 @@ def gets(walk):
 
 
 def selects(walk):
-    """Selectors."""
     def names(*numbers):
-        """Takes the names of these objects."""
         return rows(*(f"crontab.example.com/e{number}" for number in numbers))
 
     many = ["get", "crontabs", "-n", "many", "-o", "name"]
@@ -203,7 +190,7 @@ def edits(walk):
     seen = walk.read("get crontab a -o json")
     held = [seen.get(name) for name in ("host", "owner", "note")] == ["edited", "me", "x"]
     noted = seen["metadata"].get("annotations") == {"note": "one"} and not seen["metadata"].get("labels")
-    walk.tell("each edit stands in the end", held and noted, json.dumps(seen))
+    tell("each edit stands in the end", held and noted, json.dumps(seen))
     walk.step("replace -f -", rows("crontab.example.com/a replaced"), {**seen, "host": "replaced"})
     walk.step("replace -f -", r"\(Conflict\)", {**seen, "host": "late"}, status=1)
     walk.step("replace -f -", rows("crontab.example.com/a replaced"), crontab("a", "v1", host="whole", port="1"))
@@ -249,7 +236,6 @@ def upgrades(walk):
 
 
 def deletes(walk):
-    """Deletes."""
     walk.step("delete crontab a", rows('crontab.example.com "a" deleted.*'))
     walk.step("delete crontab a", r"\(NotFound\)", status=1)
     walk.step("delete crontab a --ignore-not-found", r"\A\Z")
@@ -283,7 +269,6 @@ def encrypted(walk):
 
 
 def main():
-    """Runs the walk."""
     parser = parser_of(__doc__, None, kubectl="kubectl")
     parser.add_argument("program", nargs="?", default=str(HERE.parent.parent / "kubeconv"))
     given = parser.parse_args()

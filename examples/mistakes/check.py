@@ -16,7 +16,7 @@ import re
 import subprocess
 import sys
 import tempfile
-from typing import Any, Dict, Iterator, List, Optional, Tuple
+from typing import Any, Iterator, List, Optional, Tuple
 
 HERE = pathlib.Path(__file__).resolve().parent
 sys.path.insert(0, str(HERE.parent.parent / "tools"))
@@ -55,12 +55,6 @@ def cases() -> Iterator[Case]:
             yield title, texts, further
 
 
-def answers() -> Dict[str, str]:
-    """What is said behind each title."""
-    parts = (HERE / "answers.txt").read_text().split("# ")[1:]
-    return dict(part.split("\n", 1) for part in parts)
-
-
 def first_told(kubeconv: str, folder: pathlib.Path) -> str:
     """The line of kubeconv for the two files."""
     words = [kubeconv, "review", "--crd", NAMES[0], "--rules", NAMES[1]]
@@ -81,26 +75,22 @@ def at(value: Any, path: str) -> Any:
 
 def paste(value: Any, how: str, text: str) -> None:
     """Does one of the edits that are told."""
-    if how in ("take out", "rename"):
-        path, _, to = text.partition(" to ")
-    else:
-        path, _, to = ("", "", text[2:]) if how == "add" else text.partition(": ")
-    if how in ("add", "add to"):
-        there = at(value, path)
-        if isinstance(there, list):
-            there.extend(json.loads(f"[{to}]"))
-        else:
-            there.update(json.loads(f"{{{to}}}"))
-        return
-    around, step = re.fullmatch(r"(.*?)\.?([^.\[\]]+)\]?", path).groups()  # type: ignore
-    there = at(value, around.rstrip("["))
+    path, _, to = text.partition(" to ") if how in ("take out", "rename") else ("", "", text[2:]) if how == "add" else text.partition(": ")
+    there = at(value, path) if how in ("add", "add to") else None
     if isinstance(there, list):
-        there[int(step)] = Many(json.loads(f"[{to}]"))
-    elif how == "in place of":
-        there[step] = json.loads(to)
+        there.extend(json.loads(f"[{to}]"))
+    elif there is not None:
+        there.update(json.loads(f"{{{to}}}"))
     else:
-        moved = there.pop(step)
-        there.update({to: moved} if how == "rename" else {})
+        around, step = re.fullmatch(r"(.*?)\.?([^.\[\]]+)\]?", path).groups()  # type: ignore
+        there = at(value, around.rstrip("["))
+        if isinstance(there, list):
+            there[int(step)] = Many(json.loads(f"[{to}]"))
+        elif how == "in place of":
+            there[step] = json.loads(to)
+        else:
+            moved = there.pop(step)
+            there.update({to: moved} if how == "rename" else {})
 
 
 def flat(value: Any) -> Any:
@@ -148,27 +138,25 @@ def differs(wanted: str, said: str, status: int, texts: List[str], kubeconv: str
 
 def main(kubeconv: str, is_written: bool) -> int:
     kubeconv = str(pathlib.Path(kubeconv).resolve())
-    wanted, written, wrong, count = answers(), "", 0, 0
+    parts = (HERE / "answers.txt").read_text().split("# ")[1:]
+    wanted, written, told = dict(part.split("\n", 1) for part in parts), "", []
     with tempfile.TemporaryDirectory() as room:
-        folder = pathlib.Path(room)
-        for title, texts, further in cases():
-            count += 1
+        folder, found = pathlib.Path(room), list(cases())
+        for title, texts, further in found:
             for name, text in zip((*NAMES, OBJECT), texts + (further[1:] if further else [])):
                 (folder / name).write_text(text)
             of_object = [str(folder / OBJECT), further[0]] if further else []
             said, status = explained(kubeconv, *(str(folder / name) for name in NAMES), NAMES, *of_object)
             written += f"# {title}\n{said}"
             why = differs(said if is_written else wanted.pop(title, ""), said, status, texts, kubeconv, folder)
-            if why:
-                print(f"{title}: {why}", file=sys.stderr)
-                wrong = 1
+            told += [f"{title}: {why}"] if why else []
     if is_written:
         (HERE / "answers.txt").write_text(written)
-    for title in () if is_written else wanted:
-        print(f"{title}: there is no such case", file=sys.stderr)
-        wrong = 1
-    print(f"{count} cases")
-    return wrong
+    else:
+        told += [f"{title}: there is no such case" for title in wanted]
+    print("".join(f"{it}\n" for it in told), end="", file=sys.stderr)
+    print(f"{len(found)} cases")
+    return int(bool(told))
 
 
 if __name__ == "__main__":

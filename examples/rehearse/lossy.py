@@ -7,9 +7,12 @@ At v1alpha1 a backup has spec.target, spec.timeoutSeconds and no spec.owner; at 
 What is lost of an object at v1: its owner, all targets but the first, and the part of its timeout below a second. spec.priority, which
 v1alpha1 doesn't have either, is kept in an annotation, as it should be. At port 0 the system chooses one; the first line tells which.
 """
-import http.server
 import json
+import pathlib
 import sys
+
+sys.path.append(str(pathlib.Path(__file__).resolve().parent.parent))
+import serving  # noqa: E402
 
 KEPT = "backups.example.com/priority"
 
@@ -44,32 +47,19 @@ def converted(item, wanted):
     return {**item, "apiVersion": wanted}
 
 
-class Webhook(http.server.BaseHTTPRequestHandler):
-    protocol_version = "HTTP/1.1"
-
+class Webhook(serving.Handler):
     def do_POST(self):
-        review = json.loads(self.rfile.read(int(self.headers["Content-Length"])))
+        self.serve()
+
+    def answered(self, body):
+        review = json.loads(body)
         asked = review.pop("request")
         objects = [converted(item, asked["desiredAPIVersion"]) for item in asked["objects"]]
         review["response"] = {"uid": asked["uid"], "convertedObjects": objects, "result": {"status": "Success"}}
-        text = json.dumps(review).encode()
-        self.send_response(200)
-        self.send_header("Content-Type", "application/json")
-        self.send_header("Content-Length", str(len(text)))
-        self.end_headers()
-        self.wfile.write(text)
-
-    def log_message(self, *_words):
-        pass
+        return serving.Answer(200, json.dumps(review).encode())
 
 
 if __name__ == "__main__":
     if len(sys.argv) != 2:
         sys.exit(__doc__)
-    with http.server.ThreadingHTTPServer(("127.0.0.1", int(sys.argv[1])), Webhook) as server:
-        server.daemon_threads = True
-        print(f"listening on http://127.0.0.1:{server.server_address[1]}", flush=True)
-        try:
-            server.serve_forever()
-        except KeyboardInterrupt:
-            pass
+    serving.Server(("127.0.0.1", int(sys.argv[1])), Webhook, 64).run("http://")

@@ -106,28 +106,18 @@ def try_requests(program, file):
     return f"{len(came) // 2} objects, written and read at the other version"
 
 
-def files_of_case(folder, case):
-    """The files of a case: two versions or three, each with its fields."""
+def rules_of_case(program, folder, case):
+    """The rules of a case: two versions or three, each with its fields."""
     fields = {HUB: case["hub"], SPOKE: case["spoke"], **({SECOND: case["second"]} if "second" in case else {})}
     spokes = {SPOKE: case["rules"], **({SECOND: case["second_rules"]} if "second" in case else {})}
     definition = definition_of({name: object_schema(properties) for name, properties in fields.items()}, HUB)
-    return files_of(folder, "case", definition, spokes, HUB)
-
-
-def crontab(version, fields):
-    return object_of(version, "a", **fields)
-
-
-def ways(case):
-    """The conversions of a case: from where and of what, to where, what is shown there, and whether something is kept."""
-    if "shown" in case:
-        at, to = (SPOKE, HUB) if "from_spoke" in case else (HUB, SPOKE)
-        return [(at, case["from_spoke" if at == SPOKE else "from_hub"], to, case["shown"], case.get("kept", True))]
-    spoke, hub = case["at_spoke"], case["at_hub"]
-    return [(SPOKE, spoke, HUB, hub, False), (HUB, hub, SPOKE, spoke, False)]
+    return Rules(program, files_of(folder, "case", definition, spokes, HUB))
 
 
 def try_case(rules, case):
+    def crontab(version, fields):
+        return object_of(version, "a", **fields)
+
     if "refused" in case:
         try:
             rules.convert(crontab(HUB, {}), SPOKE)
@@ -135,7 +125,14 @@ def try_case(rules, case):
             same(case["of"], str(said).partition("--rules.json: ")[2], case["refused"])
             return
         raise Wrong(f"{case['of']}: it isn't refused")
-    for at, fields, to, wanted, is_kept in ways(case):
+    # from where and of what, to where, what is shown there, and whether something is kept
+    if "shown" in case:
+        at, to, given = (SPOKE, HUB, "from_spoke") if "from_spoke" in case else (HUB, SPOKE, "from_hub")
+        ways = [(at, case[given], to, case["shown"], case.get("kept", True))]
+    else:
+        spoke, hub = case["at_spoke"], case["at_hub"]
+        ways = [(SPOKE, spoke, HUB, hub, False), (HUB, hub, SPOKE, spoke, False)]
+    for at, fields, to, wanted, is_kept in ways:
         came = rules.convert(crontab(at, fields), to)
         shown, kept = parted(came)
         same(case["of"], shown, crontab(to, wanted))
@@ -148,7 +145,7 @@ def try_cases(program, file):
     cases = json.loads(file.read_text())
     with tempfile.TemporaryDirectory() as to:
         for case in cases:
-            try_case(Rules(program, files_of_case(pathlib.Path(to), case)), case)
+            try_case(rules_of_case(program, pathlib.Path(to), case), case)
     return f"{len(cases)} cases"
 
 

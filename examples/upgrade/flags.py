@@ -10,25 +10,17 @@ Nothing else of the definition is changed. The status is 1 where it has no such 
 import json
 import sys
 
-
-def main(words):
-    if len(words) != 2 or words[0] not in ("storage", "serve", "unserve"):
-        print(__doc__, file=sys.stderr)
-        return 2
-    what, name = words
-    definition = json.load(sys.stdin)
-    versions = definition["spec"]["versions"]
-    if name not in [version["name"] for version in versions]:
-        print(f"flags.py: there is no version {name}", file=sys.stderr)
-        return 1
-    for version in versions:
-        if what == "storage":
-            version["storage"] = version["name"] == name
-        elif version["name"] == name:
-            version["served"] = what == "serve"
-    print(json.dumps(definition, separators=(",", ":")))
-    return 0
-
-
-if __name__ == "__main__":
-    sys.exit(main(sys.argv[1:]))
+if len(sys.argv) != 3 or sys.argv[1] not in ("storage", "serve", "unserve"):
+    print(__doc__, file=sys.stderr)
+    sys.exit(2)
+what, name = sys.argv[1:]
+definition = json.load(sys.stdin)
+versions = {version["name"]: version for version in definition["spec"]["versions"]}
+if name not in versions:
+    sys.exit(f"flags.py: there is no version {name}")
+if what == "storage":
+    for version in versions.values():
+        version["storage"] = version["name"] == name
+else:
+    versions[name]["served"] = what == "serve"
+print(json.dumps(definition, separators=(",", ":")))

@@ -17,40 +17,18 @@ import subprocess
 import sys
 
 TOP = pathlib.Path(__file__).resolve().parent.parent.parent
+sys.path.append(str(TOP / "tools"))
+from check_documents import commands_of, kinds_of  # noqa: E402
+
 PAGES = "docs/OPERATORS.md", "examples/upgrade/README.md"
 SECONDS = 120
 MARK = "-- end of a command --"
 
 
-def commands(text):
-    """The commands of the page, each with what it is to print."""
-    found = []
-    is_open = False
-    for line in text.splitlines():
-        shown = line[4:] if line.startswith("    ") else None
-        if shown is None:
-            is_open = False
-        elif is_open:
-            found[-1][0] += "\n" + shown
-            is_open = shown.endswith(("\\", "|"))
-        elif shown.startswith("$ "):
-            found.append([shown[2:], []])
-            is_open = shown.endswith(("\\", "|"))
-        elif found:
-            found[-1][1].append(shown)
-    return [(command, "\n".join(told).strip()) for command, told in found]
-
-
-def free_port():
-    with socket.create_server(("127.0.0.1", 0)) as taken:
-        return taken.getsockname()[1]
-
-
 def run(script):
     """What the shell printed behind each command. What it started ends with it."""
-    shell = subprocess.Popen(
-        ["bash", "-c", script], cwd=TOP, stdin=subprocess.DEVNULL, stdout=subprocess.PIPE, stderr=subprocess.STDOUT, start_new_session=True
-    )
+    pipes = {"stdin": subprocess.DEVNULL, "stdout": subprocess.PIPE, "stderr": subprocess.STDOUT}
+    shell = subprocess.Popen(["bash", "-c", script], cwd=TOP, start_new_session=True, **pipes)
     try:
         told, _ = shell.communicate(timeout=SECONDS)
     except subprocess.TimeoutExpired:
@@ -59,27 +37,23 @@ def run(script):
     return [part.strip() for part in told.decode(errors="replace").replace("\r", "").split(MARK)]
 
 
-def is_as(told, wanted):
-    return re.fullmatch(".*".join(map(re.escape, wanted.split("..."))), told, re.DOTALL) is not None
-
-
 def walked(page, program):
     """Whether a page's commands print what is written behind them."""
-    text = (TOP / page).read_text().replace("./kubeconv", program).replace("127.0.0.1:8080", f"127.0.0.1:{free_port()}")
-    walk = commands(text)
-    script = "trap 'kill $(jobs -p) 2>&-' EXIT\n" + "".join(f"{command}\necho; echo '{MARK}'\n" for command, _ in walk)
-    came = run(script)
-    holds = True
-    for (command, wanted), told in zip(walk, came):
-        if not is_as(told, wanted):
-            holds = False
-            print(f"{page}: $ {command}\n  came:\n{told}\n  wanted:\n{wanted}\n", file=sys.stderr)
+    with socket.create_server(("127.0.0.1", 0)) as taken:
+        place = f"127.0.0.1:{taken.getsockname()[1]}"
+    text = (TOP / page).read_text().replace("./kubeconv", program).replace("127.0.0.1:8080", place)
+    walk = commands_of([line[4:] for line, kind in kinds_of(text.split("\n")) if kind == "code"])
+    came = run("trap 'kill $(jobs -p) 2>&-' EXIT\n" + "".join(f"{command}\necho; echo '{MARK}'\n" for command, _ in walk))
+    wrong = []
+    for (command, shown), told in zip(walk, came):
+        wanted = (shown or "").strip()
+        if not re.fullmatch(".*".join(map(re.escape, wanted.split("..."))), told, re.DOTALL):
+            wrong.append(f"$ {command}\n  came:\n{told}\n  wanted:\n{wanted}\n")
     if len(came) != len(walk) + 1:
-        holds = False
-        print(f"{page}: {len(walk)} commands, and {len(came) - 1} of them came to an end", file=sys.stderr)
-    if holds:
-        print(f"{page}: {len(walk)} commands, as written")
-    return holds
+        wrong.append(f"{len(walk)} commands, and {len(came) - 1} of them came to an end")
+    print("".join(f"{page}: {it}\n" for it in wrong), end="", file=sys.stderr)
+    print(f"{page}: {len(walk)} commands, as written\n" * (not wrong), end="")
+    return not wrong
 
 
 def main(words):
@@ -88,8 +62,7 @@ def main(words):
     if not all(map(shutil.which, ("bash", "curl"))):
         print("skipped: there is no bash, or no curl")
         return 0
-    program = os.path.abspath(words[0])
-    return int(not all([walked(page, program) for page in PAGES]))
+    return int(not all([walked(page, os.path.abspath(words[0])) for page in PAGES]))
 
 
 if __name__ == "__main__":

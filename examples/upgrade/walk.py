@@ -21,32 +21,15 @@ sys.path.append(str(HERE.parent.parent))
 from harness.client import Answer, messages_of  # noqa: E402
 
 
-class Step:
-    """One request, with its heading and what its answer shows."""
-
-    def __init__(self, text):
-        heading, _, rest = text.partition("\n")
-        self.heading = heading.strip()
-        lines = rest.split("\n")
-        said = [line[2:] for line in lines if line.startswith("# ")]
-        self.shows = " ".join(said)
-        head, _, body = "\n".join(lines[len(said) :]).strip().partition("\n\n")
-        self.line = head
-        self.body = body
-        if body.startswith("< "):
-            self.body = (HERE / body[2:].strip()).read_text()
-
-    def request(self):
-        body = self.body.encode()
-        length = f"Content-Length: {len(body)}\r\n" if body else ""
-        return f"{self.line} HTTP/1.1\r\n{length}\r\n".encode() + body
-
-
 def steps():
-    found = []
-    for file in sorted(HERE.glob("[0-9]-*.http")):
-        found += [Step(part) for part in re.split(r"(?m)^### ", file.read_text())[1:]]
-    return found
+    """The heading of each request, what its answer shows, its line and its bytes."""
+    for part in [part for file in sorted(HERE.glob("[0-9]-*.http")) for part in re.split(r"(?m)^### ", file.read_text())[1:]]:
+        heading, *lines = part.split("\n")
+        said = [line[2:] for line in lines if line.startswith("# ")]
+        line, _, body = "\n".join(lines[len(said) :]).strip().partition("\n\n")
+        data = (HERE / body[2:].strip()).read_bytes() if body.startswith("< ") else body.encode()
+        length = f"Content-Length: {len(data)}\r\n" if data else ""
+        yield heading.strip(), " ".join(said), line, f"{line} HTTP/1.1\r\n{length}\r\n".encode() + data
 
 
 def answers(output):
@@ -59,22 +42,15 @@ def masked(text):
     return re.sub(r'("(?:uid|creationTimestamp|deletionTimestamp)":)"[^"]*"', r'\1"..."', text)
 
 
-def told(walk, came):
-    lines = []
-    for number, (step, (status, body)) in enumerate(zip(walk, came), 1):
-        lines += [f"{number}. {step.heading}", f"   {step.shows}", f"   {step.line}", f"   {status}", masked(body), ""]
-    return lines
-
-
 def main(words):
     check = words[:1] == ["--check"]
-    program = words[1:] if check else words
+    program, walk, lines = words[check:], list(steps()), []
     if not program:
         sys.exit(__doc__)
-    walk = steps()
-    run = subprocess.run(program, input=b"".join(step.request() for step in walk), stdout=subprocess.PIPE)
+    run = subprocess.run(program, input=b"".join(request for *_, request in walk), stdout=subprocess.PIPE)
     came = answers(run.stdout)
-    lines = told(walk, came)
+    for number, ((heading, shows, line, _), (status, body)) in enumerate(zip(walk, came), 1):
+        lines += [f"{number}. {heading}", f"   {shows}", f"   {line}", f"   {status}", masked(body), ""]
     if len(came) != len(walk):
         lines.append(f"{len(walk)} requests, {len(came)} answers; the status is {run.returncode}.")
     if not check:

@@ -28,18 +28,13 @@ from harness.crontabs import head_of  # noqa: E402
 from harness.documents import review_of  # noqa: E402
 from harness.programs import SHARED_FILES, TOP  # noqa: E402
 from harness.server import Listening  # noqa: E402
-from harness import told  # noqa: E402
-from harness.told import Skipped, end, looked, wants  # noqa: E402
+from harness.told import Skipped, end, looked, same, wants  # noqa: E402
 
 NAME = "kubeconv-webhook.default.svc"
 FILES = list(map(str, SHARED_FILES))
 REVIEW = (HERE / "review.json").read_bytes()
 ANSWER = (HERE / "answer.json").read_bytes()
 CALLERS, CALLS = 40, 5
-
-
-def same(came, wanted):
-    told.same("it", came, wanted)
 
 
 class Serving(Listening):
@@ -75,22 +70,16 @@ def crontab(number, version):
     return {**item, **fields}
 
 
-def review(uid, wanted, objects):
-    return review_of(objects, wanted, uid)
-
-
-def judged(text, uid, wanted, objects):
+def judged(came, uid, wanted, objects):
     """What an API server looks at in a response that succeeded."""
+    status, text = came
     whole = json.loads(text)
-    same((whole["apiVersion"], whole["kind"]), ("apiextensions.k8s.io/v1", "ConversionReview"))
     response = whole["response"]
-    same((response["uid"], response["result"]["status"]), (uid, "Success"))
-    came = response["convertedObjects"]
-    same(len(came), len(objects))
-    for one, other in zip(came, objects):
-        same((one["apiVersion"], one["kind"]), (f"example.com/{wanted}", other["kind"]))
-        same(one["metadata"], other["metadata"])
-        same(one.get("host", other.get("host")) if wanted == "v1" else one["hostPort"], host_of(other, wanted))
+    told = status, whole["apiVersion"], whole["kind"], response["uid"], response["result"]["status"]
+    same("the answer", told, (200, "apiextensions.k8s.io/v1", "ConversionReview", uid, "Success"))
+    fields = [(one["apiVersion"], one["kind"], one["metadata"], one.get("hostPort", one.get("host"))) for one in response["convertedObjects"]]
+    kinds = [(f"example.com/{wanted}", other["kind"], other["metadata"], host_of(other, wanted)) for other in objects]
+    same("the objects", fields, kinds)
 
 
 def host_of(other, wanted):
@@ -104,11 +93,8 @@ def calls(serving, number):
     caller = serving.caller()
     for call in range(CALLS):
         wanted, other = ("v1", "v1beta1") if (number + call) % 2 else ("v1beta1", "v1")
-        uid = f"{number}-{call}"
         objects = [crontab(item, other) for item in range(1, 3 + 7 * number)]
-        status, text = post(caller, review(uid, wanted, objects))
-        same(status, 200)
-        judged(text, uid, wanted, objects)
+        judged(post(caller, review_of(objects, wanted, f"{number}-{call}")), f"{number}-{call}", wanted, objects)
     caller.close()
 
 
@@ -128,41 +114,43 @@ def failures(serving):
     for _ in range(64):
         deep = {"a": deep}
     table = [
-        (review("u2", "v1", [good, {**good, "timeoutSeconds": 2000}]), "object 1: timeoutSeconds: Maximum"),
-        (review("u2", "v1", [good, {**good, "extra": {"a": [1, 2.5]}}]), "object 1: extra.a[1]: NotWhole"),
-        (review("u2", "v1", [good, good, {**good, "extra": deep}]), "object 2: TooDeep"),
-        (review("u2", "v9", [good]), "desiredAPIVersion: Unknown"),
-        (review("u2", "v1", [good, 7]), "NotReview request.objects[1]"),
-        (review("u2", "v1", [good]).replace(b"k8s.io/v1", b"k8s.io/v1beta1"), "NotReview apiVersion"),
+        ([good, {**good, "timeoutSeconds": 2000}], "object 1: timeoutSeconds: Maximum"),
+        ([good, {**good, "extra": {"a": [1, 2.5]}}], "object 1: extra.a[1]: NotWhole"),
+        ([good, good, {**good, "extra": deep}], "object 2: TooDeep"),
+        ([good, 7], "NotReview request.objects[1]"),
     ]
+    bodies = [(review_of(objects, "v1", "u2"), message) for objects, message in table]
+    bodies.append((review_of([good], "v9", "u2"), "desiredAPIVersion: Unknown"))
+    bodies.append((review_of([good], "v1", "u2").replace(b"k8s.io/v1", b"k8s.io/v1beta1"), "NotReview apiVersion"))
     caller = serving.caller()
-    for body, message in table:
+    for body, message in bodies:
         status, text = post(caller, body)
-        same((status, json.loads(text)["response"]), (200, {"result": {"message": message, "status": "Failure"}, "uid": "u2"}))
-    return f"{len(table)} reviews over one connection"
+        wanted = {"result": {"message": message, "status": "Failure"}, "uid": "u2"}
+        same("the response", (status, json.loads(text)["response"]), (200, wanted))
+    return f"{len(bodies)} reviews over one connection"
 
 
 def refusals(serving):
     """What is no review has a code, and a connection goes on where it can."""
     caller = serving.caller()
-    for body in (b"", b"nonsense", b"[]", b'{"request":{"uid":7}}', review("", "v1", [])):
-        same(post(caller, body)[0], 400)
+    for body in (b"", b"nonsense", b"[]", b'{"request":{"uid":7}}', review_of([], "v1", "")):
+        same("the code", post(caller, body)[0], 400)
     caller.request("GET", "/healthz")
     answer = caller.getresponse()
-    same((answer.status, answer.read()), (200, b"ok\n"))
-    same(post(caller, REVIEW), (200, ANSWER))
+    same("its health", (answer.status, answer.read()), (200, b"ok\n"))
+    same("the answer", post(caller, REVIEW), (200, ANSWER))
     for head, code in (
-        ("POST / HTTP/1.1\r\nHost: a\r\n\r\n", 411),
-        ("POST / HTTP/1.1\r\nHost: a\r\nContent-Length: x\r\n\r\n", 400),
-        ("POST / HTTP/1.1\r\nHost: a\r\nContent-Length: 2\r\nTransfer-Encoding: chunked\r\n\r\n0\r\n\r\n", 400),
-        ("POST / HTTP/1.1\r\nHost: a\r\nTransfer-Encoding: chunked\r\n\r\nz\r\n", 400),
-        ("POST / HTTP/1.1\r\nHost: a\r\nContent-Length: 67108865\r\n\r\n", 413),
-        ("PUT / HTTP/1.1\r\nHost: a\r\nContent-Length: 0\r\n\r\n", 501),
-        ("POST / HTTP/1.1 and more\r\n\r\n", 400),
+        ("POST / HTTP/1.1\r\nHost: a", 411),
+        ("POST / HTTP/1.1\r\nHost: a\r\nContent-Length: x", 400),
+        ("POST / HTTP/1.1\r\nHost: a\r\nContent-Length: 2\r\nTransfer-Encoding: chunked\r\n\r\n0", 400),
+        ("POST / HTTP/1.1\r\nHost: a\r\nTransfer-Encoding: chunked\r\n\r\nz", 400),
+        ("POST / HTTP/1.1\r\nHost: a\r\nContent-Length: 67108865", 413),
+        ("PUT / HTTP/1.1\r\nHost: a\r\nContent-Length: 0", 501),
+        ("POST / HTTP/1.1 and more", 400),
     ):
         with serving.socket() as peer:
-            peer.sendall(head.encode())
-            same(peer.makefile("rb").readline().split()[1], str(code).encode())
+            peer.sendall(f"{head}\r\n\r\n".encode())
+            same(head, peer.makefile("rb").readline().split()[1], str(code).encode())
     return "400, 411, 413 and 501, and 200 behind them"
 
 
@@ -173,62 +161,59 @@ def chunked(serving):
         parts = [REVIEW[at : at + cut] for at in range(0, len(REVIEW), cut)]
         caller.request("POST", "/convert", iter(parts), {"Transfer-Encoding": "chunked"}, encode_chunked=True)
         answer = caller.getresponse()
-        same((answer.status, answer.read()), (200, ANSWER))
+        same("the answer", (answer.status, answer.read()), (200, ANSWER))
 
 
 def long(serving):
     """A review of more bytes than one run of the program reads, and one of them at fault."""
     objects = [crontab(item, "v1beta1") for item in range(24_000)]
-    caller = serving.caller()
-    body = review("long", "v1", objects)
-    status, text = post(caller, body)
-    same(status, 200)
-    judged(text, "long", "v1", objects)
+    caller, body = serving.caller(), review_of(objects, "v1", "long")
+    judged(post(caller, body), "long", "v1", objects)
     objects[23_000]["timeoutSeconds"] = 1001
-    status, text = post(caller, review("long", "v1", objects))
-    same((status, json.loads(text)["response"]["result"]["message"]), (200, "object 23000: timeoutSeconds: Maximum"))
+    status, text = post(caller, review_of(objects, "v1", "long"))
+    same("the fault", (status, json.loads(text)["response"]["result"]["message"]), (200, "object 23000: timeoutSeconds: Maximum"))
     return f"{len(body):,} bytes"
 
 
 def by_openssl(serving, tls):
     wants("openssl")
-    for words in (
-        ["verify", "-CAfile", tls / "ca.pem", "-purpose", "sslserver", "-verify_hostname", NAME, tls / "tls.crt"],
-        ["s_client", "-connect", f"127.0.0.1:{serving.port}", "-servername", NAME, "-CAfile", tls / "ca.pem", "-verify_return_error",
-         "-verify_hostname", NAME, "-brief"],
-    ):  # fmt: skip
+    authority, of_name = ["-CAfile", tls / "ca.pem"], ["-verify_hostname", NAME]
+    client = ["s_client", "-connect", f"127.0.0.1:{serving.port}"]
+    for words, is_taken in (
+        (["verify", *authority, "-purpose", "sslserver", *of_name, tls / "tls.crt"], True),
+        ([*client, "-servername", NAME, *authority, "-verify_return_error", *of_name, "-brief"], True),
+        ([*client, "-tls1_1"], False),
+    ):
         done = subprocess.run(["openssl", *map(str, words)], input="", capture_output=True, text=True, timeout=60)
-        same((words[0], done.returncode), (words[0], 0))
-    done = subprocess.run(["openssl", "s_client", "-connect", f"127.0.0.1:{serving.port}", "-tls1_1"], input="", capture_output=True, text=True)
-    if done.returncode == 0:
-        raise AssertionError("TLS 1.1 was taken")
+        same(" ".join(map(str, words)), done.returncode == 0, is_taken)
+
+
+def curl(*words):
+    done = subprocess.run(["curl", "-sS", "--data-binary", f"@{HERE / 'review.json'}", *map(str, words)], capture_output=True)
+    return done.returncode, done.stdout
 
 
 def by_curl(serving, tls):
     wants("curl")
     at = ["--resolve", f"{NAME}:{serving.port}:127.0.0.1", f"https://{NAME}:{serving.port}/convert"]
-    words = ["curl", "-sS", "--data-binary", f"@{HERE / 'review.json'}"]
-    done = subprocess.run([*words, "--cacert", str(tls / "ca.pem"), *at], capture_output=True)
-    same((done.returncode, done.stdout), (0, ANSWER))
-    same(subprocess.run([*words, *at], capture_output=True).returncode, 60)  # without the authority it isn't trusted
+    same("what curl shows", curl("--cacert", tls / "ca.pem", *at), (0, ANSWER))
+    same("the status of curl without the authority", curl(*at)[0], 60)
 
 
 def plain(program):
     """Without --cert it serves HTTP, and curl posts a file."""
     wants("curl")
     with Serving(program) as serving:
-        url = f"http://127.0.0.1:{serving.port}/"
-        done = subprocess.run(["curl", "-sS", "--data-binary", f"@{HERE / 'review.json'}", url], capture_output=True)
-        same(done.stdout, ANSWER)
+        same("what curl shows", curl(f"http://127.0.0.1:{serving.port}/"), (0, ANSWER))
         serving.process.send_signal(signal.SIGINT)
-        same(serving.ended(60), 0)
+        same("the status", serving.ended(60), 0)
 
 
 def faulty(program):
     """Files that the program refuses end it before it listens."""
     words = [sys.executable, HERE / "serve.py", "0", program, "review", "--crd", FILES[3], "--rules", FILES[1]]
     done = subprocess.run(list(map(str, words)), capture_output=True, text=True)
-    same((done.returncode, done.stdout, done.stderr.splitlines()[0]), (1, "", f"kubeconv: {FILES[3]}: apiVersion: Shape"))
+    same("its end", (done.returncode, done.stdout, done.stderr.splitlines()[0]), (1, "", f"kubeconv: {FILES[3]}: apiVersion: Shape"))
 
 
 def launched(program):
@@ -243,9 +228,9 @@ def launched(program):
         launcher.chmod(0o755)
         serving = Serving(launcher)
         for _ in range(3):
-            same(post(serving.caller(), REVIEW), (200, ANSWER))
+            same("the answer", post(serving.caller(), REVIEW), (200, ANSWER))
         serving.process.terminate()
-        same((serving.ended(60), (pathlib.Path(to) / "runs").read_text()), (0, "once\n"))
+        same("its end", (serving.ended(60), (pathlib.Path(to) / "runs").read_text()), (0, "once\n"))
 
 
 def renewed(serving, tls):
@@ -277,8 +262,8 @@ def silent_peers(serving):
                 pass
             except OSError:
                 ended.setdefault(place, time.monotonic() - began)
-    same(sorted(ended), [0, 1, 2])
-    same([29 < seconds < 36 for seconds in ended.values()], [True] * 3)
+    same("who is let go", sorted(ended), [0, 1, 2])
+    same("when", [29 < seconds < 36 for seconds in ended.values()], [True] * 3)
     return "after " + ", ".join(f"{ended[place]:.1f}" for place in range(3)) + " s"
 
 
@@ -286,7 +271,7 @@ def stopped(serving):
     """SIGTERM while a review is answered: its answer comes, and then the end."""
     caller = serving.caller()
     objects = [crontab(item, "v1beta1") for item in range(3_000)]
-    body = review("last", "v1", objects)
+    body = review_of(objects, "v1", "last")
     caller.putrequest("POST", "/convert")
     caller.putheader("Content-Length", str(len(body)))
     caller.endheaders(body[:-1])
@@ -295,13 +280,13 @@ def stopped(serving):
     time.sleep(0.3)
     caller.send(body[-1:])
     answer = caller.getresponse()
-    judged(answer.read(), "last", "v1", objects)
-    same((answer.getheader("Connection"), serving.ended(60)), ("close", 0))
+    judged((answer.status, answer.read()), "last", "v1", objects)
+    same("its end", (answer.getheader("Connection"), serving.ended(60)), ("close", 0))
 
 
 def certificate(to):
     done = subprocess.run(["sh", str(HERE / "certificate.sh"), str(to), NAME], capture_output=True, text=True)
-    same((done.returncode, done.stderr), (0, ""))
+    same("certificate.sh", (done.returncode, done.stderr), (0, ""))
 
 
 def manifests(program):
@@ -313,18 +298,19 @@ def manifests(program):
     deployment, service = yaml.safe_load_all((HERE / "manifests/webhook.yaml").read_text())
     crd = yaml.safe_load((HERE / "manifests/crd.yaml").read_text())
     asked = crd["spec"]["conversion"]["webhook"]["clientConfig"]["service"]
-    same((asked["name"], asked["namespace"]), (service["metadata"]["name"], service["metadata"]["namespace"]))
-    same((f"{asked['name']}.{asked['namespace']}.svc", asked["port"]), (NAME, service["spec"]["ports"][0]["port"]))
-    pod = deployment["spec"]["template"]
-    same(service["spec"]["selector"], pod["metadata"]["labels"])
-    same(service["spec"]["ports"][0]["targetPort"], pod["spec"]["containers"][0]["ports"][0]["name"])
-    same(str(pod["spec"]["containers"][0]["ports"][0]["containerPort"]) in (HERE / "Dockerfile").read_text(), True)
-    same(crd["spec"]["versions"], json.loads((TOP / "examples/crontabs.json").read_text())["spec"]["versions"])
+    named, pod, port = service["metadata"], deployment["spec"]["template"], service["spec"]["ports"][0]
+    same("the service", (asked["name"], asked["namespace"], asked["port"]), (named["name"], named["namespace"], port["port"]))
+    same("its name", f"{asked['name']}.{asked['namespace']}.svc", NAME)
+    same("the pod's labels", service["spec"]["selector"], pod["metadata"]["labels"])
+    container = pod["spec"]["containers"][0]["ports"][0]
+    same("the port", port["targetPort"], container["name"])
+    same("the port of the image", str(container["containerPort"]) in (HERE / "Dockerfile").read_text(), True)
+    same("the versions", crd["spec"]["versions"], json.loads((TOP / "examples/crontabs.json").read_text())["spec"]["versions"])
     with tempfile.TemporaryDirectory() as to:
         made = subprocess.run([sys.executable, TOP / "tools/prepare_crd.py", HERE / "manifests/crd.yaml"], capture_output=True)
         (pathlib.Path(to) / "crd.json").write_bytes(made.stdout)
         words = [program, "review", "--crd", f"{to}/crd.json", *FILES[2:]]
-        same(subprocess.run(words, input=REVIEW, capture_output=True).stdout, ANSWER)
+        same("the answer", subprocess.run(words, input=REVIEW, capture_output=True).stdout, ANSWER)
 
 
 def image(program):
@@ -337,7 +323,8 @@ def image(program):
     with tempfile.TemporaryDirectory() as to:
         room = pathlib.Path(to)
         shutil.copy(program, room / "kubeconv")
-        shutil.copy(HERE / "serve.py", room)
+        for file in HERE / "serve.py", HERE.parent / "serving.py":
+            shutil.copy(file, room)
         words = ["docker", "build", "-q", "-f", str(HERE / "Dockerfile"), to]
         built = subprocess.run(words, capture_output=True, text=True)
         if built.returncode != 0:
@@ -345,7 +332,7 @@ def image(program):
     mounts = ["-v", f"{FILES[1]}:/definition/crd.json:ro", "-v", f"{FILES[3]}:/definition/rules.json:ro"]
     words = ["docker", "run", "--rm", "-i", *mounts, "--entrypoint", "/kubeconv", built.stdout.strip(), "review",
              "--crd", "/definition/crd.json", "--rules", "/definition/rules.json"]  # fmt: skip
-    same(subprocess.run(words, input=REVIEW, capture_output=True).stdout, ANSWER)
+    same("the answer", subprocess.run(words, input=REVIEW, capture_output=True).stdout, ANSWER)
 
 
 def secure(program, slow):

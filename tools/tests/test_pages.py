@@ -87,7 +87,7 @@ class Pictures(unittest.TestCase):
         with tempfile.TemporaryDirectory() as folder:
             file = pathlib.Path(folder) / "it.txt"
             file.write_text(text)
-            drawn = pictures.drawn(pictures.read(file))
+            drawn = pictures.drawn(pictures.Picture(file))
         for part in ("<title>A &amp; b</title>", ">one</text>", ">b</text>", ">time</text>", 'class="box strong"', ">n</text>"):
             self.assertIn(part, drawn)
         self.assertEqual(drawn.count('marker-end="url(#head)"'), 2)
