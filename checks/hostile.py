@@ -161,7 +161,7 @@ def idle(address: Address, early: Early) -> None:
         ended, last = pool.submit(seconds_to_end, held[0]), pool.submit(behind, address, f"{IDLE} idle ones")
         serves(early, "idle")
         seconds, _came = ended.result(), last.result()
-        check(seconds is not None and seconds < LATE_SECONDS, f"an idle connection was closed behind so many seconds: {seconds}")
+        check(seconds is not None and seconds < LATE_SECONDS, f"an idle connection was closed, seconds after the last came: {seconds}")
 
 
 def crowd(address: Address) -> None:
