@@ -27,7 +27,7 @@ import drill_model
 from harness.client import request
 from harness.crontabs import path_of
 from harness.documents import Document, definition_of, files_of, list_of, names_of, object_of, object_schema, pair_of, responds, review_of, spelled, text_of
-from harness.programs import SHARED_FILES, Word, built, parser_of
+from harness.programs import SHARED_FILES, Word, built, parser_of, tables_of
 from harness.tables import Firsts, Table
 from harness.timing import Task, each_of, is_empty, run_of
 from pipe import answered
@@ -207,13 +207,9 @@ TABLES = {"load": print_load, "lists": print_lists, "sizes": print_sizes, "drill
 def main() -> None:
     length = 10_000, "of lists: the shorter length of an enum and a table that are asked; those that are only loaded are three times as long"
     parser = parser_of(__doc__, runs=3, length=length)
-    parser.add_argument("tables", nargs="*", metavar="TABLE", help=f"{', '.join(TABLES)} (default: all)")
-    options = parser.parse_args()
-    if not {*options.tables} <= {*TABLES}:
-        parser.error(f"there is no table {options.tables}")
-    for name in options.tables or TABLES:
+    for look, options in tables_of(parser, TABLES):
         with tempfile.TemporaryDirectory() as folder:
-            TABLES[name](built(options.program), pathlib.Path(folder), options)
+            look(built(options.program), pathlib.Path(folder), options)
 
 
 if __name__ == "__main__":

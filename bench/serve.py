@@ -14,14 +14,16 @@ Every answer is checked for its code. A connection is answered 10,000 requests a
 from __future__ import annotations
 
 import argparse
+import contextlib
+import functools
 import time
 from typing import Callable, Dict, List
 
 import parts  # noqa: F401
-from harness.client import Address, Connection, request
+from harness.client import Connection, request
 from harness.crontabs import MIGRATIONS, VERSIONS, body_of, creation, drawn_state, generator, looked_at, migration, move, number_in, number_of, path_of
 from harness.documents import name_of
-from harness.programs import Word, built, parser_of
+from harness.programs import Word, built, parser_of, tables_of
 from harness.server import CREATED, Filled, Server, at_once
 from harness.tables import Table
 from harness.timing import best_of
@@ -37,6 +39,7 @@ WRITERS, WRITES = 64, 100
 IDLE_WORKERS, IDLE_SECONDS, GROWING_SECONDS = (2, 15), 20, 2
 # So many migrations are started then, each behind such a rest.
 MARKS, RESTED_SECONDS = 9, 2
+Chore = Callable[[Filled], float]
 
 
 # ---- store
@@ -57,8 +60,22 @@ def further(filled: Filled) -> range:
     return range(len(filled.numbers), len(filled.numbers) + CREATES)
 
 
-def get(version: str) -> Callable[[Filled], List[bytes]]:
-    return lambda filled: [request("GET", path_of(version, name=name_of(turn % len(filled.numbers)))) for turn in range(TIMES)]
+def each(requests_of: Callable[[Filled], List[bytes]], wanted: int = 200) -> Chore:
+    """What one of these requests takes of the server."""
+
+    def chore(filled: Filled) -> float:
+        requests = requests_of(filled)
+        return filled.asked(requests, wanted)[0] / len(requests)
+
+    return chore
+
+
+def get(version: str) -> Chore:
+    return each(lambda filled: [request("GET", path_of(version, name=name_of(turn % len(filled.numbers)))) for turn in range(TIMES)])
+
+
+def lists(version: str) -> Chore:
+    return each(lambda _filled: [request("GET", f"{path_of(version)}?limit=500")] * LISTS)
 
 
 def replace(filled: Filled) -> float:
@@ -87,39 +104,31 @@ def migrate(filled: Filled) -> float:
         return (filled.thread_seconds() - before) / len(VERSIONS) / len(filled.numbers)
 
 
-# The requests of each kind and the code that answers them, or the call that makes them; and how many workers there are.
-CHORES = {
-    "create": (lambda filled: [creation(number) for number in further(filled)], 201),
-    "delete": (lambda filled: [request("DELETE", path_of("v1beta1", name=name_of(number))) for number in further(filled)], 200),
-    "get at the stored version": (get("v1beta1"), 200),
-    "get at the other version": (get("v1"), 200),
-    "replace": (replace, 0),
-    "list of 500, stored": (lambda _filled: [request("GET", f"{path_of('v1beta1')}?limit=500")] * LISTS, 200),
-    "list of 500, converted": (lambda _filled: [request("GET", f"{path_of('v1')}?limit=500")] * LISTS, 200),
-    "migration, an object": (migrate, 0),
+# What is timed, without a worker and with one.
+CHORES: Dict[int, Dict[str, Chore]] = {
+    0: {
+        "create": each(lambda filled: [creation(number) for number in further(filled)], 201),
+        "delete": each(lambda filled: [request("DELETE", path_of("v1beta1", name=name_of(number))) for number in further(filled)]),
+        "get at the stored version": get("v1beta1"),
+        "get at the other version": get("v1"),
+        "replace": replace,
+        "list of 500, stored": lists("v1beta1"),
+        "list of 500, converted": lists("v1"),
+    },
+    1: {"migration, an object": migrate},
 }
-WORKERS = {"migration, an object": 1}
-
-
-def task(filled: Filled, requests_of: Callable[[Filled], List[bytes]], wanted: int) -> float:
-    """The microseconds that one of these requests takes of the server."""
-    requests = requests_of(filled)
-    return filled.asked(requests, wanted)[0] / len(requests) * 1e6
 
 
 def print_store(program: Word, options: argparse.Namespace) -> None:
     first, *others = options.sizes
     table = Table("request:<26", f"us, {first}:12.1f", *(it for size in others for it in (f"us, {size}:12.1f", "ratio:8.2f")))
-    for workers in 0, 1:
+    for workers, chores in CHORES.items():
         servers = {size: Filled(program, size, workers) for size in options.sizes}
-        chores = {name: chore for name, chore in CHORES.items() if WORKERS.get(name, 0) == workers}
-        tasks = {}
-        for name, (chore, wanted) in chores.items():
-            for size, it in servers.items():
-                tasks[size, name] = lambda it=it, chore=chore, wanted=wanted: task(it, chore, wanted) if wanted else chore(it) * 1e6
+        tasks = {(size, name): functools.partial(chore, it) for name, chore in chores.items() for size, it in servers.items()}
         best = best_of(options.runs, tasks)
         for name in chores:
-            table.row(name, best[first, name], *(it for size in others for it in (best[size, name], best[size, name] / best[first, name])))
+            least = best[first, name]
+            table.row(name, least * 1e6, *(it for size in others for it in (best[size, name] * 1e6, best[size, name] / least)))
         for it in servers.values():
             it.stop()
 
@@ -127,14 +136,13 @@ def print_store(program: Word, options: argparse.Namespace) -> None:
 # ---- memory
 
 
-def write(address: Address, number: int) -> None:
+def write(connection: Connection, number: int) -> None:
     """Creates an object, and edits it at both versions."""
     name, draw, shown = f"w{number}", generator("write", number), None
-    with Connection(address) as connection:
-        for turn in range(WRITES):
-            version, at = VERSIONS[turn % 2], number_of(shown) if shown else None
-            path = path_of(version, "work", name if shown else None)
-            shown = connection.expect(200 if shown else 201, "PUT" if shown else "POST", path, body_of(version, name, drawn_state(draw), at))
+    for turn in range(WRITES):
+        version, at = VERSIONS[turn % 2], number_of(shown) if shown else None
+        path = path_of(version, "work", name if shown else None)
+        shown = connection.expect(200 if shown else 201, "PUT" if shown else "POST", path, body_of(version, name, drawn_state(draw), at))
 
 
 def print_memory(program: Word, options: argparse.Namespace) -> None:
@@ -151,8 +159,8 @@ def print_memory(program: Word, options: argparse.Namespace) -> None:
                     made += 1
         must(code == 507, f"create {made} is answered {code}")
         print(f"memory: {empty:.1f} MB at the start, {server.memory():.1f} MB with {made} objects")
-    with Server(program, options.workers) as server:
-        at_once(write, [(server.address, number) for number in range(WRITERS)])
+    with Server(program, options.workers) as server, contextlib.ExitStack() as stack:
+        at_once(write, [(stack.enter_context(Connection(server.address)), number) for number in range(WRITERS)])
         print(f"memory: {server.memory('VmHWM'):.1f} MB at most with {WRITERS} connections that write")
     print(f"the chunks for objects are {CHUNKS_MB:.1f} MB, and what a connection reads and writes by {LINK_MB:.1f} MB", flush=True)
 
@@ -177,18 +185,14 @@ def print_idle(program: Word, _options: argparse.Namespace) -> None:
             print(f"idle: a migration is marked {waits[0]:.1f} to {waits[-1]:.1f} ms behind its 201, {waits[MARKS // 2]:.1f} in the middle", flush=True)
 
 
-TABLES: Dict[str, Callable[[Word, argparse.Namespace], None]] = {"store": print_store, "memory": print_memory, "idle": print_idle}
+TABLES = {"store": print_store, "memory": print_memory, "idle": print_idle}
 
 
 def main() -> None:
     sizes = (1_000, 4_000, 16_000), "so many objects stand for store"
     parser = parser_of(__doc__, runs=3, sizes=sizes, workers=(2, "workers beside the memory"))
-    parser.add_argument("tables", nargs="*", metavar="TABLE", help=f"{', '.join(TABLES)} (default: all)")
-    options = parser.parse_args()
-    if not {*options.tables} <= {*TABLES}:
-        parser.error(f"there is no table {options.tables}")
-    for name in options.tables or TABLES:
-        TABLES[name](built(options.program), options)
+    for look, options in tables_of(parser, TABLES):
+        look(built(options.program), options)
 
 
 if __name__ == "__main__":

@@ -22,13 +22,13 @@ import json
 import sys
 import threading
 import time
-from typing import Any, Callable, List, Tuple, Type
+from typing import Any, List, Tuple, Type
 
 import parts  # noqa: F401
 from clients import Beside, Client, judged
 from harness.client import Address, Connection
 from harness.crontabs import CERTIFICATES, MIGRATIONS, head_of, looked_at, migration, move, number_of
-from harness.programs import SHARED_FILES, TOP, Word, built, parser_of
+from harness.programs import SHARED_FILES, TOP, Word, built, parser_of, tables_of
 from harness.server import Listening, Server, at_once
 from harness.told import check, end, looked, same, told_of
 
@@ -230,20 +230,12 @@ def soak(program: Word, options: argparse.Namespace) -> None:
     soak_by("kubeconv review behind the webhook", program, review, Patient, SHARED_FILES[1], options)
 
 
-STEPS: List[Callable[..., None]] = [look, soak]
-
-
 def main() -> None:
     counts = {"seconds": (20, "so long each converter is asked"), "connections": (16, "of which one moves the storage version")}
     parser = parser_of(__doc__, "program", **counts)
-    parser.add_argument("steps", nargs="*", metavar="look|soak", help="what is made (default: both)")
     parser.add_argument("--words", nargs="*", default=[], help="more words of serve")
-    options = parser.parse_args()
-    if not {*options.steps} <= {it.__name__ for it in STEPS}:
-        parser.error(f"there is no {options.steps}")
-    for step in STEPS:
-        if step.__name__ in (options.steps or "look soak"):
-            step(built(options.program), options)
+    for step, options in tables_of(parser, {"look": look, "soak": soak}):
+        step(built(options.program), options)
     end()
 
 
