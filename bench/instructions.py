@@ -11,64 +11,56 @@ this one takes is printed; compare programs that were made alike, by unproved.py
 The allocator's fast bins are switched off: how often it goes through them hangs on where memory happens to lie, and makes a difference of
 two in a hundred by itself. String instructions of the processor (`rep stosb`, `rep movsb`) are kept from too, since callgrind counts each
 byte that they write as an instruction, of which the processor makes many at once."""
+from __future__ import annotations
 
 import json
 import os
 import re
-import sys
+from typing import Dict, List, Sequence
 
 import parts  # noqa: F401
 from harness.client import request
 from harness.crontabs import DEFINITION, GROUP, MIGRATIONS, migration, moved
-from harness.programs import SHARED_FILES, TOP, built, parser_of
+from harness.programs import SHARED_FILES, TOP, Word, built, parser_of
 from harness.tables import Table
 from harness.timing import ran
+from harness.told import must
 from pipe import CHORES, answered, create, shared
 
 SIZE, TURNS = 300, 400
-TUNABLES = ["glibc.malloc.mxfast=0", "glibc.cpu.x86_rep_stosb_threshold=0x7fffffff", "glibc.cpu.x86_rep_movsb_threshold=0x7fffffff"]
+TUNABLES = "glibc.malloc.mxfast=0:glibc.cpu.x86_rep_stosb_threshold=0x7fffffff:glibc.cpu.x86_rep_movsb_threshold=0x7fffffff"
 
 
-def count(program, requests, codes, words=()):
-    """The instructions of a run of `pipe` over requests that are answered by these codes."""
+def count(program: Word, requests: List[bytes], codes: Sequence[int], *words: Word) -> int:
+    """The instructions of a run of `pipe` over requests that are answered by these codes, behind creates."""
     line = ["valgrind", "--tool=callgrind", "--callgrind-out-file=/dev/null", program, "pipe", *SHARED_FILES, *words]
-    done = ran(line, b"".join(requests), env={**os.environ, "GLIBC_TUNABLES": ":".join(TUNABLES)})
+    created = [create(shared, turn, 0) for turn in range(SIZE)]
+    done = ran(line, b"".join(created + requests), env={**os.environ, "GLIBC_TUNABLES": TUNABLES})
     told = re.search(rb"Collected : (\d+)", done.errors)
-    if done.status or not told:
-        sys.exit(f"{program} ended with status {done.status}: {done.errors[-300:]!r}")
-    answered(codes)(done.output)
-    return int(told[1])
+    must(not done.status and told, f"{program} ended with status {done.status}: {done.errors[-300:]!r}")
+    answered([201] * SIZE + list(codes))(done.output)
+    return int(told[1]) if told else 0
 
 
-def touch(program, created):
-    """The instructions of a touch: a worker's turn behind each of many answers, with a migration to `v1` and without one."""
+def counts(program: Word) -> Dict[str, float]:
+    """The instructions of each kind of request. Those of a touch are those of a worker's turn behind each of many answers, with a migration
+    to `v1` and without one."""
+    less, found = count(program, [], []), {}
+    for name, ask, code, _ in CHORES[:4]:
+        found[name] = (count(program, [ask(shared, turn, SIZE) for turn in range(SIZE)], [code] * SIZE) - less) / SIZE
     turns = [request("GET", GROUP)] * TURNS
     definition = moved(json.loads((TOP / "examples/crontabs.json").read_text()))
     begin = [request("PUT", DEFINITION, definition), request("POST", MIGRATIONS, migration("m"))]
-    codes = [201] * SIZE + [200, 201] + [200] * TURNS
-    migrated = count(program, [*created, *begin, *turns], codes, ["--turns", "1"])
-    nothing = [request("GET", DEFINITION)] * 2
-    return (migrated - count(program, [*created, *nothing, *turns], [201] * SIZE + [200] * (2 + TURNS), ["--turns", "1"])) / SIZE
+    migrated = count(program, begin + turns, [200, 201] + [200] * TURNS, "--turns", "1")
+    idle = count(program, [request("GET", DEFINITION)] * 2 + turns, [200] * (2 + TURNS), "--turns", "1")
+    return {**found, "touch of a migration": (migrated - idle) / SIZE}
 
 
-def counts(program):
-    """The instructions of each kind of request."""
-    created = [create(shared, turn, 0) for turn in range(SIZE)]
-    less = count(program, created, [201] * SIZE)
-    found = {}
-    for name, make, code, _ in CHORES[:4]:
-        asked = [make(shared, turn, SIZE) for turn in range(SIZE)]
-        found[name] = (count(program, created + asked, [201] * SIZE + [code] * SIZE) - less) / SIZE
-    found["touch of a migration"] = touch(program, created)
-    return found
-
-
-def main():
+def main() -> None:
     parser = parser_of(__doc__)
     parser.add_argument("--beside", help="another program, counted too")
     options = parser.parse_args()
-    ours = counts(built(options.program))
-    theirs = counts(built(options.beside)) if options.beside else {}
+    ours, theirs = counts(built(options.program)), counts(built(options.beside)) if options.beside else {}
     table = Table("instructions:<26", "this:10,.0f", *(["other:10,.0f", "to other:10.3f"] if theirs else []))
     for name, here in ours.items():
         table.row(name, here, *([theirs[name], here / theirs[name]] if theirs else []))

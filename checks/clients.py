@@ -1,364 +1,227 @@
-"""Clients of a server that others write to beside them: each checks every answer by what it knows, and together they are judged by what none
-of them can know. soak.py says what is checked."""
+"""Clients of a server that write and read beside each other, objects of their own and some that all share, at both versions. history.py holds
+what they were answered against one history."""
+from __future__ import annotations
 
-import bisect
 import json
+import threading
 import time
 import traceback
+from typing import Any, Dict, List, NamedTuple, Optional, Sequence, Tuple
 
 import parts  # noqa: F401
-from harness.client import Connection, Gone
-from harness.crontabs import CRONTABS, MIGRATIONS, VERSIONS, drawn_state, generator, looked_at, migration, moved, number_of
-from harness.told import must
+from history import Call, History, Key, Shown
+from harness.client import Address, Connection
+from harness.crontabs import CRONTABS, MIGRATIONS, VERSIONS, Resource, drawn_state, generator, looked_at, migration, moved, number_of
 
-SHARED = "shared"
-SHARED_NAMES = [f"s{number}" for number in range(8)]
-OWN_MOST = 40
-# The client that moves the storage version.
-OPERATOR = 0
-# A list in pages begins again so often where its pages are shown no more.
-LISTS = 20
-# So many seconds an answer is waited for.
-PATIENCE = 300
-# What is judged of all clients together.
-KNOWN = "namespace", "asked", "wrong", "numbers", "touches", "edits", "reads", "refusals", "moves"
+METHODS = {"create": "POST", "get": "GET", "replace": "PUT", "delete": "DELETE"}
+# What a client does next, so often of a hundred times; and what with one of the objects that all share.
+STEPS = {"create": 12, "get": 43, "replace": 10, "delete": 8, "list": 2, "shared": 25}
+SHARED_STEPS = {"create": 10, "get": 50, "replace": 35, "delete": 5}
+SHARED, SHARED_COUNT, OWN_MOST = "shared", 8, 40
+# A connection is answered so much, and an answer is waited for so many seconds. A list begins again so often where its pages are shown no more.
+REQUESTS, PATIENCE, LISTS = 10_000, 300, 20
 
 
-def migration_of(mark, move):
-    return f"{mark}-m{move}"
+class Came(NamedTuple):
+    """What a client came to: its calls, what was wrong with them by themselves, its requests, its moves of the storage version and its own
+    objects."""
+
+    calls: List[Call]
+    wrong: List[str]
+    asked: int
+    moves: int
+    own: List[Key]
 
 
 class Client:
-    """One connection, what it knows, and what was wrong with its answers."""
+    """One connection, which makes calls by chance until a time or until so many requests were made, and waits behind each. It moves the
+    storage version, and starts a migration, behind so many seconds each."""
 
-    resource = CRONTABS
+    resource: Resource = CRONTABS
+    steps = STEPS
 
-    def __init__(self, address, mark, number, requests, until):
-        self.connection = Connection(address, PATIENCE)
-        self.mark, self.number, self.namespace = mark, number, f"{mark}-c{number}"
-        self.left, self.asked, self.until = requests, 0, until
-        self.draw = generator(mark, number)
-        # Of each own object its state, its number, its uid and its generation; of each shared one the number that was seen last.
-        self.own, self.shared = {}, dict.fromkeys(SHARED_NAMES, 0)
-        self.seen = self.made = self.moves = 0
-        self.last, self.wrong = "nothing", []
-        # What is judged of all together: all writes' numbers; numbers of own objects that this connection didn't write; accepted edits,
-        # reads and refusals of shared objects.
-        self.numbers, self.touches = [], set()
-        self.edits, self.reads, self.refusals = [], [], []
+    def __init__(self, address: Address, mark: str, number: int, seconds: float = float("inf"), requests: float = float("inf"), pause: float = 0,
+                 moves_each: float = float("inf")) -> None:  # fmt: skip
+        self.address, self.mark, self.namespace = address, mark, f"{mark}-c{number}"
+        self.until, self.requests, self.pause, self.moves_each = time.monotonic() + seconds, requests, pause, moves_each
+        self.connection, self.draw = Connection(address, PATIENCE), generator(mark, number)
+        self.next_move = time.monotonic() + moves_each
+        # The number at which each object was seen last, or none; the newest number of all; and the own objects.
+        self.known: Dict[Key, int] = {}
+        self.seen = self.asked = self.made = self.moves = 0
+        self.own: List[Key] = []
+        self.calls: List[Call] = []
+        self.wrong: List[str] = []
 
-    def ask(self, method, path, body=None):
-        self.last = f"{method} {path}"
-        self.left -= 1
+    def ask(self, method: str, path: str, body: Any = None) -> Tuple[int, Any]:
+        if self.asked and self.asked % REQUESTS == 0:
+            self.connection.close()
+            self.connection = Connection(self.address, PATIENCE)
         self.asked += 1
-        self.code, self.shown = self.connection.ask(method, path, body)
-        return self.code
+        self.sent = time.monotonic()
+        code, shown = self.connection.ask(method, path, body)
+        self.came = time.monotonic()
+        return code, shown
 
-    def ask_of(self, method, namespace, name=None, query=""):
-        """Asks for an object, or a list, at one of the versions."""
-        return self.ask(method, self.resource.path_of(self.draw.choice(VERSIONS), namespace, name) + query)
-
-    def submit(self, namespace, name, state, number=None):
-        """Creates an object, or replaces the one that stands at a number, at one of the versions."""
-        version, method = self.draw.choice(VERSIONS), "POST" if number is None else "PUT"
-        path = self.resource.path_of(version, namespace, None if number is None else name)
-        return self.ask(method, path, self.resource.body_of(version, name, state, number))
-
-    def check(self, holds, what):
+    def check(self, holds: object, what: str) -> None:
         if not holds:
-            self.wrong.append(f"{self.namespace}: {what}: {self.last}: {self.code} {json.dumps(self.shown)[:300]}")
-        return holds
+            self.wrong.append(f"{self.namespace}, request {self.asked}: {what}")
 
-    def is_entered(self, code, state):
-        """Whether a write is answered by its code and shows its state."""
-        return self.check(self.code == code, "a write is refused") and self.check(self.resource.state_of(self.shown) == state, "another state")
+    def keep(self, kind: str, key: Key, code: int, number: int = 0, shown: Any = None, given: int = 0) -> Optional[Shown]:
+        """Keeps a call, and gives the object as it is shown."""
+        metadata = shown["metadata"] if shown else {}
+        seen = Shown(self.resource.state_of(shown), metadata["uid"], metadata["generation"]) if shown else None
+        self.calls.append(Call(kind, key, self.sent, self.came, code, number, seen, given))
+        self.known[key], self.seen = number, max(self.seen, number)
+        return seen
 
-    def wrote(self, namespace, name):
-        """The number of an accepted write of an own or a shared object."""
-        number = number_of(self.shown)
-        self.check(number > self.seen, f"a write's number doesn't rise above {self.seen}")
-        self.seen = max(self.seen, number)
-        self.numbers.append((number, (namespace, name)))
-        return number
-
-    # ---- own objects
-
-    def create(self):
-        name, state = f"o{self.made}", drawn_state(self.draw)
-        self.made += 1
-        self.submit(self.namespace, name, state)
-        if self.is_entered(201, state):
-            self.own[name] = state, self.wrote(self.namespace, name), self.shown["metadata"]["uid"], 1
-
-    def read(self):
-        name = self.draw.choice(list(self.own))
-        if self.check(self.ask_of("GET", self.namespace, name) == 200, "an own object isn't there"):
-            self.look(self.shown, name)
-
-    def look(self, shown, name):
-        """An own object as it is shown: as it was written last, at that number or, touched, at a later one."""
-        state, number, uid, generation = self.own[name]
-        metadata = shown["metadata"]
-        self.check(self.resource.state_of(shown) == state, f"another state than {state}")
-        self.check(metadata["uid"] == uid and metadata["generation"] == generation, "another uid or generation")
-        later = number_of(shown)
-        self.check(later >= number, f"an older number than {number}")
-        if later > number:
-            self.touches.add((later, (self.namespace, name)))
-        self.own[name] = state, max(later, number), uid, generation
-        self.seen = max(self.seen, later)
-
-    def edit(self):
-        name, state = self.draw.choice(list(self.own)), drawn_state(self.draw)
-        before, number, uid, generation = self.own[name]
-        if self.submit(self.namespace, name, state, number) == 409:
-            # No one else edits it, so a worker touched it.
-            told = self.told_number()
-            self.check(told > number, f"no conflict with {number}")
-            self.touches.add((told, (self.namespace, name)))
-        elif self.is_entered(200, state):
-            grown = generation + (state != before)
-            self.check(self.shown["metadata"]["generation"] == grown, f"another generation than {grown}")
-            self.own[name] = state, self.wrote(self.namespace, name), uid, grown
-
-    def delete(self):
-        name = self.draw.choice(list(self.own))
-        if self.check(self.ask_of("DELETE", self.namespace, name) == 200, "a delete is refused"):
-            del self.own[name]
-            self.check(self.ask_of("GET", self.namespace, name) == 404, "a deleted object is there")
-
-    def list(self):
-        if not self.check(self.ask_of("GET", self.namespace, query="?limit=500") == 200, "a list is refused"):
-            return
-        number, items = number_of(self.shown), {it["metadata"]["name"]: it for it in self.shown["items"]}
-        names = [it["metadata"]["name"] for it in self.shown["items"]]
-        self.check(names == sorted(self.own), f"other names than {sorted(self.own)}")
-        self.check(number >= self.seen, f"a list of before {self.seen}")
-        for name in items.keys() & self.own.keys():
-            self.look(items[name], name)
-        self.seen = max(self.seen, number)
-
-    # ---- objects that all edit
-
-    def told_number(self):
-        """The number that a conflict tells."""
-        try:
-            return int(self.shown["details"]["causes"][0]["message"])
-        except (KeyError, IndexError, ValueError):
-            return 0
-
-    def read_shared(self, name):
-        seen = self.seen
-        if self.check(self.ask_of("GET", SHARED, name) == 200, "a shared object isn't there"):
-            number = number_of(self.shown)
-            self.check(number >= self.shared[name], f"an older number than {self.shared[name]}")
-            self.shared[name] = max(number, self.shared[name])
-            self.reads.append((name, number, seen, self.resource.state_of(self.shown)))
-            self.seen = max(self.seen, number)
-
-    def edit_shared(self):
-        name, state = self.draw.choice(SHARED_NAMES), drawn_state(self.draw)
-        if self.draw.random() < 0.5 or not self.shared[name]:
-            self.read_shared(name)
-        number = self.shared[name]
-        if self.submit(SHARED, name, state, number) == 409:
-            told = self.told_number()
-            self.check(told > number, f"no conflict with {number}")
-            self.refusals.append((name, told, self.seen))
-            self.shared[name] = max(told, number)
-            self.seen = max(self.seen, told)
-        elif self.is_entered(200, state):
-            self.shared[name] = self.wrote(SHARED, name)
-            self.edits.append((name, number, self.shared[name], state))
-
-    # ---- the operator
-
-    def move(self):
-        """The other storage version, and a migration to it."""
-        if not self.check(self.ask("GET", self.resource.definition) == 200, "the definition isn't shown"):
-            return
-        self.check(self.ask("PUT", self.resource.definition, moved(self.shown)) == 200, "the storage version isn't moved")
-        name = migration_of(self.mark, self.moves)
-        self.moves += 1
-        # One that still ran isn't waited for: it failed as the storage version was moved.
-        self.check(self.ask("POST", MIGRATIONS, migration(name, self.resource.plural)) == 201, "a migration isn't started")
-
-    # ---- all of it
-
-    def step(self):
-        chance = self.draw.random()
-        if not self.own or (chance < 0.12 and len(self.own) < OWN_MOST):
-            self.create()
-        elif chance < 0.22:
-            self.edit()
-        elif chance < 0.30 and self.left > 2:
-            self.delete()
-        elif chance < 0.40 and self.left > 2:
-            self.edit_shared()
-        elif chance < 0.55:
-            self.read_shared(self.draw.choice(SHARED_NAMES))
-        elif chance < 0.57:
-            self.list()
+    def call(self, kind: str, key: Key) -> int:
+        """Makes a call of an object at one of the versions, and gives the code of its answer."""
+        (namespace, name), version, state = key, self.draw.choice(VERSIONS), drawn_state(self.draw)
+        given = self.known.get(key) or 1 if kind == "replace" else 0
+        body = self.resource.body_of(version, name, state, given or None) if kind in ("create", "replace") else None
+        code, shown = self.ask(METHODS[kind], self.resource.path_of(version, namespace, None if kind == "create" else name), body)
+        if code == 409 and kind == "replace":
+            self.keep(kind, key, code, int(shown["details"]["causes"][0]["message"]), given=given)
+        elif code < 300 and kind != "delete":
+            seen = self.keep(kind, key, code, number_of(shown), shown, given)
+            self.check(body is None or seen and seen.state == state, f"{key} is written as {state} and shown as {seen}")
         else:
-            self.read()
+            self.keep(kind, key, code, given=given)
+        return code
 
-    def run(self, moves, between):
-        next_move = self.left - between
+    def list(self) -> None:
+        """All own objects, and nothing else, in the order of their names."""
+        code, shown = self.ask("GET", self.resource.path_of(self.draw.choice(VERSIONS), self.namespace) + "?limit=500")
+        if code == 200:
+            self.keep_items(shown["items"], self.own)
+            self.keep("list", ("", ""), code, number_of(shown))
+
+    def keep_items(self, items: List[Any], known: Sequence[Key]) -> None:
+        """Keeps what a list says of these objects, and of those that it shows."""
+        listed = {(it["metadata"]["namespace"], it["metadata"]["name"]): it for it in items}
+        self.check(list(listed) == sorted(listed) and len(listed) == len(items), "a list is in another order")
+        for key in {*known, *listed}:
+            it = listed.get(key)
+            self.keep("get", key, 200 if it else 404, number_of(it) if it else 0, it)
+
+    def move(self) -> None:
+        """The other storage version, and a migration to it. One that still ran isn't waited for: it fails as the version is moved."""
+        code, shown = self.ask("GET", self.resource.definition)
+        self.check(code == 200 and self.ask("PUT", self.resource.definition, moved(shown))[0] == 200, "the storage version isn't moved")
+        code, _shown = self.ask("POST", MIGRATIONS, migration(f"{self.mark}-m{self.moves}", self.resource.plural))
+        self.check(code == 201, f"a migration is answered {code}")
+        self.moves += 1
+        self.next_move = time.monotonic() + self.moves_each
+
+    def step(self) -> None:
+        kind = self.draw.choices(list(self.steps), list(self.steps.values()))[0]
+        if kind == "shared":
+            kind = self.draw.choices(list(SHARED_STEPS), list(SHARED_STEPS.values()))[0]
+            self.call(kind, (SHARED, f"{self.mark}-s{self.draw.randrange(SHARED_COUNT)}"))
+        elif kind == "list":
+            self.list()
+        elif kind == "create" and len(self.own) < OWN_MOST or not self.own:
+            self.own.append((self.namespace, f"o{self.made:05}"))
+            self.made += 1
+            self.call("create", self.own[-1])
+        else:
+            key = self.draw.choice(self.own)
+            self.call("get" if kind == "create" else kind, key)
+            if kind == "delete":
+                self.own.remove(key)
+                self.call("get", key)
+
+    def run(self) -> None:
         try:
-            while self.left > 0 and time.monotonic() < self.until:
-                if self.moves < moves and self.left < next_move and self.left > 3:
-                    next_move = self.left - between
+            while self.asked < self.requests and time.monotonic() < self.until:
+                if time.monotonic() > self.next_move:
                     self.move()
                 self.step()
-        except Gone as gone:
-            # Whether its last request was entered isn't known then, so that others may be told of it below.
-            self.wrong.append(f"{self.namespace}: gone with {self.left} requests left, at {self.last}: {gone}")
+                time.sleep(self.pause)
         except Exception:
+            # Whether its last request was entered isn't known then, so that others may be told of it too.
             self.wrong.append(f"{self.namespace}: {traceback.format_exc()}")
         self.connection.close()
 
-    def known(self):
-        own = {name: (state, number) for name, (state, number, _uid, _generation) in self.own.items()}
-        return {"own": own, **{name: getattr(self, name) for name in KNOWN}}
+    def result(self) -> Came:
+        return Came(self.calls, self.wrong, self.asked, self.moves, self.own)
+
+
+class Beside:
+    """Clients, each in a thread of its own until the end of a block."""
+
+    def __init__(self, clients: Sequence[Client]) -> None:
+        self.clients, self.threads = clients, [threading.Thread(target=it.run, daemon=True) for it in clients]
+
+    def __enter__(self) -> "Beside":
+        for it in self.threads:
+            it.start()
+        return self
+
+    def __exit__(self, *_why: object) -> None:
+        for it in self.clients:
+            it.until = 0
+        self.join()
+
+    def join(self) -> "Beside":
+        for thread in self.threads:
+            thread.join()
+        return self
+
+    def came(self) -> List[Came]:
+        return [it.result() for it in self.clients]
 
 
 # ---- all clients together
 
 
-def open_shared(address, mark, resource=CRONTABS):
-    """Creates the objects that all edit, and gives the edits that made them."""
-    made = []
-    with Connection(address) as connection:
-        for name in SHARED_NAMES:
-            state = drawn_state(generator(mark, name))
-            code, shown = connection.ask("POST", resource.path_of("v1beta1", SHARED), resource.body_of("v1beta1", name, state))
-            if code == 409:
-                code, shown = connection.ask("GET", resource.path_of("v1beta1", SHARED, name))
-                state = resource.state_of(shown)
-            must(code in (200, 201), f"a shared object isn't created: {code}")
-            made.append((name, 0, number_of(shown), state))
-    return made
+def trimmed(connection: Connection, resource: Resource = CRONTABS) -> str:
+    """What is wrong with a trim to the storage version, if anything: it names an object that stands at another."""
+    definition = connection.expect(200, "GET", resource.definition)
+    stored = [it["name"] for it in definition["spec"]["versions"] if it["storage"]]
+    definition["status"]["storedVersions"] = stored
+    code, shown = connection.ask("PUT", f"{resource.definition}/status", definition)
+    is_taken = code == 200 and shown["status"]["storedVersions"] == stored
+    return "" if is_taken else f"the trim to {stored[0]} is answered {code} {json.dumps(shown)[:200]}"
 
 
-def faults_of_numbers(made, known, is_moved=False):
-    """Whose write each number is. One that nobody wrote is a worker's touch of one object, and comes only with a move."""
-    writers, touched, wrong = {}, {}, []
-    for number, key in [it for one in known for it in one["numbers"]]:
-        if number in writers:
-            wrong.append(f"{key} and {writers[number]} were both written at {number}")
-        writers[number] = key
-    for name, _over, number, _state in made:
-        writers.setdefault(number, (SHARED, name))
-    is_moved = is_moved or any(one["moves"] for one in known)
-    for one in known:
-        shared = [(number, (SHARED, name)) for name, number, _seen, _state in one["reads"]]
-        shared += [(told, (SHARED, name)) for name, told, _seen in one["refusals"]]
-        for number, key in shared + sorted(one["touches"]):
-            if number in writers:
-                if writers[number] != key:
-                    wrong.append(f"{key} is told at {number}, which is that of {writers[number]}")
-            elif not is_moved:
-                wrong.append(f"{key} is told at {number}, at which nobody wrote")
-            elif touched.setdefault(number, key) != key:
-                wrong.append(f"{key} is told at {number}, and {touched[number]} too")
-    return wrong, touched
-
-
-def faults_of_shared(made, known, touched):
-    """What no single connection can know of the objects that all edit, and the edits of each."""
-    wrong = []
-    edits = {name: [] for name in SHARED_NAMES}
-    for name, over, number, state in made + [edit for one in known for edit in one["edits"]]:
-        edits[name].append((number, over, state))
-    for name, each in edits.items():
-        each.sort()
-        for (before, _over, _state), (number, over, _new) in zip(each, each[1:]):
-            if over < before:
-                wrong.append(f"{name}: the edit of number {number} named {over}, and that of {before} is lost")
-    written = {name: [it[0] for it in each] for name, each in edits.items()}
-    stood = {name: list(each) for name, each in written.items()}
-    for number, (namespace, name) in touched.items():
-        if namespace == SHARED:
-            stood[name].append(number)
-    for each in stood.values():
-        each.sort()
-    for one in known:
-        shown = [(name, number, seen) for name, number, seen, _state in one["reads"]] + one["refusals"]
-        for name, number, seen in shown:
-            later = bisect.bisect_right(stood[name], number)
-            if later < len(stood[name]) and stood[name][later] <= seen:
-                wrong.append(f"{one['namespace']}: {name} at {number} is older than what was seen, {seen}")
-        for name, number, _seen, state in one["reads"]:
-            last = bisect.bisect_right(written[name], number) - 1
-            if last < 0 or edits[name][last][2] != state:
-                wrong.append(f"{one['namespace']}: {name} at {number} shows {state}, which wasn't written then")
-    return wrong, edits
-
-
-def faults_of_migration(connection, name, resource):
-    """The last migration succeeds, and then every object stands at its target: no other version has to stay stored."""
+def migration_fault(connection: Connection, name: str, resource: Resource) -> str:
+    """What is wrong with the last migration, if anything: it succeeds, and then every object stands at its target."""
     condition, shown = looked_at(connection, name)
-    if condition != "Succeeded":
-        return [f"the migration {name} is {condition} at the end"]
-    _code, definition = connection.ask("GET", resource.definition)
-    storage = [it["name"] for it in definition["spec"]["versions"] if it["storage"]]
-    if shown["status"]["storageVersion"] != storage[0]:
-        return [f"the migration {name} was to {shown['status']['storageVersion']}, and {storage[0]} is stored"]
-    definition["status"]["storedVersions"] = storage
-    code, shown = connection.ask("PUT", resource.definition + "/status", definition)
-    if code != 200 or shown["status"]["storedVersions"] != storage:
-        return [f"a trim to {storage} behind the migration {name} is answered {code}: {json.dumps(shown)[:300]}"]
-    return []
+    return trimmed(connection, resource) if condition == "Succeeded" else f"the migration {name} is {condition} at the end: {shown}"
 
 
-def rows_at_end(connection, mark, resource):
-    """All objects of this mark, by the pages of one list, or None. A list begins again where its pages are shown no more, as it is
-    where touches of a migration supersede too much of what it shows."""
-    path = f"/apis/example.com/v1/{resource.plural}?limit=500"
-    for _ in range(LISTS):
-        rows, more = {}, ""
-        while True:
-            code, shown = connection.ask("GET", path + more)
-            if code != 200:
-                break
-            for item in shown["items"]:
-                namespace = item["metadata"]["namespace"]
-                if namespace == SHARED or namespace.startswith(mark):
-                    rows[namespace, item["metadata"]["name"]] = number_of(item), resource.state_of(item)
-            token = shown["metadata"]["continue"]
-            if not token:
-                return rows
-            more = f"&continue={token}"
-        if code != 410:
+def pages(client: Client, path: str) -> Optional[Tuple[List[Any], int]]:
+    """All objects of a list, page by page, and its number; none where touches of a migration supersede too much of what it shows."""
+    items, more = [], ""
+    while True:
+        code, shown = client.ask("GET", path + more)
+        if code != 200:
             return None
-    return None
+        items += shown["items"]
+        if not shown["metadata"]["continue"]:
+            return items, number_of(shown)
+        more = f"&continue={shown['metadata']['continue']}"
 
 
-def faults_at_end(address, mark, known, edits, resource=CRONTABS):
-    """What stands at the end: each object that was created and not deleted, as it was written last, and no other of this run."""
-    wrong, moves = [], sum(one["moves"] for one in known)
-    with Connection(address) as connection:
-        if moves:
-            wrong += faults_of_migration(connection, migration_of(mark, moves - 1), resource)
-        rows = rows_at_end(connection, mark.partition("-")[0], resource)
-    if rows is None:
-        return [*wrong, "no list at the end comes to its last page"], 0
-    wanted = {(one["namespace"], name): last for one in known for name, last in one["own"].items()}
-    for name, each in edits.items():
-        wanted[SHARED, name] = each[-1][2], each[-1][0]
-    for key, (state, number) in wanted.items():
-        if key not in rows:
-            wrong.append(f"{key} isn't there at the end")
-        elif rows[key][1] != state or rows[key][0] < number:
-            wrong.append(f"{key} is {rows[key]} at the end, and was written as {state} at {number}")
-    wrong += [f"{key} is there at the end, and was not created" for key in rows if key not in wanted]
-    return wrong, len(rows)
-
-
-def judged(address, mark, made, known, resource=CRONTABS, is_moved=False):
-    """All that was wrong, how many touches were seen, and how many objects stand at the end. Where the storage version `is_moved` by others,
-    a number that no client wrote is that of a touch."""
-    of_numbers, touched = faults_of_numbers(made, known, is_moved)
-    of_shared, edits = faults_of_shared(made, known, touched)
-    at_end, objects = faults_at_end(address, mark, known, edits, resource)
-    return [fault for one in known for fault in one["wrong"]] + of_numbers + of_shared + at_end, len(touched), objects
+def judged(address: Address, mark: str, came: Sequence[Came], resource: Resource = CRONTABS, is_moved: bool = False) -> Tuple[List[str], History]:
+    """All that was wrong, and the history. What stands at the end is looked at as well. Where others move the storage version, it `is_moved`."""
+    calls, moves = [it for one in came for it in one.calls], sum(one.moves for one in came)
+    wrong = [it for one in came for it in one.wrong]
+    last = Client(address, mark, -1)
+    last.resource, last.sent = resource, time.monotonic()
+    if moves:
+        wrong += filter(None, [migration_fault(last.connection, f"{mark}-m{moves - 1}", resource)])
+    begun = time.monotonic()
+    lists = (pages(last, f"/apis/example.com/v1/{resource.plural}?limit=500") for _ in range(LISTS))
+    items, number = next(filter(None, lists), (None, 0))
+    last.connection.close()
+    if items is None:
+        return [*wrong, "no list at the end comes to its last page"], History(calls, True)
+    last.sent = begun
+    own = [it for it in items if f"{mark}-" in (it["metadata"][name][: len(mark) + 1] for name in ("namespace", "name"))]
+    last.keep_items(own, list({it.key for it in calls if it.kind != "list"}))
+    last.keep("list", ("", ""), 200, number)
+    history = History(calls + last.calls, bool(is_moved or moves))
+    return wrong + last.wrong + history.wrong, history

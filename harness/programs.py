@@ -5,7 +5,7 @@ import argparse
 import os
 import pathlib
 import sys
-from typing import Any, Dict, List, Optional, Union
+from typing import Any, Dict, Iterator, List, Optional, Tuple, Union
 
 TOP = pathlib.Path(__file__).resolve().parent.parent
 CRATE = TOP / "crates/kubeconv"
@@ -29,6 +29,15 @@ def parser_of(description: Optional[str], program: Optional[str] = "--program", 
         told = " ".join(map(str, default)) if many.get("nargs") else default
         parser.add_argument(f"--{name.replace('_', '-')}", default=default, help=f"{says} (default: {told})".strip(), **many)
     return parser
+
+
+def tables_of(parser: argparse.ArgumentParser, tables: Dict[str, Any]) -> Iterator[Tuple[Any, argparse.Namespace]]:
+    """What is named by the last words of the options, each of `tables`, or all of these; with the options."""
+    parser.add_argument("tables", nargs="*", metavar="TABLE", help=f"{', '.join(tables)} (default: all)")
+    options = parser.parse_args()
+    if not {*options.tables} <= {*tables}:
+        parser.error(f"there are no {' '.join(options.tables)}")
+    yield from ((tables[it], options) for it in options.tables or tables)
 
 
 def built(path: Optional[str]) -> pathlib.Path:

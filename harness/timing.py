@@ -63,11 +63,8 @@ def is_empty(output: bytes) -> bool:
 
 def rounds_of(rounds: int, tasks: Mapping[Key, Callable[[], Any]]) -> Dict[Key, List[Any]]:
     """What each task came to in each round. All run once before any runs again, so that what disturbs the machine hits all alike."""
-    came: Dict[Key, List[Any]] = {name: [] for name in tasks}
-    for _ in range(rounds):
-        for name, task in tasks.items():
-            came[name].append(task())
-    return came
+    came = [{name: task() for name, task in tasks.items()} for _ in range(rounds)]
+    return {name: [each[name] for each in came] for name in tasks}
 
 
 def best_of(rounds: int, tasks: Mapping[Key, Task]) -> Dict[Key, float]:
@@ -79,11 +76,6 @@ def each_of(rounds: int, works: Mapping[Key, Tuple[Task, Task]]) -> Dict[Key, fl
     """The seconds that each work takes beside another, which is taken off. `works` maps a name to the calls of both."""
     best = best_of(rounds, {call: call for calls in works.values() for call in calls})
     return {name: best[whole] - best[less] for name, (whole, less) in works.items()}
-
-
-def best_rates(rounds: int, tasks: Mapping[Key, Callable[[], Tuple[float, float]]]) -> Dict[Key, Tuple[float, float]]:
-    """The most a second, and the fewest seconds of one, that each task came to."""
-    return {name: (max(it[0] for it in each), min(it[1] for it in each)) for name, each in rounds_of(rounds, tasks).items()}
 
 
 def middle_of(rounds: int, tasks: Mapping[Key, Callable[[], Sequence[float]]]) -> Dict[Key, List[float]]:

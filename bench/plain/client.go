@@ -3,8 +3,8 @@
 //	./plain client ADDRESS CONNECTIONS REQUESTS get|create|mix
 //
 // Says "ready" once each connection has made an object of its own. Then it waits for a line, asks REQUESTS requests in all, and prints the
-// seconds that they took, and of the waits for an answer in microseconds the middle one, the 99th of 100 and the longest. It waits for
-// another line before it ends, so that its connections stand until then. A mix is seven gets, two replaces and a create of ten.
+// seconds that they took, and of the waits for an answer in microseconds the 99th of 100 and the longest. It waits for another line before it
+// ends, so that its connections stand until then. A mix is seven gets, two replaces and a create of ten.
 package main
 
 import (
@@ -24,23 +24,20 @@ import (
 const crontabs = "/apis/example.com/v1/namespaces/default/crontabs"
 
 type caller struct {
-	in     *bufio.Reader
-	out    net.Conn
-	name   string
-	number string
-	made   int
-	waits  []time.Duration
+	in           *bufio.Reader
+	out          net.Conn
+	name, number string
+	waits        []time.Duration
 }
 
 func body(name, number string) string {
-	version := ""
 	if number != "" {
-		version = `,"resourceVersion":"` + number + `"`
+		number = `,"resourceVersion":"` + number + `"`
 	}
-	return `{"apiVersion":"example.com/v1","kind":"CronTab","metadata":{"name":"` + name + `"` + version + `},"host":"localhost","port":"1234","timeoutMillis":3000}`
+	return `{"apiVersion":"example.com/v1","kind":"CronTab","metadata":{"name":"` + name + `"` + number + `},"host":"localhost","port":"1234","timeoutMillis":3000}`
 }
 
-// ask gives the answer's text, and ends the program where its code isn't the wanted one.
+// ask gives the number at which an object is shown, and ends the program where the answer's code isn't the wanted one.
 func (c *caller) ask(wanted int, method, at, text string) string {
 	length := ""
 	if text != "" {
@@ -54,15 +51,7 @@ func (c *caller) ask(wanted int, method, at, text string) string {
 	if err != nil || answer.StatusCode != wanted {
 		try(fmt.Errorf("%s %s is answered %d %s", method, at, answer.StatusCode, came))
 	}
-	return string(came)
-}
-
-func (c *caller) create(name string) {
-	c.number = numberOf(c.ask(201, "POST", crontabs, body(name, "")))
-}
-
-func numberOf(shown string) string {
-	_, rest, _ := strings.Cut(shown, `"resourceVersion":"`)
+	_, rest, _ := strings.Cut(string(came), `"resourceVersion":"`)
 	number, _, _ := strings.Cut(rest, `"`)
 	return number
 }
@@ -71,10 +60,9 @@ func (c *caller) step(kind string, turn int) {
 	start := time.Now()
 	switch {
 	case kind == "create" || kind == "mix" && turn%10 == 9:
-		c.made++
-		c.ask(201, "POST", crontabs, body(c.name+"-"+strconv.Itoa(c.made), ""))
+		c.ask(201, "POST", crontabs, body(c.name+"-"+strconv.Itoa(turn), ""))
 	case kind == "mix" && turn%5 == 3:
-		c.number = numberOf(c.ask(200, "PUT", crontabs+"/"+c.name, body(c.name, c.number)))
+		c.number = c.ask(200, "PUT", crontabs+"/"+c.name, body(c.name, c.number))
 	default:
 		c.ask(200, "GET", crontabs+"/"+c.name, "")
 	}
@@ -87,8 +75,9 @@ func ask(words []string) {
 	for i := range callers {
 		out, err := net.Dial("tcp", address)
 		try(err)
-		callers[i] = &caller{in: bufio.NewReader(out), out: out, name: "c" + strconv.Itoa(i)}
-		callers[i].create(callers[i].name)
+		c := &caller{in: bufio.NewReader(out), out: out, name: "c" + strconv.Itoa(i)}
+		c.number = c.ask(201, "POST", crontabs, body(c.name, ""))
+		callers[i] = c
 	}
 	lines := bufio.NewScanner(os.Stdin)
 	fmt.Println("ready")
@@ -111,6 +100,6 @@ func ask(words []string) {
 		waits = append(waits, c.waits...)
 	}
 	sort.Slice(waits, func(i, j int) bool { return waits[i] < waits[j] })
-	fmt.Println(seconds, waits[len(waits)/2].Microseconds(), waits[len(waits)*99/100].Microseconds(), waits[len(waits)-1].Microseconds())
+	fmt.Println(seconds, waits[len(waits)*99/100].Microseconds(), waits[len(waits)-1].Microseconds())
 	lines.Scan()
 }

@@ -4,7 +4,7 @@
 //
 // It says at which address it listens. A page has so many of its objects as are asked for, each with a text of so many bytes, which are made
 // up as it is answered. A put is answered as one that stores the object anew, and a post as one that creates it, whatever was before.
-// GET /told says how many lists, puts and posts came, and how many puts weren't of an object as it was listed.
+// GET /told says how many puts and posts came, and how many puts weren't of an object as it was listed.
 package main
 
 import (
@@ -19,9 +19,9 @@ import (
 const resource = "/apis/example.com/v1/crontabs"
 
 type made struct {
-	objects                   int
-	text                      string
-	lists, puts, posts, wrong atomic.Int64
+	objects            int
+	text               string
+	puts, posts, wrong atomic.Int64
 }
 
 // The object of this number, at this resource version, by the order of names.
@@ -31,33 +31,27 @@ func (s *made) item(number, version int) []byte {
 }
 
 func (s *made) list(limit, begin int) []byte {
-	s.lists.Add(1)
-	end, token := begin+limit, ""
-	if end < s.objects {
+	end, token := s.objects, ""
+	if begin+limit < end {
+		end = begin + limit
 		token = strconv.Itoa(end)
-	} else {
-		end = s.objects
 	}
-	var page bytes.Buffer
-	page.WriteString(`{"apiVersion":"example.com/v1","items":[`)
+	items := make([][]byte, 0, limit)
 	for number := begin; number < end; number++ {
-		if number > begin {
-			page.WriteByte(',')
-		}
-		page.Write(s.item(number, number+1))
+		items = append(items, s.item(number, number+1))
 	}
-	fmt.Fprintf(&page, `],"kind":"CronTabList","metadata":{"continue":"%s","resourceVersion":"%d"}}`, token, s.objects)
-	return page.Bytes()
+	return []byte(fmt.Sprintf(`{"apiVersion":"example.com/v1","items":[%s],"kind":"CronTabList","metadata":{"continue":"%s","resourceVersion":"%d"}}`,
+		bytes.Join(items, []byte(",")), token, s.objects))
 }
 
 // A put of an object as it was listed.
 func (s *made) put(name string, body []byte) []byte {
 	s.puts.Add(1)
-	number, err := strconv.Atoi(strings.TrimPrefix(name, "o"))
-	if err != nil || !bytes.Equal(body, s.item(number, number+1)) {
+	at := number(strings.TrimPrefix(name, "o"))
+	if !bytes.Equal(body, s.item(at, at+1)) {
 		s.wrong.Add(1)
 	}
-	return s.item(number, s.objects+number+1)
+	return s.item(at, s.objects+at+1)
 }
 
 func (s *made) post(body []byte) []byte {
@@ -67,13 +61,12 @@ func (s *made) post(body []byte) []byte {
 }
 
 func (s *made) answer(request *http.Request, body []byte) (int, interface{}) {
-	switch path := request.URL.Path; {
+	path, query := request.URL.Path, request.URL.Query()
+	switch {
 	case path == "/told":
-		return 200, []byte(fmt.Sprintf(`{"lists":%d,"puts":%d,"posts":%d,"wrong":%d}`, s.lists.Load(), s.puts.Load(), s.posts.Load(), s.wrong.Load()))
+		return 200, document{"puts": s.puts.Load(), "posts": s.posts.Load(), "wrong": s.wrong.Load()}
 	case path == resource:
-		limit, _ := strconv.Atoi(request.URL.Query().Get("limit"))
-		begin, _ := strconv.Atoi(request.URL.Query().Get("continue"))
-		return 200, s.list(limit, begin)
+		return 200, s.list(number(query.Get("limit")), number(query.Get("continue")))
 	case request.Method == "PUT":
 		return 200, s.put(path[strings.LastIndex(path, "/")+1:], body)
 	default:

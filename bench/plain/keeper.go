@@ -33,11 +33,9 @@ type object struct {
 }
 
 type told struct {
-	Lists, Gets, Puts int
-	Posts             int
-	Limits            []int
-	Wrong             []string
-	Old               []string
+	Lists, Gets, Puts, Posts int
+	Limits                   []int
+	Wrong, Old               []string
 }
 
 type keeper struct {
@@ -53,43 +51,26 @@ type keeper struct {
 const managed = `[{"apiVersion":"example.com/v1","fieldsType":"FieldsV1","fieldsV1":{"f:spec":{".":{},"f:text":{},"k:{\"name\":\"x\"}":{}}},
 	"manager":"kubectl <&> ü","operation":"Update","time":"2024-01-01T00:00:00Z"}]`
 
-// The object that a POST gave, as it stands.
-func shownAsGiven(o *object) document {
-	shown, metadata := document{}, document{"resourceVersion": strconv.Itoa(o.number), "uid": "u-" + o.name, "generation": 1,
-		"creationTimestamp": "2024-01-01T00:00:00Z"}
-	for name, value := range o.given["metadata"].(document) {
-		metadata[name] = value
-	}
-	for name, value := range o.given {
-		shown[name] = value
-	}
-	shown["metadata"] = metadata
-	return shown
-}
-
 // The object as it stands.
 func (s *keeper) shown(o *object) document {
+	metadata := document{"resourceVersion": strconv.Itoa(o.number), "uid": "u-" + o.name, "generation": 1, "creationTimestamp": "2024-01-01T00:00:00Z"}
 	if o.given != nil {
-		return shownAsGiven(o)
+		return with(o.given, document{"metadata": with(metadata, o.given["metadata"].(document))})
+	}
+	metadata["name"], metadata["managedFields"] = o.name, read([]byte(managed))
+	if s.mode != "cluster" {
+		metadata["namespace"] = o.namespace
 	}
 	size := json.Number("9007199254740993")
 	if s.mode == "fraction" {
 		size = "1.5"
 	}
-	metadata := document{"name": o.name, "namespace": o.namespace, "resourceVersion": strconv.Itoa(o.number), "uid": "u-" + o.name,
-		"generation": 1, "creationTimestamp": "2024-01-01T00:00:00Z", "managedFields": read([]byte(managed))}
-	if s.mode == "cluster" {
-		delete(metadata, "namespace")
-	}
 	return document{"apiVersion": "example.com/v1", "kind": "CronTab", "metadata": metadata, "spec": document{"text": o.text, "none": nil, "size": size}}
 }
 
-func status(code int, reason, name string) document {
-	refusal := refusal(code, reason)
-	if name != "" {
-		refusal["details"] = document{"group": "example.com", "kind": "crontabs", "name": name}
-	}
-	return refusal
+func refuseOf(code int, reason, name string) (int, interface{}) {
+	_, refusal := refuse(code, reason)
+	return code, with(refusal.(document), document{"details": document{"group": "example.com", "kind": "crontabs", "name": name}})
 }
 
 func (s *keeper) isWrong(format string, words ...interface{}) {
@@ -99,24 +80,21 @@ func (s *keeper) isWrong(format string, words ...interface{}) {
 }
 
 // A token of its own: where the next page begins, in bytes that a query has to escape.
-func (s *keeper) tokenAt(place int) string {
-	return fmt.Sprintf("{\"v\":\"meta.k8s.io/v1\",\"start\":\"%d\\u0000\"} &limit=1#+%%41/ü", place)
-}
+const tokens = "{\"v\":\"meta.k8s.io/v1\",\"start\":\"%d"
 
-func (s *keeper) list(query url.Values) (int, document) {
+func (s *keeper) list(query url.Values) (int, interface{}) {
 	s.told.Lists++
-	limit, _ := strconv.Atoi(query.Get("limit"))
+	limit, begin := number(query.Get("limit")), 0
 	if token := query.Get("continue"); token != "" && token != s.token {
 		s.isWrong("a token that wasn't given: %q", token)
 	}
-	begin := 0
-	fmt.Sscanf(query.Get("continue"), "{\"v\":\"meta.k8s.io/v1\",\"start\":\"%d", &begin)
+	fmt.Sscanf(query.Get("continue"), tokens, &begin)
 	if known := s.told.Limits; len(known) == 0 || known[len(known)-1] != limit {
 		s.told.Limits = append(known, limit)
 	}
 	if begin > 0 && !s.expired {
 		s.expired = true
-		return 410, status(410, "Expired", "")
+		return refuse(410, "Expired")
 	}
 	items, place := []document{}, begin
 	for ; place < len(s.objects) && len(items) < limit; place++ {
@@ -127,7 +105,7 @@ func (s *keeper) list(query url.Values) (int, document) {
 	metadata := document{"resourceVersion": strconv.Itoa(s.number)}
 	s.token = ""
 	if place < len(s.objects) {
-		s.token = s.tokenAt(place)
+		s.token = fmt.Sprintf(tokens+"\\u0000\"} &limit=1#+%%41/ü", place)
 		metadata["continue"], metadata["remainingItemCount"] = s.token, len(s.objects)-place
 	}
 	return 200, document{"apiVersion": "example.com/v1", "kind": "CronTabList", "items": items, "metadata": metadata}
@@ -145,19 +123,19 @@ func (s *keeper) meddle(at int, o *object) {
 	}
 }
 
-func (s *keeper) put(at int, o *object, body []byte) (int, document) {
+func (s *keeper) put(at int, o *object, body []byte) (int, interface{}) {
 	s.told.Puts++
 	given, _ := read(body).(document)
 	metadata, _ := given["metadata"].(document)
-	before, _ := json.Marshal(s.shown(o))
+	before := read(spelled(s.shown(o)))
 	s.meddle(at, o)
 	if o.isGone {
-		return 404, status(404, "NotFound", o.name)
+		return refuseOf(404, "NotFound", o.name)
 	}
 	if metadata["resourceVersion"] != strconv.Itoa(o.number) {
-		return 409, status(409, "Conflict", o.name)
+		return refuseOf(409, "Conflict", o.name)
 	}
-	if !reflect.DeepEqual(read(before), read(body)) {
+	if !reflect.DeepEqual(before, read(body)) {
 		s.isWrong("%s is put as %.300s", o.name, body)
 	}
 	if o.isOld {
@@ -167,8 +145,11 @@ func (s *keeper) put(at int, o *object, body []byte) (int, document) {
 	return 200, s.shown(o)
 }
 
-func (s *keeper) post(namespace string, body []byte) (int, document) {
+func (s *keeper) post(request *http.Request, namespace string, body []byte) (int, interface{}) {
 	s.told.Posts++
+	if kind := request.Header.Get("Content-Type"); kind != "application/json" {
+		s.isWrong("a post of %q", kind)
+	}
 	given, _ := read(body).(document)
 	metadata, _ := given["metadata"].(document)
 	for _, name := range []string{"creationTimestamp", "deletionTimestamp", "generation", "resourceVersion", "uid"} {
@@ -178,12 +159,10 @@ func (s *keeper) post(namespace string, body []byte) (int, document) {
 	}
 	name, _ := metadata["name"].(string)
 	if name == "" || metadata["namespace"] != namespace || given["apiVersion"] != "example.com/v1" {
-		return 400, status(400, "BadRequest", name)
+		return refuseOf(400, "BadRequest", name)
 	}
-	for _, o := range s.objects {
-		if o.namespace == namespace && o.name == name && !o.isGone {
-			return 409, status(409, "AlreadyExists", name)
-		}
+	if _, o := s.find(namespace, name); o != nil && !o.isGone {
+		return refuseOf(409, "AlreadyExists", name)
 	}
 	s.number++
 	o := &object{namespace: namespace, name: name, number: s.number, given: given}
@@ -191,7 +170,17 @@ func (s *keeper) post(namespace string, body []byte) (int, document) {
 	return 201, s.shown(o)
 }
 
-// What a request is answered, by its path.
+// The newest object of a name, and at which place it is.
+func (s *keeper) find(namespace, name string) (int, *object) {
+	for at := len(s.objects) - 1; at >= 0; at-- {
+		if o := s.objects[at]; o.namespace == namespace && o.name == name {
+			return at, o
+		}
+	}
+	return 0, nil
+}
+
+// What a request is answered, by its path: /apis/example.com/v1/namespaces/NAMESPACE/crontabs/NAME, or a front of it.
 func (s *keeper) answer(request *http.Request, body []byte) (int, interface{}) {
 	s.lock.Lock()
 	defer s.lock.Unlock()
@@ -205,27 +194,23 @@ func (s *keeper) answer(request *http.Request, body []byte) (int, interface{}) {
 		}
 		return 200, spelled(s.told)
 	}
-	if path == "/apis/example.com/v1/crontabs" && request.Method == "GET" {
+	parts := strings.Split(path, "/")
+	if path == resource && request.Method == "GET" {
 		return s.list(request.URL.Query())
 	}
-	if parts := strings.Split(path, "/"); len(parts) == 7 && request.Method == "POST" {
-		if kind := request.Header.Get("Content-Type"); kind != "application/json" {
-			s.isWrong("a post of %q", kind)
-		}
-		return s.post(parts[5], body)
+	if len(parts) == 7 && request.Method == "POST" {
+		return s.post(request, parts[5], body)
 	}
-	for at, o := range s.objects {
-		if path != "/apis/example.com/v1/namespaces/"+o.namespace+"/crontabs/"+o.name {
-			continue
-		}
-		if request.Method == "PUT" {
+	if len(parts) == 8 {
+		if at, o := s.find(parts[5], parts[7]); o != nil && request.Method == "PUT" {
 			return s.put(at, o, body)
+		} else if o != nil {
+			s.told.Gets++
+			return 200, s.shown(o)
 		}
-		s.told.Gets++
-		return 200, s.shown(o)
 	}
 	s.isWrong("%s %s", request.Method, path)
-	return 404, status(404, "NotFound", "")
+	return refuse(404, "NotFound")
 }
 
 func keep(words []string) {
@@ -236,8 +221,8 @@ func keep(words []string) {
 	}
 	for at := 0; at < count; at++ {
 		s.number++
-		namespace := namespaces[at*2/count]
-		s.objects = append(s.objects, &object{namespace: namespace, name: fmt.Sprintf("cron-%06d", at), text: strings.Repeat("t", size), number: s.number, isOld: true})
+		o := &object{namespace: namespaces[at*2/count], name: fmt.Sprintf("cron-%06d", at), text: strings.Repeat("t", size), number: s.number, isOld: true}
+		s.objects = append(s.objects, o)
 	}
 	listen(s.answer)
 }

@@ -13,6 +13,7 @@ import (
 	"encoding/json"
 	"fmt"
 	"net"
+	"regexp"
 	"runtime"
 	"strings"
 	"syscall"
@@ -29,11 +30,10 @@ type page struct {
 }
 
 type client struct {
-	peer      syscall.SockaddrInet4
-	answer    []byte
-	exchanges int
-	seconds   time.Duration
-	processor time.Duration
+	peer               syscall.SockaddrInet4
+	answer             []byte
+	exchanges          int
+	seconds, processor time.Duration
 }
 
 // The processor time of this thread.
@@ -54,15 +54,12 @@ func (c *client) exchange(asked []byte) {
 		sent += count
 	}
 	c.answer = c.answer[:0]
-	for {
+	for count := 1; count > 0; {
 		if cap(c.answer)-len(c.answer) < 1<<16 {
 			c.answer = append(make([]byte, 0, 2*cap(c.answer)+1<<16), c.answer...)
 		}
-		count, err := syscall.Read(peer, c.answer[len(c.answer):cap(c.answer)])
+		count, err = syscall.Read(peer, c.answer[len(c.answer):cap(c.answer)])
 		try(err)
-		if count == 0 {
-			break
-		}
 		c.answer = c.answer[:len(c.answer)+count]
 	}
 	try(syscall.Close(peer))
@@ -81,29 +78,11 @@ func (c *client) ask(method, target string, body []byte) (string, []byte) {
 	return strings.Fields(string(first))[1], rest
 }
 
-// All but letters and digits, escaped.
+// All bytes but letters and digits, escaped.
 func escaped(token string) string {
-	out := ""
-	for _, b := range []byte(token) {
-		if b >= '0' && b <= '9' || b >= 'A' && b <= 'Z' || b >= 'a' && b <= 'z' {
-			out += string(rune(b))
-		} else {
-			out += fmt.Sprintf("%%%02X", b)
-		}
-	}
-	return out
-}
-
-func (c *client) putAll(path string, items []json.RawMessage) {
-	place := strings.LastIndex(path, "/")
-	for _, text := range items {
-		var it item
-		try(json.Unmarshal(text, &it))
-		target := path[:place] + "/namespaces/" + it.Metadata.Namespace + path[place:] + "/" + it.Metadata.Name
-		if code, body := c.ask("PUT", target, text); code != "200" {
-			try(fmt.Errorf("a put is answered %s %s", code, body))
-		}
-	}
+	return regexp.MustCompile(`[^0-9A-Za-z]`).ReplaceAllStringFunc(token, func(it string) string {
+		return "%" + strings.ReplaceAll(fmt.Sprintf("% X", it), " ", "%")
+	})
 }
 
 func migrate(words []string) {
@@ -112,24 +91,24 @@ func migrate(words []string) {
 	try(err)
 	c := &client{peer: syscall.SockaddrInet4{Port: address.Port}}
 	copy(c.peer.Addr[:], address.IP.To4())
-	path, more := words[1], ""
-	for {
+	path, more, place := words[1], "", strings.LastIndex(words[1], "/")
+	for is_last := false; !is_last; {
 		code, body := c.ask("GET", path+"?limit=500"+more, nil)
 		if code == "410" {
 			more = ""
 			continue
 		}
-		var it page
-		try(json.Unmarshal(body, &it))
-		items := make([]json.RawMessage, 0, len(it.Items))
-		for _, text := range it.Items {
-			items = append(items, append(json.RawMessage{}, text...))
+		var listed page
+		try(json.Unmarshal(body, &listed))
+		for _, text := range listed.Items {
+			var it item
+			try(json.Unmarshal(text, &it))
+			target := path[:place] + "/namespaces/" + it.Metadata.Namespace + path[place:] + "/" + it.Metadata.Name
+			if code, body := c.ask("PUT", target, text); code != "200" {
+				try(fmt.Errorf("a put is answered %s %s", code, body))
+			}
 		}
-		c.putAll(path, items)
-		if it.Metadata.Continue == "" {
-			break
-		}
-		more = "&continue=" + escaped(it.Metadata.Continue)
+		more, is_last = "&continue="+escaped(listed.Metadata.Continue), listed.Metadata.Continue == ""
 	}
 	fmt.Println(c.exchanges, c.seconds.Seconds(), c.processor.Seconds())
 }

@@ -32,6 +32,7 @@ func try(err error) {
 	}
 }
 
+// The number that a word is, or nought.
 func number(word string) int {
 	found, _ := strconv.Atoi(word)
 	return found
@@ -58,8 +59,19 @@ func spelled(value interface{}) []byte {
 	return text
 }
 
-func refusal(code int, reason string) document {
-	return document{"apiVersion": "v1", "kind": "Status", "status": "Failure", "reason": reason, "code": code, "metadata": document{}}
+// A copy of a document, with these fields in the place of its own.
+func with(given, fields document) document {
+	copied := make(document, len(given)+len(fields))
+	for _, from := range []document{given, fields} {
+		for name, value := range from {
+			copied[name] = value
+		}
+	}
+	return copied
+}
+
+func refuse(code int, reason string) (int, interface{}) {
+	return code, document{"apiVersion": "v1", "kind": "Status", "status": "Failure", "reason": reason, "code": code, "metadata": document{}}
 }
 
 // What answers a request with its body, by a code and a value.

@@ -31,11 +31,7 @@ type server struct {
 
 // The same object at the other version: `host` at v1 is `address` at v1beta1.
 func converted(o document, version, from, to string) document {
-	copied := make(document, len(o))
-	for name, value := range o {
-		copied[name] = value
-	}
-	copied["apiVersion"] = "example.com/" + version
+	copied := with(o, document{"apiVersion": "example.com/" + version})
 	if value, has := copied[from]; has {
 		delete(copied, from)
 		copied[to] = value
@@ -43,8 +39,8 @@ func converted(o document, version, from, to string) document {
 	return copied
 }
 
-func toHub(o document, version string) document {
-	if version == "v1" {
+func toHub(o document) document {
+	if o["apiVersion"] == "example.com/v1" {
 		return o
 	}
 	return converted(o, "v1", "address", "host")
@@ -57,31 +53,19 @@ func shown(o document, version string) document {
 	return converted(o, version, "host", "address")
 }
 
-func refuse(code int, reason string) (int, interface{}) {
-	return code, refusal(code, reason)
-}
-
 func (s *server) list(version string, limit int) (int, interface{}) {
 	sort.Strings(s.names)
 	items := make([]document, 0, limit)
-	for _, name := range s.names {
-		if len(items) == limit {
-			break
-		}
-		items = append(items, shown(s.objects[name], version))
+	for at := 0; at < len(s.names) && at < limit; at++ {
+		items = append(items, shown(s.objects[s.names[at]], version))
 	}
-	return 200, document{
-		"apiVersion": "example.com/" + version, "kind": "CronTabList", "items": items,
-		"metadata": document{"resourceVersion": strconv.Itoa(s.number)},
-	}
+	metadata := document{"resourceVersion": strconv.Itoa(s.number)}
+	return 200, document{"apiVersion": "example.com/" + version, "kind": "CronTabList", "items": items, "metadata": metadata}
 }
 
 func (s *server) write(code int, version, name string, o document) (int, interface{}) {
-	if o == nil || o["apiVersion"] != "example.com/"+version || o["kind"] != "CronTab" {
-		return refuse(400, "BadRequest")
-	}
 	metadata, has := o["metadata"].(document)
-	if !has {
+	if !has || o["apiVersion"] != "example.com/"+version || o["kind"] != "CronTab" {
 		return refuse(400, "BadRequest")
 	}
 	given, _ := metadata["name"].(string)
@@ -93,8 +77,7 @@ func (s *server) write(code int, version, name string, o document) (int, interfa
 		return refuse(409, "Conflict")
 	}
 	s.number++
-	metadata["namespace"] = "default"
-	metadata["generation"] = 1
+	metadata["namespace"], metadata["generation"] = "default", 1
 	metadata["creationTimestamp"] = time.Now().UTC().Format(time.RFC3339)
 	metadata["uid"] = fmt.Sprintf("00000000-0000-4000-8000-%012x", s.number)
 	if stands {
@@ -102,13 +85,12 @@ func (s *server) write(code int, version, name string, o document) (int, interfa
 		if number := metadata["resourceVersion"]; number != nil && number != before["resourceVersion"] {
 			return refuse(409, "Conflict")
 		}
-		metadata["creationTimestamp"] = before["creationTimestamp"]
-		metadata["uid"] = before["uid"]
+		metadata["creationTimestamp"], metadata["uid"] = before["creationTimestamp"], before["uid"]
 	} else {
 		s.names = append(s.names, name)
 	}
 	metadata["resourceVersion"] = strconv.Itoa(s.number)
-	s.objects[name] = toHub(o, version)
+	s.objects[name] = toHub(o)
 	return code, shown(s.objects[name], version)
 }
 

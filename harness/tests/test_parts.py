@@ -15,11 +15,11 @@ from harness import told
 from harness.client import Connection, Gone, address_of, answers_in, messages_of, request
 from harness.crontabs import CERTIFICATES, CRONTABS, drawn_state, generator, migration, moved
 from harness.documents import definition_of, files_of, list_of, name_of, object_schema, spelled
-from harness.programs import TOP, built, parser_of
+from harness.programs import TOP, built, parser_of, tables_of
 from harness.progress import Progress
 from harness.server import Listening
 from harness.tables import Firsts, Table
-from harness.timing import best_of, best_rates, each_of, is_empty, middle_of, ran, run_of
+from harness.timing import best_of, each_of, is_empty, middle_of, ran, run_of
 
 TWO = b"HTTP/1.1 201 Created\r\ncontent-length: 7\r\nX: Y\r\n\r\n{\"a\":1}HTTP/1.1 404 Not Found\r\nContent-Length: 0\r\n\r\n"
 
@@ -103,7 +103,6 @@ class Runs(unittest.TestCase):
         self.assertEqual(best_of(2, tasks), {"a": 3.0, "b": 1.0})
         whole, less = (lambda: 5.0), (lambda: 2.0)
         self.assertEqual(each_of(2, {"x": (whole, less)}), {"x": 3.0})
-        self.assertEqual(best_rates(1, {"x": lambda: (7.0, 2.0)}), {"x": (7.0, 2.0)})
         self.assertEqual(middle_of(3, {"x": lambda: (1.0, 2.0)}), {"x": [1.0, 2.0]})
 
     def test_a_program_that_listens(self):
@@ -126,6 +125,9 @@ class Runs(unittest.TestCase):
         self.assertEqual((options.runs, options.sizes, options.most_bytes, options.program), (3, [3], 7, None))
         self.assertEqual(parser_of("x", "program").parse_args(["p"]).program, "p")
         self.assertIn("what (default: 7)", parser.format_help())
+        sys.argv, words = ["x", "b"], sys.argv
+        self.assertEqual([it for it, _ in tables_of(parser, {"a": 1, "b": 2})], [2])
+        sys.argv = words
         with self.assertRaises(SystemExit):
             built("/nowhere")
 
@@ -174,7 +176,3 @@ class Told(unittest.TestCase):
         with contextlib.redirect_stderr(io.StringIO()), self.assertRaises(SystemExit) as ended:
             told.end()
         self.assertEqual(ended.exception.code, 1)
-
-
-if __name__ == "__main__":
-    unittest.main()
