@@ -18,7 +18,7 @@ import subprocess
 import sys
 import tempfile
 import time
-from typing import Any, Callable, Dict, Iterator, List, NamedTuple, Tuple
+from typing import Any, Callable, Dict, Iterator, List, Tuple
 
 TOP = pathlib.Path(__file__).resolve().parent.parent
 # So many seconds something is waited for.
@@ -38,24 +38,21 @@ esac
 """
 # The compiler and the prover: each notes its words, and may keep the program.
 BUILDER = """import pathlib, subprocess, sys
-top = pathlib.Path(__file__).resolve().parent.parent
+here = pathlib.Path(__file__).resolve()
+top = here.parent.parent
 with open(top / "asked", "a") as it:
-    it.write(f"{pathlib.Path(__file__).name} {' '.join(sys.argv[1:])}\\n")
+    it.write(f"{here.name} {' '.join(sys.argv[1:])}\\n")
 status = int((top / "status").read_text())
-if "--behind" not in sys.argv and (not status or pathlib.Path(__file__).name == "build.py"):
-    kind = "proved" if status else "first"
-    subprocess.run(["sh", "-c", f'top=$0 && . "$top/tools/kept.sh" && begin "$top/begun" && keep {kind} "$top/fake" "$top/begun"', str(top)], check=True)
-    status = 0
+if "--behind" not in sys.argv and (not status or here.name == "build.py"):
+    status = subprocess.run(["sh", "-c", (top / "keep").read_text(), top, "proved" if status else "first"]).returncode
 sys.exit(status)
 """
 
 
-class Came(NamedTuple):
-    """What came of a run."""
-
-    status: int
-    output: str
-    errors: str
+# The words by which a shell keeps the program as one of a kind.
+KEEP = 'top=$0 && . "$top/tools/kept.sh" && begin "$top/begun" && keep "$1" "$top/fake" "$top/begun"'
+# The status, the output and what was told on standard error.
+Came = Tuple[int, str, str]
 
 
 class Wrong(Exception):
@@ -85,15 +82,14 @@ class Folder:
             (room / "crates/one" / it).parent.mkdir(parents=True, exist_ok=True)
             (room / "crates/one" / it).write_text("")
         self.script("fake", PROGRAM)
-        for name, text in (("crates.txt", "one:\n"), ("HANDLES", ""), ("status", str(fails)), ("asked", "")):
+        for name, text in (("crates.txt", "one:\n"), ("HANDLES", ""), ("status", str(fails)), ("asked", ""), ("keep", KEEP)):
             (room / name).write_text(text)
-        for it in ("compile.py", "build.py"):
-            (room / "tools" / it).write_text(BUILDER)
+        for name in ("compile.py", "build.py"):
+            (room / "tools" / name).write_text(BUILDER)
         self.script("bin/rt", "#!/bin/sh\n")
         self.env = {"PATH": f"{room}/bin:{os.environ['PATH']}", "PYTHONDONTWRITEBYTECODE": "1"}
         if kind:
-            words = f'top=$0 && . "$top/tools/kept.sh" && begin "$top/begun" && keep {kind} "$top/fake" "$top/begun"'
-            subprocess.run(["sh", "-c", words, room], check=True)
+            subprocess.run(["sh", "-c", KEEP, room, kind], check=True)
 
     def script(self, name: str, text: str) -> None:
         (self.top / name).parent.mkdir(exist_ok=True)
@@ -101,9 +97,8 @@ class Folder:
         (self.top / name).chmod(0o755)
 
     def run(self, *words: str, **how: Any) -> Came:
-        how = {"stdin": subprocess.DEVNULL, "env": self.env, **how} if "input" not in how else {"env": self.env, **how}
-        ran = subprocess.run([self.top / "kubeconv", *words], stdout=subprocess.PIPE, stderr=subprocess.PIPE, text=True, timeout=PATIENCE, **how)
-        return Came(ran.returncode, ran.stdout, ran.stderr)
+        ran = subprocess.run([self.top / "kubeconv", *words], env=self.env, capture_output=True, text=True, timeout=PATIENCE, **(how or {"stdin": subprocess.DEVNULL}))
+        return ran.returncode, ran.stdout, ran.stderr
 
     def started(self, *words: str) -> "subprocess.Popen[str]":
         return subprocess.Popen([self.top / "kubeconv", *words], env=self.env, stdin=subprocess.DEVNULL, stdout=subprocess.PIPE, stderr=subprocess.PIPE, text=True)
@@ -140,16 +135,16 @@ def no_line() -> None:
     """No words, and a first word that begins no line, are refused, and nothing is built or summed."""
     with folder() as it:
         for words in ([], [""], ["x"], ["pip"], ["pipes"], ["-h"], ["--x"], ["pipe "], ["Pipe"], ["p.pe"], ["[a-z]*"], ["--help", "x"], ["--help,"], ["x", "--help"], ["--version", ""]):
-            same(f"words {words}", it.run(*words), Came(2, "", REFUSED + lines_of()))
+            same(f"words {words}", it.run(*words), (2, "", REFUSED + lines_of()))
         same("builders", (it.asked(), (it.top / "out").exists()), ([], False))
 
 
 def helps() -> None:
     """--help, and that of a command, is answered from the table, and nothing is built."""
     with folder() as it:
-        same("--help", it.run("--help"), Came(0, lines_of(), ""))
+        same("--help", it.run("--help"), (0, lines_of(), ""))
         for word in ("pipe", "serve", "drill", "load"):
-            same(f"{word} --help", it.run(word, "--help"), Came(0, lines_of(word), ""))
+            same(f"{word} --help", it.run(word, "--help"), (0, lines_of(word), ""))
         same("builders", (it.asked(), (it.top / "out").exists()), ([], False))
 
 
@@ -157,10 +152,10 @@ def versions() -> None:
     """--version tells the commit and the kind of program, and nothing is built."""
     for kind, told in (("", "not built"), ("first", "compiled"), ("compiled", "compiled"), ("proved", "proved")):
         with folder(kind) as it:
-            same(f"--version, {kind}", it.run("--version"), Came(0, f"kubeconv of no commit, {told}\n", ""))
+            same(f"--version, {kind}", it.run("--version"), (0, f"kubeconv of no commit, {told}\n", ""))
             subprocess.run("git init -q && git add . && git -c user.name=n -c user.email=e commit -qm m && git tag v1", shell=True, check=True, cwd=it.top)
             commit = subprocess.run(["git", "rev-parse", "--short=12", "HEAD"], cwd=it.top, stdout=subprocess.PIPE, text=True, check=True).stdout.strip()
-            same(f"--version, {kind}", it.run("--version"), Came(0, f"kubeconv {commit}, {told}\n", ""))
+            same(f"--version, {kind}", it.run("--version"), (0, f"kubeconv {commit}, {told}\n", ""))
             same("builders", it.asked(), [])
 
 
@@ -168,11 +163,11 @@ def passes_on() -> None:
     """Words, input, output and status are the program's, also by a symbolic link, from elsewhere, and without an input."""
     with folder("proved") as it:
         words = ["drill", "a b", "", "*", "--x=1"]
-        same("words", it.run(*words), Came(0, "drill a b  * --x=1\n", ""))
-        same("input", it.run("pipe", "cat", input="one\ntwo"), Came(0, "one\ntwo", ""))
+        same("words", it.run(*words), (0, "drill a b  * --x=1\n", ""))
+        same("input", it.run("pipe", "cat", input="one\ntwo"), (0, "one\ntwo", ""))
         for status in (0, 1, 3, 13):
-            same("status", it.run("pipe", "status", str(status), "--rules"), Came(status, "", ""))
-        same("its refusal", it.run("pipe", "bad"), Came(2, "", REFUSED + lines_of()))
+            same("status", it.run("pipe", "status", str(status), "--rules"), (status, "", ""))
+        same("its refusal", it.run("pipe", "bad"), (2, "", REFUSED + lines_of()))
         link = it.top / "elsewhere/linked"
         link.parent.mkdir()
         link.symlink_to("../kubeconv")
@@ -186,7 +181,7 @@ def tells_kinds() -> None:
     """A program that isn't proved says so on each run; the first one has the other made behind it."""
     for kind in ("first", "compiled"):
         with folder(kind) as it:
-            same(kind, it.run("drill", "1"), Came(0, "drill 1\n", UNPROVED))
+            same(kind, it.run("drill", "1"), (0, "drill 1\n", UNPROVED))
             if kind == "first":
                 until(lambda: it.asked() == ["compile.py --behind"], "the other program")
             same("asked", it.asked(), ["compile.py --behind"] if kind == "first" else [])
@@ -196,14 +191,14 @@ def builds() -> None:
     """Where no program stands one is compiled, and proved where that fails, but not where it was interrupted; without rt nothing is tried."""
     compiled, proved = "compile.py --first", "build.py --log {}/out/build.log"
     with folder() as it:
-        same("compiled", it.run("drill", "1"), Came(0, "drill 1\n", UNPROVED))
+        same("compiled", it.run("drill", "1"), (0, "drill 1\n", UNPROVED))
         same("asked", it.asked()[0], compiled)
     with folder(fails=1) as it:
         came = it.run("drill", "1")
-        same("proved", (came.status, came.output), (0, "drill 1\n"))
+        same("proved", came[:2], (0, "drill 1\n"))
         same("asked", it.asked(), [compiled, proved.format(it.top)])
     with folder(fails=143) as it:
-        same("interrupted", it.run("drill", "1"), Came(143, "", ""))
+        same("interrupted", it.run("drill", "1"), (143, "", ""))
         same("asked", it.asked(), [compiled])
     with folder() as it:
         for name in ("dirname", "readlink", "sed", "find", "sort", "sha256sum", "grep", "cut", "touch", "mv", "rm", "mkdir", "cat", "git", "setpriv", "echo", "python3"):
@@ -213,7 +208,7 @@ def builds() -> None:
         (it.top / "bin/rt").unlink()
         it.env["PATH"] = f"{it.top}/bin"
         came = it.run("drill", "1")
-        same("without rt", (came.status, came.output, came.errors.count("\n"), it.asked()), (1, "", 1, []))
+        same("without rt", (came[0], came[1], came[2].count("\n"), it.asked()), (1, "", 1, []))
 
 
 def ends() -> None:

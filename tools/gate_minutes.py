@@ -28,138 +28,101 @@ the end, so that a run that is cut off leaves its table too. Linux only.
 """
 import contextlib
 import os
+import pathlib
 import re
 import resource
 import subprocess
 import sys
-import threading
 import time
-from typing import Dict, Iterable, List, Optional, Set, Tuple
+from typing import Dict, Iterator, List, Optional, Set, Tuple
 
-LOOK_SECONDS = 0.5
-LOG_LOOKS = 120
+LOOK_SECONDS, LOG_SECONDS = 0.5, 60
 # With --tell: so often it looks, and tells, in seconds.
 TELL_LOOK, TELL_SECONDS = 5, 600
 # The work of a proof is its lines and these, which is what it reads of others; an edit is as much work, on the average, as so many lines.
 PROOF_LINES, EDIT_LINES = 1_000, 1_200
 TICKS = os.sysconf("SC_CLK_TCK")
 KINDS = ("proof", "tests", "edits")
-# What each process, by its number and when it began, was seen to do, and for how many seconds; and what it does.
+EDIT = "rt-edit-"
+# What may be asked of a process that has ended meanwhile.
+GONE = (OSError, ValueError, IndexError)
+# For how many seconds each process, by its number and when it began, was seen to check a crate, and for what.
 Seen = Dict[Tuple[int, str], Tuple[str, str, float]]
-Known = Dict[Tuple[int, str], Optional[Tuple[str, str]]]
 
 
-def parents() -> Dict[int, int]:
-    """Returns the parent of each process."""
-    found = {}
-    for name in os.listdir("/proc"):
-        if name.isdigit():
-            try:
-                with open(f"/proc/{name}/stat") as it:
-                    found[int(name)] = int(it.read().rpartition(")")[2].split()[1])
-            except (OSError, ValueError, IndexError):
-                # it ended meanwhile
-                pass
-    return found
+# ---- what goes on
+
+
+def stat_of(pid: int) -> List[str]:
+    """What the system tells of a process, from its state on."""
+    return pathlib.Path(f"/proc/{pid}/stat").read_text().rpartition(")")[2].split()
 
 
 def below(root: int) -> List[int]:
-    """Returns the processes that come from one, itself left out."""
+    """The processes that come from one, itself left out."""
     children: Dict[int, List[int]] = {}
-    for pid, parent in parents().items():
-        children.setdefault(parent, []).append(pid)
-    found, left = [], [root]
-    while left:
-        for it in children.get(left.pop(), []):
-            found.append(it)
-            left.append(it)
-    return found
+    for pid in map(int, filter(str.isdigit, os.listdir("/proc"))):
+        with contextlib.suppress(*GONE):
+            children.setdefault(int(stat_of(pid)[1]), []).append(pid)
+    found = [root]
+    for it in found:
+        found += children.get(it, [])
+    return found[1:]
+
+
+def folder_of(pid: int) -> str:
+    """The name of the folder that a process works in."""
+    return os.path.basename(os.readlink(f"/proc/{pid}/cwd"))
 
 
 def kind_of(pid: int) -> Optional[Tuple[str, str]]:
-    """Returns the crate that the process checks or builds, and for what, or None."""
-    with open(f"/proc/{pid}/cmdline", "rb") as it:
-        words = it.read().decode(errors="replace").split("\0")
+    """The crate that a process checks or builds, and for what, or None."""
+    words = pathlib.Path(f"/proc/{pid}/cmdline").read_text(errors="replace").split("\0")
     if "--crate-name" not in words or "rattle" not in os.path.basename(words[0]):
         return None
-    crate = words[words.index("--crate-name") + 1]
-    if os.path.basename(os.readlink(f"/proc/{pid}/cwd")).startswith("rt-edit-"):
-        return crate, "edits"
-    return crate, "tests" if "--test" in words else "proof"
+    kind = "edits" if folder_of(pid).startswith(EDIT) else "tests" if "--test" in words else "proof"
+    return words[words.index("--crate-name") + 1], kind
 
 
-def seconds_of(pid: int) -> Tuple[str, float]:
-    """Returns when the process began, and the processor time of it and of what it waited for."""
-    with open(f"/proc/{pid}/stat") as it:
-        words = it.read().rpartition(")")[2].split()
-    return words[19], sum(int(words[at]) for at in (11, 12, 13, 14)) / TICKS
-
-
-def look(root: int, seen: Seen, known: Known) -> None:
-    """Notes what each process below the root has taken until now."""
+def look(root: int, seen: Seen) -> None:
+    """Notes what each process below the root, and what it waited for, has taken until now."""
     for pid in below(root):
-        try:
-            began, seconds = seconds_of(pid)
-            # (a process becomes another program once, right after it began)
-            if known.get((pid, began)) is None:
-                known[pid, began] = kind_of(pid)
-            if known[pid, began]:
-                seen[pid, began] = (*known[pid, began], seconds)
-        except (OSError, ValueError, IndexError):
-            pass
+        with contextlib.suppress(*GONE):
+            stat = stat_of(pid)
+            kind = seen[pid, stat[19]][:2] if (pid, stat[19]) in seen else kind_of(pid)
+            if kind:
+                seen[pid, stat[19]] = (*kind, sum(map(int, stat[11:15])) / TICKS)
 
 
-def note(log: Optional[str], seen: Seen) -> None:
-    """Writes the looks into the file, if there is one."""
-    if log:
-        with open(f"{log}.new", "w") as it:
-            it.writelines(f"{crate} {kind} {seconds:.2f}\n" for crate, kind, seconds in seen.values())
-        os.replace(f"{log}.new", log)
-
-
-def watch(root: int, ended: threading.Event, seen: Seen, log: Optional[str]) -> None:
-    known: Known = {}
-    looks = 0
-    while not ended.wait(LOOK_SECONDS):
-        look(root, seen, known)
-        looks += 1
-        if looks % LOG_LOOKS == 0:
-            note(log, seen)
-
-
-def edits_of(crate: str) -> int:
-    try:
-        return sum(it.endswith(".edit") for it in os.listdir(f"crates/{crate}/must-fail"))
-    except OSError:
-        return 0
-
-
-def has_tests(crate: str) -> bool:
-    for at, _, names in os.walk(f"crates/{crate}/src"):
-        for name in names:
-            with open(f"{at}/{name}", errors="replace") as it:
-                if re.search(r"^\s*#\[test\]", it.read(), re.MULTILINE):
-                    return True
-    return False
+# ---- the crates
 
 
 def order() -> List[str]:
-    """Returns the crates of crates.txt, in its order."""
-    try:
-        with open("crates.txt") as it:
-            lines = [line.split("#")[0].partition(":") for line in it]
-    except OSError:
-        return []
-    return [words[0].split()[0] for words in lines if words[1] and words[0].split()]
+    """The crates of crates.txt, in its order."""
+    with contextlib.suppress(OSError):
+        lines = [line.split("#")[0].partition(":") for line in pathlib.Path("crates.txt").read_text().split("\n")]
+        return [head.split()[0] for head, colon, _ in lines if colon and head.split()]
+    return []
 
 
-def table(seen: Iterable[Tuple[str, str, float]]) -> None:
+def files(crate: str, *parts: str) -> Iterator[bytes]:
+    """The texts of these folders of a crate."""
+    return (it.read_bytes() for part in parts for it in pathlib.Path("crates", crate, part).rglob("*") if it.is_file())
+
+
+def edits_of(crate: str) -> int:
+    return len(list(pathlib.Path("crates", crate, "must-fail").glob("*.edit")))
+
+
+def has_tests(crate: str) -> bool:
+    return any(re.search(rb"^\s*#\[test\]", it, re.M) for it in files(crate, "src"))
+
+
+def table(seen: List[Tuple[str, str, float]]) -> None:
     """Prints the minutes of each crate, as CONTRIBUTING.md has them."""
     minutes: Dict[str, Dict[str, float]] = {}
-    each = dict.fromkeys(KINDS, 0.0)
     for crate, kind, seconds in seen:
         minutes.setdefault(crate, dict.fromkeys(KINDS, 0.0))[kind] += seconds / 60
-        each[kind] += seconds / 60
     listed = order()
     print("| crate | proof | tests | edits |\n|---|---|---|---|")
     for crate in sorted(minutes, key=lambda it: (listed.index(it) if it in listed else len(listed), it)):
@@ -169,35 +132,16 @@ def table(seen: Iterable[Tuple[str, str, float]]) -> None:
             cells[1] = "none"
         cells[2] = f"{cells[2]}, {count}" if of["edits"] or count else "none"
         print(f"| `{crate}` | {' | '.join(cells)} |")
-    print(f"| all | {' | '.join(f'{each[it]:.1f}' for it in KINDS)} |")
+    each = [sum(of[it] for of in minutes.values()) for it in KINDS]
+    print(f"| all | {' | '.join(f'{it:.1f}' for it in each)} |")
     unseen = [it for it in listed if it not in minutes]
     if unseen:
         print(f"\nNothing was seen of these, since an earlier run kept them, or this one was stopped: {', '.join(unseen)}.")
     over = [it for it in minutes if sum(minutes[it].values()) > 10]
-    print(f"\nBy looks: {sum(each.values()):.0f} processor minutes. Over ten in all: {', '.join(sorted(over)) or 'no crate'}.")
+    print(f"\nBy looks: {sum(each):.0f} processor minutes. Over ten in all: {', '.join(sorted(over)) or 'no crate'}.")
 
 
 # ---- how long it takes
-
-
-def lines_of(crate: str, *parts: str) -> int:
-    """The lines of these folders of a crate."""
-    lines = 0
-    for part in parts:
-        for at, _, names in os.walk(f"crates/{crate}/{part}"):
-            for name in names:
-                with open(f"{at}/{name}", "rb") as it:
-                    lines += it.read().count(b"\n")
-    return lines
-
-
-def edit_of(pid: int) -> str:
-    """The folder in which a process tries an edit, or nothing."""
-    try:
-        name = os.path.basename(os.readlink(f"/proc/{pid}/cwd"))
-    except OSError:
-        return ""
-    return name if name.startswith("rt-edit-") else ""
 
 
 class Work:
@@ -205,10 +149,10 @@ class Work:
     edits, then, unless one was seen to be tried: a run that was cut off may have proved a crate and not tried its edits."""
 
     def __init__(self) -> None:
-        self.crates = order()
-        self.lines = {it: PROOF_LINES + lines_of(it, "src", "specs", "proofs") for it in self.crates}
-        self.tests = {it: self.lines[it] for it in self.crates if has_tests(it)}
-        self.edits = {it: edits_of(it) for it in self.crates}
+        self.edits = {it: edits_of(it) for it in order()}
+        # (the tests of a crate are proved beside it, so they stand about as early)
+        lines = {it: PROOF_LINES + sum(text.count(b"\n") for text in files(it, "src", "specs", "proofs")) for it in self.edits}
+        self.lines = {it: lines[it] * (2 if has_tests(it) else 1) for it in lines}
         self.began: Set[str] = set()
         self.editing: Set[str] = set()
         self.tried: Dict[str, bool] = {}
@@ -217,37 +161,30 @@ class Work:
         """Notes what is going on."""
         going = set()
         for pid in below(root):
-            edit, found = edit_of(pid), None
-            with contextlib.suppress(OSError, ValueError, IndexError):
+            with contextlib.suppress(*GONE):
+                folder = folder_of(pid)
+                is_edit = folder.startswith(EDIT)
+                if is_edit:
+                    going.add(folder)
                 found = kind_of(pid)
-            if edit:
-                going.add(edit)
-            if found:
-                (self.editing if edit else self.began).add(found[0])
+                if found:
+                    (self.editing if is_edit else self.began).add(found[0])
         self.tried = {it: it not in going for it in {*self.tried, *going}}
-
-    def standing(self) -> Set[str]:
-        """The crates that stand."""
-        return {it for it in self.crates if os.path.isdir(f"crates/{it}/out/rlib") or os.path.isfile(f"crates/{it}/out/{it}")}
 
     def told(self, seconds: float) -> str:
         """How far it is after so many seconds, and how long the rest takes."""
-        stand = self.standing()
-        kept = stand - self.began
-        to_do = [it for it in self.crates if it not in kept]
-        edits = sum(self.edits[it] for it in {*to_do, *self.editing})
-        whole = sum(self.lines[it] + self.tests.get(it, 0) for it in to_do) + EDIT_LINES * edits
-        proved = stand & self.began
-        tried = sum(self.tried.values())
-        # (the tests of a crate are proved beside it, so they stand about as early)
-        done = sum(self.lines[it] + self.tests.get(it, 0) for it in proved) + EDIT_LINES * tried
+        stand = {it for it in self.lines if os.path.isdir(f"crates/{it}/out/rlib") or os.path.isfile(f"crates/{it}/out/{it}")}
+        kept, proved = stand - self.began, stand & self.began
+        to_do = [it for it in self.lines if it not in kept]
+        edits, tried = sum(self.edits[it] for it in {*to_do, *self.editing}), sum(self.tried.values())
+        whole = sum(self.lines[it] for it in to_do) + EDIT_LINES * edits
+        done = sum(self.lines[it] for it in proved) + EDIT_LINES * tried
         text = f"after {seconds / 60:.0f} minutes {len(proved)} of {len(to_do)} crates are proved and {min(tried, edits)} of {edits} edits tried"
         text += f", besides {len(kept)} crates that an earlier run kept" if kept else ""
         if not done:
             return f"{text}: too little to say how long it takes"
         share = min(0.99, done / whole)
-        rest = seconds / 60 * (1 - share) / share
-        return f"{text}, {share * 100:.0f} % of the work: some {rest:.0f} more minutes"
+        return f"{text}, {share * 100:.0f} % of the work: some {seconds / 60 * (1 - share) / share:.0f} more minutes"
 
 
 def tell(root: int) -> int:
@@ -266,29 +203,36 @@ def tell(root: int) -> int:
 # ---- a run
 
 
+def note(log: Optional[str], seen: Seen) -> None:
+    """Writes the looks into the file, if there is one."""
+    if log:
+        new = pathlib.Path(f"{log}.new")
+        new.write_text("".join(f"{crate} {kind} {seconds:.2f}\n" for crate, kind, seconds in seen.values()))
+        new.replace(log)
+
+
 def run(words: List[str], log: Optional[str]) -> int:
-    began, before = time.monotonic(), resource.getrusage(resource.RUSAGE_CHILDREN)
-    started = subprocess.Popen(words)
-    ended = threading.Event()
+    """Runs a command, and prints what it took."""
+    began, before, noted = time.monotonic(), resource.getrusage(resource.RUSAGE_CHILDREN), 0.0
     seen: Seen = {}
-    watching = threading.Thread(target=watch, args=(started.pid, ended, seen, log))
-    watching.start()
-    while True:
-        try:
-            status = started.wait()
+    started = subprocess.Popen(words)
+    while started.returncode is None:
+        # (an interrupt comes to the command as well, which is waited for)
+        with contextlib.suppress(subprocess.TimeoutExpired, KeyboardInterrupt):
+            started.wait(LOOK_SECONDS)
             break
-        except KeyboardInterrupt:
-            # the command has it too, and is waited for
-            pass
-    ended.set()
-    watching.join()
-    after, clock = resource.getrusage(resource.RUSAGE_CHILDREN), time.monotonic() - began
+        with contextlib.suppress(KeyboardInterrupt):
+            look(started.pid, seen)
+            if time.monotonic() - began - noted >= LOG_SECONDS:
+                noted = time.monotonic() - began
+                note(log, seen)
+    status, after, clock = started.returncode, resource.getrusage(resource.RUSAGE_CHILDREN), time.monotonic() - began
     user, system = after.ru_utime - before.ru_utime, after.ru_stime - before.ru_stime
     note(log, seen)
     sys.stdout.flush()
     print(f"\n`{' '.join(words)}` ended with status {status}, on {len(os.sched_getaffinity(0))} processors:")
     print(f"{(user + system) / 60:.1f} processor minutes ({user / 60:.1f} of them user), {clock / 60:.1f} minutes of the clock\n")
-    table(seen.values())
+    table(list(seen.values()))
     return status if status >= 0 else 128 - status
 
 
@@ -302,8 +246,8 @@ def main(words: List[str], here: str) -> int:
     if words[:1] == ["--tell"] and len(words) == 2:
         return tell(int(words[1]))
     if words[:1] == ["--times"]:
-        with open(os.path.join(here, words[1])) as it:
-            table([(crate, kind, float(seconds)) for crate, kind, seconds in map(str.split, it)])
+        lines = map(str.split, pathlib.Path(here, words[1]).read_text().splitlines())
+        table([(crate, kind, float(seconds)) for crate, kind, seconds in lines])
         return 0
     return run(["rt", "ci", *words] if words in ([], ["--anew"]) else words, log)
 
