@@ -4,3 +4,5 @@ pub mod Back
 pub mod Total
 pub mod Stays
 pub mod Settled
+pub mod Reach
+pub mod Example

@@ -7,3 +7,4 @@ pub mod Body
 pub mod Alive
 pub mod Known
 pub mod Stays
+pub mod Reach
